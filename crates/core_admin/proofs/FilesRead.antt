@@ -71,21 +71,21 @@ module _ (s : Store) (lane moment : ℕ) (text : List ℕ) (catalogue : List Lis
   pub files_refused : (r : Refusal) → named_kept text catalogue ≡ Err r → outcome s lane moment (FilesOf text) ≡ Err r
   files_refused r is = step_is s lane moment text ∙ by_name (key_of text) (sym (named_by text catalogue) ∙ is)
     where
-      by_kept : (o : Option Snapshot) → or_else NoSnapshot (option_map shown_snapshot o) ≡ Err r → files_of s o ≡ Err r
-      by_kept None e = let same : NoSnapshot ≡ r = cc in ap (λ x. Err x) same
-      by_kept (Some x) e = cc
+      from_state : (o : Option Snapshot) → or_else NoSnapshot (option_map shown_snapshot o) ≡ Err r → files_of s o ≡ Err r
+      from_state None e = let same : NoSnapshot ≡ r = cc in ap (λ x. Err x) same
+      from_state (Some x) e = cc
 
       by_name : (o : Option SnapshotKey) → kept_by catalogue o ≡ Err r → named_files s o ≡ Err r
       by_name None e = let same : BadName ≡ r = cc in ap (λ x. Err x) same
-      by_name (Some key) e = by_kept (snapshot_named key s.snapshots) (sym (ap (or_else NoSnapshot) (kept_is catalogue s.snapshots key shown)) ∙ e)
+      by_name (Some key) e = from_state (snapshot_named key s.snapshots) (sym (ap (or_else NoSnapshot) (kept_is catalogue s.snapshots key shown)) ∙ e)
 
   pub files_read : (m : Content) (k : Kept) → All IsSnapshot s.snapshots → All (HoldsFiles m) s.snapshots → named_kept text catalogue ≡ Ok k → HasBytes m (manifest_path k.key)
       → outcome s lane moment (FilesOf text) ≡ (rows_read m k >>= λ rows. tells s (Files rows))
   files_read m k each held is are = step_is s lane moment text ∙ by_name (key_of text) (sym (named_by text catalogue) ∙ is)
     where
-      by_kept : (key : SnapshotKey) (o : Option Snapshot) → snapshot_named key s.snapshots ≡ o → or_else NoSnapshot (option_map shown_snapshot o) ≡ Ok k → files_of s o ≡ (rows_read m k >>= λ rows. tells s (Files rows))
-      by_kept key None at e = cc
-      by_kept key (Some x) at e =
+      from_state : (key : SnapshotKey) (o : Option Snapshot) → snapshot_named key s.snapshots ≡ o → or_else NoSnapshot (option_map shown_snapshot o) ≡ Ok k → files_of s o ≡ (rows_read m k >>= λ rows. tells s (Files rows))
+      from_state key None at e = cc
+      from_state key (Some x) at e =
           let same : shown_snapshot x ≡ k = cc in
           let path : x.key ≡ k.key = ap (λ (k : Kept). k.key) same in
           ap (λ r. r >>= λ rows. tells s (Files rows))
@@ -95,4 +95,4 @@ module _ (s : Store) (lane moment : ℕ) (text : List ℕ) (catalogue : List Lis
 
       by_name : (o : Option SnapshotKey) → kept_by catalogue o ≡ Ok k → named_files s o ≡ (rows_read m k >>= λ rows. tells s (Files rows))
       by_name None e = cc
-      by_name (Some key) e = by_kept key (snapshot_named key s.snapshots) refl (sym (ap (or_else NoSnapshot) (kept_is catalogue s.snapshots key shown)) ∙ e)
+      by_name (Some key) e = from_state key (snapshot_named key s.snapshots) refl (sym (ap (or_else NoSnapshot) (kept_is catalogue s.snapshots key shown)) ∙ e)

@@ -32,7 +32,7 @@ use Rattle.core_state.proofs.Unreadables.{tells_other, tells_failed, tells_read}
 use Rattle.core_admin.specs.FilesTold.{AnswersFiles, AnswersOf, HasBytes, IfTold, TellsFiles, asked_at, asked_files, asked_of, rows_in, rows_read, files_told}
 use Rattle.core_state.specs.Found.{named_kept}
 use Rattle.core_admin.proofs.FilesRead.{files_read}
-use Rattle.core_state.proofs.ByKept.{Stops, stopped}
+use Rattle.core_state.proofs.FromState.{Stops, stopped}
 use Rattle.core_admin.proofs.Told.{tells}
 
 -- ---- what is told

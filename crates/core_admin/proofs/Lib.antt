@@ -11,4 +11,3 @@ pub mod ForgetLemmas
 pub mod ListingRead
 pub mod FilesRead
 pub mod FilesTelling
-pub mod ActLemmas

@@ -19,7 +19,7 @@ use Rattle.core_state.specs.declared.stop.Stop.TheVariants.{Refused, NoMemory, D
 use Rattle.core_state.proofs.Commanding.{refused_does, refused_leaves, same_kept, short_does, short_leaves}
 use Rattle.core_state.proofs.Texts.{bad_name_has_text}
 use Rattle.core_admin.specs.Listings.{IsNamesStop, list_told}
-use Rattle.core_state.proofs.ByKept.{Stops, stopped}
+use Rattle.core_state.proofs.FromState.{Stops, stopped}
 use Rattle.core_admin.proofs.Told.{list_refused, list_refuses}
 
 module _ {D : Type 0} (d : Ghosts D) (parts : Parts D) (at : Place) (text : List ℕ) where

@@ -96,10 +96,10 @@ abbrev takes_out : Store → SnapshotKey → Outcome
 takes_out s key = Ok (forgot s key, Done)
 
 module _ (s : Store) (lane moment : ℕ) (text : List ℕ) (catalogue : List Listed) (locks : Locks) (shown : map (λ x. x.kept) catalogue ≡ map shown_snapshot s.snapshots) (locked : Locked locks s) where
-  by_kept : (key : SnapshotKey) (o : Option Snapshot) → kept_named key catalogue ≡ option_map shown_snapshot o
+  from_state : (key : SnapshotKey) (o : Option Snapshot) → kept_named key catalogue ≡ option_map shown_snapshot o
       → ((or_else NoSnapshot o >>= λ _. if_none SnapshotBusy (snapshot_holder s key)) >>= λ _. takes_out s key) ≡ (found text catalogue locks key (kept_named key catalogue) >>= takes_out s)
-  by_kept key None is = sym (ap (λ o. found text catalogue locks key o >>= takes_out s) is)
-  by_kept key (Some x) is =
+  from_state key None is = sym (ap (λ o. found text catalogue locks key o >>= takes_out s) is)
+  from_state key (Some x) is =
       by_holder (snapshot_holder s key)
       ∙ sym (ap (λ o. found text catalogue locks key o >>= takes_out s) is ∙ ap (λ h. freed text catalogue locks key h >>= takes_out s) (holder_is locks s key locked))
     where
@@ -110,7 +110,7 @@ module _ (s : Store) (lane moment : ℕ) (text : List ℕ) (catalogue : List Lis
   by_name : (o : Option SnapshotKey) → (or_else BadName o >>= λ key. want_free s key >>= λ _. takes_out s key) ≡ (named text catalogue locks o >>= takes_out s)
   unfolding want_free
   by_name None = refl
-  by_name (Some key) = by_kept key (snapshot_named key s.snapshots) (kept_is catalogue s.snapshots key shown)
+  by_name (Some key) = from_state key (snapshot_named key s.snapshots) (kept_is catalogue s.snapshots key shown)
 
   pub forget_is : (x : Session) → x ≡ shown_session s.snapshots (session s lane) → outcome s lane moment (Forget text) ≡ (to_forget text x catalogue locks >>= takes_out s)
   unfolding outcome forget

@@ -1,8 +1,8 @@
--- The acts on the store as a whole, and what they ask for.
+-- What the acts on the store as a whole ask for, and the first step of a PRUNE.
 use Rattle.std.specs.Prelude.{ℕ, Bool, List, Option, None, Result}
 use Rattle.disk_trait.specs.declared.disk.Disk.{Ghosts}
 use Rattle.store_types.specs.declared.names.Keep.{Keep}
-use Rattle.wire_commands.specs.declared.command.Command.TheVariants.{List as ListAll, Files, Forget, Prune, Group}
+use Rattle.wire_commands.specs.declared.command.Command.TheVariants.{Files, Prune}
 use Rattle.wire_commands.specs.declared.reply.Reply.{Reply}
 use Rattle.store_history.specs.declared.act.Act.{Act}
 use Rattle.store_history.specs.declared.act.Act.TheVariants.{Plain, JobGroup}
@@ -14,14 +14,6 @@ use Rattle.core_state.specs.Commands.{ActDoes, ActLeaves}
 use Rattle.core_state.specs.Unreadables.{Asked}
 use Rattle.core_admin.specs.AnsweredBy.{ActAnswersBy}
 use Rattle.core_admin.specs.FilesTold.{asked_files}
-
-abbrev pub IsAdmins : Act → Type 0
-IsAdmins (Plain (ListAll after)) = Unit {0}
-IsAdmins (Plain (Files snapshot)) = Unit {0}
-IsAdmins (Plain (Forget snapshot)) = Unit {0}
-IsAdmins (Plain (Group group)) = Unit {0}
-IsAdmins (JobGroup (Prune group keep dry)) = Unit {0}
-IsAdmins _ = ⊥
 
 -- the file that an act asks for: the manifest of the snapshot whose files it tells, or the file that makes it damaged
 abbrev pub asked_of_admin : Act → List Listed → Option Asked

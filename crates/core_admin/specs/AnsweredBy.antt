@@ -1,6 +1,7 @@
 -- What an act's own tests answer by what the core keeps, on any disk; and FILES by what stands on an honest one.
 use Rattle.disk_trait.specs.declared.disk.Disk.{Ghosts}
 use Rattle.std.specs.Prelude.{◌≡◌, ℕ, List, Result, IfOk, IfSome}
+use Rattle.store_types.specs.declared.order.TheConstants.{COMMAND_KIND}
 use Rattle.lock_book.specs.Locks.{Locks}
 use Rattle.wire_commands.specs.declared.command.Command.TheVariants.{List as ListAll, Files as FilesOf, Forget, Prune, Group}
 use Rattle.wire_commands.specs.declared.reply.Reply.{Reply}
@@ -38,4 +39,4 @@ ActAnswersBy d old at act result = IfOk (told result) (AnswersBy d old.disk act 
 -- the core answers so an act that was done
 abbrev pub CoreAnswersBy : {D E C : Type 0} → Ghosts D → Core D E C → ℕ → Act → Answer → Type 0
 CoreAnswersBy d old lane act answer =
-    (answer.entry).kind ≡ 0 → IfSome answer.reply (AnswersBy d (old.parts).disk act (session_at old.parts lane) (old.parts).catalogue.items (old.parts).locks)
+    (answer.entry).kind ≡ COMMAND_KIND → IfSome answer.reply (AnswersBy d (old.parts).disk act (session_at old.parts lane) (old.parts).catalogue.items (old.parts).locks)

@@ -1,18 +1,19 @@
 //! An act on the store as a whole.
 
-ghost use Rattle.std.specs.Prelude.{◌<◌};
+ghost use Rattle.std.specs.Prelude.{◌≡◌, ◌<◌};
+ghost use Rattle.store_history.specs.Acts.{IsWellFormed, family_of};
 ghost use Rattle.core_state.specs.Applies.{ActApplies, ActKeeps};
 ghost use Rattle.core_state.specs.Commands.{ActDoes, ActLeaves};
 ghost use Rattle.core_state.specs.Reserved.{HasRoom};
 ghost use Rattle.core_state.specs.Unreadables.{ActUnreadable, CoreUnreadable};
-ghost use Rattle.core_admin.specs.AdminActs.{IsAdmins, asked_of_admin};
+ghost use Rattle.core_admin.specs.AdminActs.{asked_of_admin};
 ghost use Rattle.core_admin.specs.AnsweredBy.{ActAnswersBy, CoreAnswersBy};
 
 use crate::file_list::files;
 use crate::forgetting::forget;
 use crate::groups::{group, prune_group};
 use crate::listing::list;
-use core_state::{Act, Admitted, Answer, Core, Parts, Place, Stop, begin, settle};
+use core_state::{Act, Admitted, Answer, Core, Family, Parts, Place, Stop, begin, settle};
 use disk_trait::Disk;
 use port_traits::Clock;
 use std::alloc::Global;
@@ -20,10 +21,11 @@ use wire_commands::{Command, Reply};
 
 fn perform<D: Disk>(parts: &mut Parts<D>, alloc: Global, at: Place, act: Act) -> Result<Reply, Stop>
     requires lane { at.lane < 64 }
-    requires kind { IsAdmins act }
+    requires kind { family_of act ≡ Family.Manages }
+    requires formed { IsWellFormed act }
     ensures does { ActDoes D.Disk parts.old parts.new at act result }
     ensures leaves { ActLeaves D.Disk parts.old parts.new at act result }
-    ensures by_kept { ActAnswersBy D.Disk parts.old at act result }
+    ensures from_state { ActAnswersBy D.Disk parts.old at act result }
     ensures unreadable { ActUnreadable D.Disk (λ _. asked_of_admin act) parts.old at result }
 {
     match act {
@@ -51,11 +53,12 @@ pub fn admin_act<D: Disk, E, C: Clock>(
 ) -> Answer
     requires lane { lane < 64 }
     requires room { HasRoom core.old lane }
-    requires kind { IsAdmins act }
+    requires kind { family_of act ≡ Family.Manages }
+    requires formed { IsWellFormed act }
     ensures applies { ActApplies D.Disk C.Clock core.old core.new lane act result }
     ensures keeps { ActKeeps D.Disk core.old core.new lane act result }
     // on any disk its own tests answer what the core keeps; FILES, on an honest one, what stands there
-    ensures by_kept { CoreAnswersBy D.Disk core.old lane act result }
+    ensures from_state { CoreAnswersBy D.Disk core.old lane act result }
     // a manifest is unreadable exactly where it is, as far as the disk tells
     ensures unreadable { CoreUnreadable D.Disk (λ _. asked_of_admin act) core.old lane result }
 {

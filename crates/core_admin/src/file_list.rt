@@ -174,7 +174,7 @@ pub fn files<D: Disk>(
     ensures leaves { PlainLeaves D.Disk parts.old parts.new _at (Files snapshot.now) result }
     // on any disk, where there is such a snapshot: the file that makes it damaged, exactly where one does; else rows, or
     // that the manifest is unreadable. On an honest disk, whatever it holds, just what the manifest there lists, or that
-    ensures by_kept { ActAnswersBy D.Disk parts.old _at (Plain (Files snapshot.now)) result }
+    ensures from_state { ActAnswersBy D.Disk parts.old _at (Plain (Files snapshot.now)) result }
     // it is unreadable exactly where it is, as far as the disk tells
     ensures unreadable { ActUnreadable D.Disk (λ _. asked_files snapshot.now) parts.old _at result }
 {

@@ -50,7 +50,7 @@ pub fn forget<D: Disk>(
     ensures does { PlainDoes D.Disk parts.old parts.new at (Forget snapshot.now) result }
     ensures leaves { PlainLeaves D.Disk parts.old parts.new at (Forget snapshot.now) result }
     // on any disk
-    ensures by_kept { ActAnswersBy D.Disk parts.old at (Plain (Forget snapshot.now)) result }
+    ensures from_state { ActAnswersBy D.Disk parts.old at (Plain (Forget snapshot.now)) result }
 {
     parts.idle(at.lane)?;
     let Ok(key) = SnapshotKey::parse(alloc, snapshot)? else {

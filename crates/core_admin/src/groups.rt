@@ -53,7 +53,7 @@ pub fn group<D: Disk>(
     ensures does { PlainDoes D.Disk parts.now parts.now _at (Group name.now) result }
     ensures leaves { PlainLeaves D.Disk parts.now parts.now _at (Group name.now) result }
     // on any disk
-    ensures by_kept { ActAnswersBy D.Disk parts.now _at (Plain (Group name.now)) result }
+    ensures from_state { ActAnswersBy D.Disk parts.now _at (Plain (Group name.now)) result }
 {
     let Ok(group) = GroupKey::parse(alloc, name)? else {
         return Err(Stop::Refused(Refusal::BadName));
@@ -90,7 +90,7 @@ pub fn prune_group<D: Disk>(
     ensures does { PruneDoes D.Disk parts.now at name.now keep.now _dry result }
     ensures leaves { PruneLeaves D.Disk parts.now at name.now keep.now _dry result }
     // on any disk
-    ensures by_kept { PruneAnswersBy D.Disk parts.now at name.now keep.now _dry result }
+    ensures from_state { PruneAnswersBy D.Disk parts.now at name.now keep.now _dry result }
 {
     parts.idle(at.lane)?;
     let Ok(group) = GroupKey::parse(alloc, name)? else {

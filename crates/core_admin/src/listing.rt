@@ -103,7 +103,7 @@ pub fn list<D: Disk>(
     ensures does { PlainDoes D.Disk parts.now parts.now _at (ListAll after.now) result }
     ensures leaves { PlainLeaves D.Disk parts.now parts.now _at (ListAll after.now) result }
     // on any disk
-    ensures by_kept { ActAnswersBy D.Disk parts.now _at (Plain (ListAll after.now)) result }
+    ensures from_state { ActAnswersBy D.Disk parts.now _at (Plain (ListAll after.now)) result }
 {
     let after = key_after(alloc, after)?;
     let rows = rows_behind(alloc, &parts.catalogue, after.as_ref())?;

@@ -4,12 +4,16 @@ use Rattle.std.proofs.Common.{◌≡◌, ℕ, Bool, true, false, List, Option, S
 use Rattle.std.specs.Prelude.{IsSomeAnd, option_map}
 use Rattle.store_types.specs.declared.refusal.Refusal.{Refusal}
 use Rattle.store_types.specs.declared.refusal.Refusal.TheVariants as refusals
+use Rattle.store_types.specs.declared.order.TheConstants.{COMMAND_KIND, STOP_KIND}
 use Rattle.store_files.specs.Book.{Book}
 use Rattle.wire_commands.specs.declared.reply.Reply.{Reply}
 use Rattle.wire_commands.specs.declared.reply.Reply.TheVariants as replies
 use Rattle.store_history.specs.declared.act.Act.{Act}
 use Rattle.store_history.specs.declared.act.Act.TheVariants.{Start, Step}
+use Rattle.store_history.specs.declared.act.Family.TheVariants.{Collects}
 use Rattle.store_history.specs.declared.act.Answer.{Answer}
+use Rattle.store_history.specs.Acts.{family_of}
+use Rattle.store_history.proofs.Families.{by_collector}
 use Rattle.core_state.specs.declared.collector.Collector.{Collector}
 use Rattle.core_state.specs.declared.collector.Early.{Early}
 use Rattle.core_state.specs.declared.state.Core.{Core}
@@ -18,7 +22,7 @@ use Rattle.core_state.specs.Collectors.{is_cut, is_on, refusal_of as early_refus
 use Rattle.core_state.specs.Replies.{may_answer}
 use Rattle.core_state.specs.Unreadables.{Asked, TellsUnreadable, known, part_read}
 use Rattle.core_state.specs.Wanted.{session_at}
-use Rattle.core_collect.specs.Acts.{CollectUnreadable, IsCollectors, asked_by, asked_of_collector, refusal_of}
+use Rattle.core_collect.specs.Acts.{CollectUnreadable, asked_by, asked_of_collector, refusal_of}
 use Rattle.core_collect.specs.Ending.{early_in}
 use Rattle.core_collect.specs.Starting.{StartTells}
 use Rattle.core_collect.specs.Passing.{EndsWhole}
@@ -55,7 +59,7 @@ asked_is r a is = absurd (none_some a is)
 module _ {D : Type 0} (d : Ghosts D) (disk : D) where
   pub tells_known : (asked : Option Asked) (kind : ℕ) (reply : Option Reply)
       → ((name : List ℕ) → reply ≡ Some (replies.Refused (refusals.Unreadable name)) → asked ≡ Some (asked_as name))
-      → ((a : Asked) → kind ≡ 0 → asked ≡ Some a → (a ≡ asked_as a.path) × (reply ≡ Some (replies.Refused (refusals.Unreadable a.path)))) → TellsUnreadable d disk asked kind reply
+      → ((a : Asked) → kind ≡ COMMAND_KIND → asked ≡ Some a → (a ≡ asked_as a.path) × (reply ≡ Some (replies.Refused (refusals.Unreadable a.path)))) → TellsUnreadable d disk asked kind reply
   tells_known asked kind reply told missed = record {
     named = λ name is. ap (option_map (λ a. a.path)) (told name is);
     cause = λ name a is at honest. by_asked name a (some_same (asked_as name) a (sym (told name is) ∙ at));
@@ -70,7 +74,7 @@ module _ {D : Type 0} (d : Ghosts D) (disk : D) where
       same_path p q e = cc
 
 -- no act's tests but a START's
-as_any_kind : {D E C : Type 0} (d : Ghosts D) (old new : Core D E C) (answer : Answer) (name : List ℕ) → HasCause d old new Start answer → answer.reply ≡ Some (replies.Refused (refusals.Unreadable name)) → (answer.entry).kind ≡ 0
+as_any_kind : {D E C : Type 0} (d : Ghosts D) (old new : Core D E C) (answer : Answer) (name : List ℕ) → HasCause d old new Start answer → answer.reply ≡ Some (replies.Refused (refusals.Unreadable name)) → (answer.entry).kind ≡ COMMAND_KIND
 as_any_kind d old new answer name (done before zero reply told may) is = zero
 as_any_kind d old new answer name (short two told) is = absurd (apart (sym told ∙ is))
   where
@@ -85,7 +89,7 @@ as_any_kind d old new answer name (halted place before five told) is = absurd (a
     apart : Some (replies.Refused (refusals.Halted place)) ≡ Some (replies.Refused (refusals.Unreadable name)) → ⊥
     apart e = cc
 
-start_kind : {D E C : Type 0} (d : Ghosts D) (old new : Core D E C) (answer : Answer) (name : List ℕ) → StartHasCause d old new Start answer → answer.reply ≡ Some (replies.Refused (refusals.Unreadable name)) → (answer.entry).kind ≡ 0
+start_kind : {D E C : Type 0} (d : Ghosts D) (old new : Core D E C) (answer : Answer) (name : List ℕ) → StartHasCause d old new Start answer → answer.reply ≡ Some (replies.Refused (refusals.Unreadable name)) → (answer.entry).kind ≡ COMMAND_KIND
 start_kind d old new answer name (start_opens before three told) is = absurd (untold (refusals.Unreadable name) (sym told ∙ is))
 start_kind d old new answer name (start_as_any cause) is = as_any_kind d old new answer name cause is
 
@@ -122,7 +126,7 @@ step_any d old new answer name (halted place before five told) is = apart (sym t
     apart e = cc
 
 -- it is the end of a collector
-step_kind : {D E C : Type 0} (d : Ghosts D) (old new : Core D E C) (answer : Answer) (name : List ℕ) → StepHasCause d old new Step answer → answer.reply ≡ Some (replies.Refused (refusals.Unreadable name)) → (answer.entry).kind ≡ 4
+step_kind : {D E C : Type 0} (d : Ghosts D) (old new : Core D E C) (answer : Answer) (name : List ℕ) → StepHasCause d old new Step answer → answer.reply ≡ Some (replies.Refused (refusals.Unreadable name)) → (answer.entry).kind ≡ STOP_KIND
 step_kind d old new answer name (step_passes before one told) is = absurd (untold (refusals.Unreadable name) (sym told ∙ is))
 step_kind d old new answer name (step_ends before four reply told may) is = four
 step_kind d old new answer name (step_as_any cause) is = absurd (step_any d old new answer name cause is)
@@ -156,7 +160,5 @@ step_unreadable d old new lane answer cause tells =
         (subst (λ r. IsSomeAnd old.collector (λ c. EndsWhole (old.upkeep).book c r)) is (tells.reports uncut (step_kind d old new answer name cause is))))
 
 -- a collector has no other act
-pub neither : (act : Act) → IsCollectors act → (act ≡ Start → ⊥) → (act ≡ Step → ⊥) → ⊥
-neither Start is other none = other refl
-neither Step is other none = none refl
-neither act is other none = is
+pub neither : (act : Act) → family_of act ≡ Collects → (act ≡ Start → ⊥) → (act ≡ Step → ⊥) → ⊥
+neither = by_collector (λ act. (act ≡ Start → ⊥) → (act ≡ Step → ⊥) → ⊥) (λ other none. other refl) (λ other none. none refl)

@@ -27,7 +27,7 @@ use Rattle.core_state.specs.Sweeps.{AreEntries, FitsRemoved, HasEntries, HasNumb
 use Rattle.core_state.specs.Unchanged.{SameKept}
 use Rattle.core_state.proofs.Acting.{holds_same}
 use Rattle.core_state.proofs.Finding.{some_same}
-use Rattle.core_collect.specs.Marking.{FindsAfter, FindsNext, GoesFurther, IsSettled, IfUnreadable, PassesNext, PassesOver, Reads, SettlesNext, ShowsStill, Standing, StandsAt, at_hand_after, bytes_of, digests_read, indexes_left, marked_next, next_unreadable, passed_by, passed_over, path_at, standing, standing_as, standing_at, unless_passed, unreadable_in}
+use Rattle.core_collect.specs.Marking.{FindsAfter, FindsNext, GoesFurther, IsSettled, IfUnreadable, MayPass, PassesNext, PassesOver, Reads, SettlesNext, ShowsStill, Standing, StandsAt, at_hand_after, bytes_of, digests_read, indexes_left, marked_next, next_unreadable, passed_by, passed_over, path_at, standing, standing_as, standing_at, unless_passed, unreadable_in}
 use Rattle.core_collect.specs.declared.marking.Unread.{Unread}
 use Rattle.core_collect.specs.declared.marking.Unread.TheVariants.{DiskFailed, NoMemory, Unreadable}
 use Rattle.core_collect.proofs.ReadLemmas.{index_digests, no_digests}
@@ -80,15 +80,12 @@ bytes_some : (entries : List Digest32) → (entries ≡ [] → ⊥) → map (λ 
 bytes_some [] some e = some refl
 bytes_some (d ∷ ds) some e = cc
 
-bytes_none : (entries : List Digest32) → entries ≡ [] → map (λ (d : Digest32). d.0) entries ≡ []
-bytes_none entries none = ap (map (λ (d : Digest32). d.0)) none
-
 kept_there : (i : IndexAt) (catalogue : List Listed) (path : List ℕ) → path_at i catalogue ≡ Some path → (k : Kept) × (kept_at i.snapshot catalogue ≡ Some k)
-kept_there i catalogue path found = by_kept (kept_at i.snapshot catalogue) refl found
+kept_there i catalogue path found = from_state (kept_at i.snapshot catalogue) refl found
   where
-    by_kept : (o : Option Kept) → kept_at i.snapshot catalogue ≡ o → path_of_kept i.name o ≡ Some path → (k : Kept) × (kept_at i.snapshot catalogue ≡ Some k)
-    by_kept None at e = absurd (none_some path e)
-    by_kept (Some k) at e = (k, at)
+    from_state : (o : Option Kept) → kept_at i.snapshot catalogue ≡ o → path_of_kept i.name o ≡ Some path → (k : Kept) × (kept_at i.snapshot catalogue ≡ Some k)
+    from_state None at e = absurd (none_some path e)
+    from_state (Some k) at e = (k, at)
 
 pub further_same : (c : Collector) → GoesFurther c c
 further_same c = record { lane = refl; ended = refl; start = refl; cutoff = refl; indexes = refl; over = λ going. going; not_more = le_refl (left_of c.plan) }
@@ -126,8 +123,9 @@ module _ {D : Type 0} (d : Ghosts D) (parts : Parts D) where
 
   -- it is passed over
   passed_settles : (old new : Collector) (i : IndexAt) → next_index old.plan ≡ Some i → PassesOver old new → (d.honest parts.disk → standing m catalogue old.entries.items i ≡ passed_over)
+      → (path_at i catalogue ≡ None) ⊎ (old.entries.items ≡ [])
       → ((s : Store) → Holds d parts s → (k : Kept) → kept_at i.snapshot catalogue ≡ Some k → digests_named k.key i.name s.snapshots ≡ []) → SettlesNext d parts old new (Ok false)
-  passed_settles old new i at over stands empty = record {
+  passed_settles old new i at over stands may empty = record {
     further = record {
       lane = over.lane;
       ended = over.ended;
@@ -139,7 +137,11 @@ module _ {D : Type 0} (d : Ghosts D) (parts : Parts D) where
     };
     shows = λ acts s sweep holds h. (passed_shows catalogue s.snapshots acts old new sweep i over at (empty s holds) h, tt);
     at_hand = λ e. absurd (false_true e);
-    passes = λ _ _. (over, λ honest j there. subst (λ k. standing m catalogue old.entries.items k ≡ passed_over) (some_same i j (sym at ∙ there)) (stands honest));
+    passes = λ _ _. (
+      over,
+      (λ honest j there. subst (λ k. standing m catalogue old.entries.items k ≡ passed_over) (some_same i j (sym at ∙ there)) (stands honest)),
+      λ j there. subst (λ k. (path_at k catalogue ≡ None) ⊎ (old.entries.items ≡ [])) (some_same i j (sym at ∙ there)) may,
+    );
     found = λ e. absurd (false_true e);
     unread = λ honest.
         next_is old i at
@@ -150,7 +152,7 @@ module _ {D : Type 0} (d : Ghosts D) (parts : Parts D) where
   -- its snapshot was forgotten
   pub gone_settles : (old new : Collector) (i : IndexAt) → next_index old.plan ≡ Some i → path_at i catalogue ≡ None → PassesOver old new → SettlesNext d parts old new (Ok false)
   gone_settles old new i at missing over =
-      passed_settles old new i at over (λ honest. ap (standing_at m (is_fixed_name i.name) old.entries.items) missing)
+      passed_settles old new i at over (λ honest. ap (standing_at m (is_fixed_name i.name) old.entries.items) missing) (inl missing)
       (λ s holds k kept. no_digests catalogue s.snapshots (holds.shows).catalogue ((holds.shows).sound).order i k kept missing)
 
   -- of a plain store it is read as its digests
@@ -169,7 +171,7 @@ module _ {D : Type 0} (d : Ghosts D) (parts : Parts D) where
   pub empty_settles : (old new : Collector) (i : IndexAt) (path : List ℕ) → next_index old.plan ≡ Some i → path_at i catalogue ≡ Some path → old.entries.items ≡ []
       → (d.honest parts.disk → digests_read m path (is_fixed_name i.name) ≡ Ok []) → PassesOver old new → SettlesNext d parts old new (Ok false)
   empty_settles old new i path at found none read over =
-      passed_settles old new i at over (λ honest. read_standing old i path (Ok []) found none (read honest))
+      passed_settles old new i at over (λ honest. read_standing old i path (Ok []) found none (read honest)) (inr none)
       (λ s holds k kept. ok_same (digests_named k.key i.name s.snapshots) [] (sym (is_read old i path s at found holds k kept) ∙ read holds.honest))
 
   -- ---- it is to be marked
@@ -219,6 +221,7 @@ module _ {D : Type 0} (d : Ghosts D) (parts : Parts D) where
       lane = lane;
       plan = plan;
       skipped = λ honest n below. absurd (omega (arith, below));
+      let_go = λ more. absurd (omega (arith, more));
       had = kept;
       read = λ honest j there. subst (λ k. standing m catalogue old.entries.items k ≡ marked_next (bytes_of new.entries)) (some_same i j (sym at ∙ there)) (stands honest);
     };
@@ -297,6 +300,7 @@ pub record HasPassed {D : Type 0} (d : Ghosts D) (parts now : Parts D) (old c : 
   pub plan : c.plan ≡ passed_by passed old.plan
   pub entries : c.entries.items ≡ at_hand_after passed old.entries.items
   pub skipped : d.honest parts.disk → (n : ℕ) → n < passed → StandsAt (d.content parts.disk) parts.catalogue.items old n passed_over
+  pub let_go : 0 < passed → MayPass parts.catalogue.items old
   pub unread : d.honest parts.disk → next_unreadable (d.content parts.disk) parts.catalogue.items old ≡ next_unreadable (d.content parts.disk) parts.catalogue.items c
 
 module _ {D : Type 0} (d : Ghosts D) (parts now : Parts D) (old c : Collector) (h : HasPassed d parts now old c) where
@@ -340,6 +344,7 @@ module _ {D : Type 0} (d : Ghosts D) (parts now : Parts D) (old c : Collector) (
     lane = found.lane ∙ (h.further).lane;
     plan = found.plan ∙ h.plan;
     skipped = h.skipped;
+    let_go = h.let_go;
     had = λ some. found.had (λ none. some (sym h.entries ∙ none)) ∙ h.entries;
     read = λ honest. stands_as (marked_next (bytes_of e.entries)) honest (found.read (honest_now honest));
   }
@@ -349,9 +354,16 @@ module _ {D : Type 0} (d : Ghosts D) (parts now : Parts D) (old c : Collector) (
       ⊎_elim {C = StandsAt (d.content parts.disk) parts.catalogue.items old n passed_over} (λ (less : n < h.passed). h.skipped honest n less)
       (λ (same : n ≡ h.passed). subst (λ k. StandsAt (d.content parts.disk) parts.catalogue.items old k passed_over) (sym same) (stands_as passed_over honest stands)) (at_most n h.passed below)
 
+  -- the digests at hand at first are let go with the first index
+  let_go_then : (n : ℕ) → h.passed ≡ n → MayPass now.catalogue.items c → MayPass parts.catalogue.items old
+  let_go_then zero none may i at =
+      subst (λ (es : List Digest32). (path_at i parts.catalogue.items ≡ None) ⊎ (es ≡ [])) (h.entries ∙ ap (λ k. at_hand_after k old.entries.items) none)
+      (subst (λ q. (path_at i q ≡ None) ⊎ (c.entries.items ≡ [])) (h.kept).catalogue (may i (ap next_index (h.plan ∙ ap (λ k. passed_by k old.plan) none) ∙ at)))
+  let_go_then (suc n) some may i at = h.let_go (omega (arith, some)) i at
+
   -- one more
   pub passed_then : (later : Parts D) (e : Collector) (failed : Type 0) → (failed → ⊥) → OnlyReads d now.disk later.disk failed → SameKept now later → SettlesNext d now c e (Ok false) → PassesNext d now c e → HasPassed d parts later old e
-  passed_then later e failed never reads kept settles (over, stands) = record {
+  passed_then later e failed never reads kept settles (over, stands, may) = record {
     reads = reads_then d parts.disk now.disk later.disk ⊥ failed ⊥ h.reads reads (λ no. absurd no);
     kept = record {
       catalogue = kept.catalogue ∙ (h.kept).catalogue;
@@ -364,6 +376,7 @@ module _ {D : Type 0} (d : Ghosts D) (parts now : Parts D) (old c : Collector) (
     plan = over.plan ∙ ap (λ (p : Plan). with_mark p 0 0) h.plan;
     entries = over.none;
     skipped = λ honest. skipped_then honest (stands (honest_now honest));
+    let_go = λ _. let_go_then h.passed refl may;
     unread = λ honest. h.unread honest ∙ sym (unread_as c honest) ∙ settles.unread (honest_now honest) ∙ unread_as e honest;
   }
 
@@ -382,6 +395,7 @@ module _ {D : Type 0} (d : Ghosts D) (parts now : Parts D) (old c : Collector) (
         lane = (h.further).lane;
         plan = h.plan;
         skipped = h.skipped;
+        let_go = h.let_go;
         had = λ _. h.entries;
         read = λ honest i at. absurd (none_is (sym (ap is_some none) ∙ mark_there (c.plan).indexes (c.plan).stage i (ap next_index h.plan ∙ at)));
       },
@@ -448,6 +462,7 @@ passed_none d parts c = record {
   plan = refl;
   entries = refl;
   skipped = λ honest n below. absurd (omega (arith, below));
+  let_go = λ more. absurd (omega (arith, more));
   unread = λ honest. refl;
 }
 

@@ -8,6 +8,7 @@ use Rattle.store_types.specs.declared.refusal.Refusal.{Refusal}
 use Rattle.store_types.specs.declared.refusal.Refusal.TheVariants as refusals
 use Rattle.store_types.specs.declared.refusal.Refusal.TheVariants.{CollectorBusy, DiskFault, Unreadable}
 use Rattle.store_types.specs.declared.refusal.SessionState.TheVariants as states
+use Rattle.store_types.specs.declared.order.TheConstants.{COMMAND_KIND, MEMORY_KIND, START_KIND, FAULT_KIND}
 use Rattle.store_files.specs.Archive.{Snapshot}
 use Rattle.store_files.specs.Folder.{IsDigest, chunk_name}
 use Rattle.store_model.specs.Store.{Store}
@@ -61,14 +62,14 @@ no_sweep e = cc
 
 -- ---- one event more
 
-opened_sweep : (R : Option (List Snapshot)) (w : World) (s : Swept) (answer : Answer) (calls : ℕ) → (answer.entry).kind ≡ 3
+opened_sweep : (R : Option (List Snapshot)) (w : World) (s : Swept) (answer : Answer) (calls : ℕ) → (answer.entry).kind ≡ START_KIND
     → (swept_after R w s (event_of Start answer calls)).sweep ≡ Some (new_sweep w.store (answer.entry).moment)
 unfolding swept_after after moved
 opened_sweep R w s answer calls is =
     let e = event_of Start answer calls in
     ap (λ n. while_open (moved R w (lane_of e) (moment e) Start (kind_of n)).collecting (swept_by w s e (class_of Start) (kind_of n))) is
 
-opened_store : (R : Option (List Snapshot)) (w : World) (answer : Answer) (calls : ℕ) → (answer.entry).kind ≡ 3 → (after R w (event_of Start answer calls)).store ≡ w.store
+opened_store : (R : Option (List Snapshot)) (w : World) (answer : Answer) (calls : ℕ) → (answer.entry).kind ≡ START_KIND → (after R w (event_of Start answer calls)).store ≡ w.store
 unfolding after moved
 opened_store R w answer calls is =
     let e = event_of Start answer calls in
@@ -83,7 +84,7 @@ dated_one false when last = refl
 
 -- the core's book and plan are those of the history with the start more
 module _ {D E C : Type 0} (d : Ghosts D) (clock : clocks.Ghosts C) (old new : Core D E C) (k : ℕ) (c : Collector) (answer : Answer) (keeps : ActKeeps d old new k Start answer)
-    (kind_is : (answer.entry).kind ≡ 3) (place : answer.place ≡ length (old.journal).entries.items) (entered : (new.journal).entries.items ≡ (old.journal).entries.items ++ answer.entry ∷ [])
+    (kind_is : (answer.entry).kind ≡ START_KIND) (place : answer.place ≡ length (old.journal).entries.items) (entered : (new.journal).entries.items ≡ (old.journal).entries.items ++ answer.entry ∷ [])
     (parts : new.parts ≡ old.parts) (fault : new.fault ≡ old.fault) (collector : new.collector ≡ Some c) (is_new : IsNewCollector old.parts k (answer.entry).moment c)
     (h : History) (s : StandsFor d clock.readings old h) (touches : KeepsTouches d old h) where
   abbrev e : Event
@@ -191,13 +192,13 @@ memory_apart e = cc
 
 pub refused_tells : {D E C : Type 0} (d : Ghosts D) (clock : clocks.Ghosts C) (old new : Core D E C) (k : ℕ) (answer : Answer) → Refuses d clock.readings old new k answer → StartTells old new k answer
 refused_tells d clock old new k answer (short is) =
-    let kind_is : (answer.entry).kind ≡ 2 = ap (λ x. x.kind) (is.entered).entry in record {
+    let kind_is : (answer.entry).kind ≡ MEMORY_KIND = ap (λ x. x.kind) (is.entered).entry in record {
       refused = λ zero. absurd (omega (arith, kind_is, zero));
       opens = λ three. absurd (omega (arith, kind_is, three));
       others = λ _. (is.entered).collector ∙ ap (collector_by 2 k) (is.begun).collector ∙ ap (λ n. collector_by n k old.collector) (sym kind_is);
     }
 refused_tells d clock old new k answer (halted is) =
-    let kind_is : (answer.entry).kind ≡ 5 = ap (λ x. x.kind) (is.entered).entry in record {
+    let kind_is : (answer.entry).kind ≡ FAULT_KIND = ap (λ x. x.kind) (is.entered).entry in record {
       refused = λ zero. absurd (omega (arith, kind_is, zero));
       opens = λ three. absurd (omega (arith, kind_is, three));
       others = λ _. (is.entered).collector ∙ ap (collector_by 5 k) (is.begun).collector ∙ ap (λ n. collector_by n k old.collector) (sym kind_is);
@@ -230,7 +231,7 @@ module _ {D E C : Type 0} (d : Ghosts D) (clock : clocks.Ghosts C) (old mid new 
     entered : IsEntered d (record mid { collector = Some c }) new k at.moment 3 None answer
     entered = subst (λ n. IsEntered d (record mid { collector = Some c }) new n at.moment 3 None answer) admitted.lane_is enters
 
-    kind_is : (answer.entry).kind ≡ 3
+    kind_is : (answer.entry).kind ≡ START_KIND
     kind_is = ap (λ x. x.kind) entered.entry
 
     moment_is : (answer.entry).moment ≡ at.moment
@@ -295,13 +296,13 @@ module _ {D E C : Type 0} (d : Ghosts D) (clock : clocks.Ghosts C) (old mid new 
 
   stopped_tells : (stop : Stop) → GivesCollector mid.parts mid.collector at (Err stop) → Settles d mid new k at.moment (told (Err stop)) answer → StartTells old new k answer
   stopped_tells (stops.Refused refusal) gives settles =
-      let kind_is : (answer.entry).kind ≡ 0 = ap (λ x. x.kind) settles.entry in record {
+      let kind_is : (answer.entry).kind ≡ COMMAND_KIND = ap (λ x. x.kind) settles.entry in record {
         refused = λ _. (refusal, settles.reply_is, sym told_old ∙ gives);
         opens = λ three. absurd (omega (arith, kind_is, three));
         others = λ _. by_kind 0 settles.collector kind_is;
       }
   stopped_tells stops.NoMemory gives settles =
-      let kind_is : (answer.entry).kind ≡ 2 = ap (λ x. x.kind) settles.entry in record {
+      let kind_is : (answer.entry).kind ≡ MEMORY_KIND = ap (λ x. x.kind) settles.entry in record {
         refused = λ zero. absurd (omega (arith, kind_is, zero));
         opens = λ three. absurd (omega (arith, kind_is, three));
         others = λ _. by_kind 2 settles.collector kind_is;

@@ -43,11 +43,11 @@ busy_in w = if_none (λ (x : Collecting). CollectorBusy x.lane) w
 
 busy_same : (c : Option Collector) (w : Option Collecting) → open_in c ≡ shown_collecting w → busy c ≡ busy_in w
 busy_same None None is = refl
-busy_same None (Some w) is = absurd (none_some (record { lane = w.lane; ended = ended_if w.is_short }) is)
+busy_same None (Some w) is = absurd (none_some (record { lane = w.lane; ended = ended_if w.is_out_of_memory }) is)
 busy_same (Some c) None is = absurd (some_none (record { lane = c.lane; ended = c.ended }) is)
 busy_same (Some c) (Some w) is =
     ap (λ (x : OpenOn). let r : Result (Unit {0}) Refusal = Err (CollectorBusy x.lane) in r)
-    (open_same (record { lane = c.lane; ended = c.ended }) (record { lane = w.lane; ended = ended_if w.is_short }) is)
+    (open_same (record { lane = c.lane; ended = c.ended }) (record { lane = w.lane; ended = ended_if w.is_out_of_memory }) is)
 
 -- no snapshot of a plain store is damaged
 none_damaged : (snapshots : List Snapshot) → find (λ (k : Kept). is_some k.unreadable) (map shown_snapshot snapshots) ≡ None

@@ -9,6 +9,7 @@ use Rattle.disk_trait.specs.Disk.{Rose}
 use Rattle.port_traits.specs.declared.clock.Clock as clocks
 use Rattle.store_types.specs.declared.refusal.Refusal.TheVariants as refusals
 use Rattle.store_types.specs.declared.names.Digest32.{Digest32}
+use Rattle.store_types.specs.declared.order.TheConstants.{COMMAND_KIND, PART_KIND, MEMORY_KIND, STOP_KIND, FAULT_KIND}
 use Rattle.store_files.specs.Book.{Book, FitsBook, book_text}
 use Rattle.store_files.specs.Folder.{chunk_name}
 use Rattle.wire_commands.specs.HasText.{ReplyHasText}
@@ -34,7 +35,7 @@ use Rattle.core_state.specs.declared.stop.Stop.TheVariants as stops
 use Rattle.core_state.specs.declared.upkeep.Upkeep.{Upkeep}
 use Rattle.core_state.specs.Answers.{StepHasCause, done, failed, fault_after, halted, short, step_as_any, step_ends, step_passes}
 use Rattle.core_state.specs.Applies.{ActApplies, ActKeeps}
-use Rattle.core_state.specs.Begins.{AdmittedHasText, IsBegun, IsNext, IsReady, IsShort, Refuses, short as is_short, halted as is_halted}
+use Rattle.core_state.specs.Begins.{AdmittedHasText, IsBegun, IsNext, IsReady, IsShort, Refuses, short as is_out_of_memory, halted as is_halted}
 use Rattle.core_state.specs.Changes.{Change, LeavesChange, after, drops, stays}
 use Rattle.core_state.specs.Chunks.{HoldsOnly}
 use Rattle.core_state.specs.Collectors.{OpenOn, closed_on, cut_on, is_cut, is_on, open_in, refusal_of, shown_collecting}
@@ -222,7 +223,7 @@ module _ {D E C : Type 0} (d : Ghosts D) (clock : clocks.Ghosts C) (old between 
       let now : IsShort d clock.readings old new lane answer =
       subst (λ (x : Core D E C). IsShort d clock.readings old x lane answer) (sym (unfaulted_same d mid between new lane lane is.moment 2 (Some r) answer is.entered closes refl)) is in
       let collector : new.collector ≡ cut_on lane old.collector = entered.collector ∙ ap (cut_on lane) b.collector in
-      let kind : (answer.entry).kind ≡ 2 = ap (λ x. x.kind) entered.entry in
+      let kind : (answer.entry).kind ≡ MEMORY_KIND = ap (λ x. x.kind) entered.entry in
       uncalled d clock old mid new lane is.moment 2 r answer mid.collector b b.fault entered
       (λ e. omega (arith, e)) (λ e. omega (arith, e)) (λ e. absurd (omega (arith, e))) (λ e. absurd (omega (arith, e)))
       no_memory_has_text (step_as_any (short kind entered.reply_is)) (step_keeps_short d clock.readings old new lane answer uncut now)
@@ -241,7 +242,7 @@ module _ {D E C : Type 0} (d : Ghosts D) (clock : clocks.Ghosts C) (old between 
       let r : Reply = Refused (refusals.Halted first) in
       let entered : IsEntered d (record mid { collector = closed_on lane mid.collector }) new lane m 5 (Some r) answer = faulted_entered d mid between new lane lane m (Some r) answer e closes in
       let collector : new.collector ≡ closed_on lane old.collector = entered.collector ∙ ap (closed_on lane) b.collector in
-      let kind : (answer.entry).kind ≡ 5 = ap (λ x. x.kind) entered.entry in
+      let kind : (answer.entry).kind ≡ FAULT_KIND = ap (λ x. x.kind) entered.entry in
       uncalled d clock old mid new lane m 5 r answer (closed_on lane mid.collector) b (b.fault ∙ some ∙ ap (first_fault (length (old.journal).entries.items)) (sym some)) entered
       (λ e. omega (arith, e)) (λ e. omega (arith, e)) (λ e. absurd (omega (arith, e))) (λ _ none. some_none first (sym some ∙ none))
       (subst (λ x. IfSome x ReplyHasText) entered.reply_is text) (step_as_any (halted first some kind entered.reply_is)) (reserve entered)
@@ -252,7 +253,7 @@ module _ {D E C : Type 0} (d : Ghosts D) (clock : clocks.Ghosts C) (old between 
       (tells_none d old new lane 5 answer kind (inr (refl, ap is_some some)))
 
   refused_before : is_cut lane old.collector ≡ false → Refuses d clock.readings old between lane answer → AdmittedHasText (Answered answer) → IsRightStep d clock old new lane answer
-  refused_before uncut (is_short is) text = short_step uncut is
+  refused_before uncut (is_out_of_memory is) text = short_step uncut is
   refused_before uncut (is_halted is) text =
       halted_by is.between is.moment is.first is.fault is.begun is.entered text
       (λ entered. step_keeps_filled d clock.readings old is.between (record (is.between) { collector = closed_on lane (is.between).collector }) new lane is.moment 5 (Some (Refused (refusals.Halted is.first))) answer
@@ -267,7 +268,7 @@ module _ {D E C : Type 0} (d : Ghosts D) (clock : clocks.Ghosts C) (old between 
       let entered : IsEntered d (record mid { collector = None }) new lane at.moment 4 (Some r) answer =
       unfaulted_entered d (record mid { collector = None }) between new lane lane at.moment 4 (Some r) answer e closes refl in
       let collector : new.collector ≡ None = entered.collector in
-      let kind : (answer.entry).kind ≡ 4 = ap (λ x. x.kind) entered.entry in
+      let kind : (answer.entry).kind ≡ STOP_KIND = ap (λ x. x.kind) entered.entry in
       let x : WasEnded lane old.collector early = was_ended lane old.collector early cut has in
       let shown : (h : History) → StandsFor d clock.readings old h → (open_on lane (world h).collecting ≡ Some true) × (early ≡ earlies.NoMemory) =
       λ h s. ended_shown lane x.was (world h).collecting early (ap open_in (sym x.open_is) ∙ s.collecting) x.on x.ended in
@@ -371,7 +372,7 @@ module _ {D E C : Type 0} (d : Ghosts D) (clock : clocks.Ghosts C) (old mid acte
       let entered : IsEntered d acted new lane m 0 (Some r) answer =
       subst (λ p. IsEntered d acted new lane m 0 (Some (Refused (refusals.WrongState (state_of (session_at p lane))))) answer) b.parts
       (unfaulted_entered d acted between new lane lane m 0 (Some (Refused (refusals.WrongState (state_of (session_at mid.parts lane))))) answer e closes refl) in
-      let kind : (answer.entry).kind ≡ 0 = ap (λ x. x.kind) entered.entry in
+      let kind : (answer.entry).kind ≡ COMMAND_KIND = ap (λ x. x.kind) entered.entry in
       let kept : SameKept mid.parts acted.parts = record { catalogue = ap (λ p. p.catalogue.items) parts; sessions = ap (λ p. p.sessions.items) parts; locks = ap (λ p. p.locks) parts } in
       let still : new.collector ≡ old.collector = entered.collector ∙ collector ∙ b.collector in
       let stepped : IsStepped d clock.readings old acted new lane m 0 (Some r) answer =
@@ -519,7 +520,7 @@ module _ {D E C : Type 0} (d : Ghosts D) (clock : clocks.Ghosts C) (old mid acte
     passed_step does e =
         let entered : IsEntered d acted new lane m 1 None answer = unfaulted_entered d acted between new lane lane m 1 None answer e closes refl in
         let stepped = stepped_as (Ok None) does 1 None (λ e. omega (arith, e)) refl entered in
-        let kind : (answer.entry).kind ≡ 1 = ap (λ x. x.kind) entered.entry in
+        let kind : (answer.entry).kind ≡ PART_KIND = ap (λ x. x.kind) entered.entry in
         let now : new.collector ≡ Some y = entered.collector ∙ then_is in
         finished 1 None acted stepped
         (record {
@@ -572,7 +573,7 @@ module _ {D E C : Type 0} (d : Ghosts D) (clock : clocks.Ghosts C) (old mid acte
         let r : Reply = report_reply report in
         let entered : IsEntered d acted new lane m 4 (Some r) answer = unfaulted_entered d acted between new lane lane m 4 (Some r) answer e closes refl in
         let stepped = stepped_as o does 4 (Some r) (λ e. omega (arith, e)) refl entered in
-        let kind : (answer.entry).kind ≡ 4 = ap (λ x. x.kind) entered.entry in
+        let kind : (answer.entry).kind ≡ STOP_KIND = ap (λ x. x.kind) entered.entry in
         let now : new.collector ≡ None = entered.collector ∙ closed_after o does in
         finished 4 (Some r) acted stepped
         (record {
@@ -626,7 +627,7 @@ module _ {D E C : Type 0} (d : Ghosts D) (clock : clocks.Ghosts C) (old mid acte
         let r : Reply = Refused refusals.NoMemory in
         let entered : IsEntered d acted new lane m 2 (Some r) answer = unfaulted_entered d acted between new lane lane m 2 (Some r) answer e closes refl in
         let stepped = stepped_as o does 2 (Some r) (λ e. omega (arith, e)) refl entered in
-        let kind : (answer.entry).kind ≡ 2 = ap (λ x. x.kind) entered.entry in
+        let kind : (answer.entry).kind ≡ MEMORY_KIND = ap (λ x. x.kind) entered.entry in
         let now : new.collector ≡ cut_on lane (Some y) = entered.collector ∙ ap (cut_on lane) then_is in
         finished 2 (Some r) acted stepped
         (record {
@@ -667,7 +668,7 @@ module _ {D E C : Type 0} (d : Ghosts D) (clock : clocks.Ghosts C) (old mid acte
         let stepped : IsStepped d clock.readings old (record acted { fault = Some place; collector = closed_on lane acted.collector }) new lane m 5 (Some r) answer =
         acted_stepped d clock.readings old mid acted new lane m 5 (Some r) answer (IsErrOf o stops.DiskFailed) (Some place) (closed_on lane acted.collector) ready others.journal others.clock others.remote
         (ap (λ n. Some n) (ap length entries) ∙ sym (ap (first_fault (length (old.journal).entries.items)) none)) does.kept does.serves (λ _. refl) (up o does) entered in
-        let kind : (answer.entry).kind ≡ 5 = ap (λ x. x.kind) entered.entry in
+        let kind : (answer.entry).kind ≡ FAULT_KIND = ap (λ x. x.kind) entered.entry in
         let now : new.collector ≡ None = entered.collector ∙ closed_after o does in
         finished 5 (Some r) (record acted { fault = Some place; collector = closed_on lane acted.collector }) stepped
         (record {

@@ -7,6 +7,7 @@ use Rattle.disk_trait.specs.Laws.{by_name, placed_other, placed_same}
 use Rattle.port_traits.specs.Readings.{Readings}
 use Rattle.sha2.specs.Sha256.{sha256}
 use Rattle.store_types.specs.declared.refusal.Refusal.TheVariants.{DiskFault}
+use Rattle.store_types.specs.declared.order.TheConstants.{COMMAND_KIND, PART_KIND, MEMORY_KIND, STOP_KIND, FAULT_KIND}
 use Rattle.store_files.specs.Folder.{chunk_name}
 use Rattle.wire_commands.specs.declared.reply.Reply.{Reply}
 use Rattle.wire_commands.specs.declared.reply.Reply.TheVariants.{Refused}
@@ -42,15 +43,15 @@ none_some x e = cc
 -- What an entry of this kind makes of the lane's.
 pub record Collects (kind lane : ℕ) (before after : Option Collector) : Type 0 where
   pub open_on : is_on lane after ≡ stays_open kind (is_on lane before)
-  pub closed : is_on lane before ≡ true → (kind ≡ 4) ⊎ (kind ≡ 5) → after ≡ None
-  pub same : is_on lane before ≡ true → (kind ≡ 1) ⊎ (kind ≡ 2) → KeepsPlanOf before after
+  pub closed : is_on lane before ≡ true → (kind ≡ STOP_KIND) ⊎ (kind ≡ FAULT_KIND) → after ≡ None
+  pub same : is_on lane before ≡ true → (kind ≡ PART_KIND) ⊎ (kind ≡ MEMORY_KIND) → KeepsPlanOf before after
   pub others : is_on lane before ≡ false → after ≡ before
-  pub cut : is_on lane before ≡ true → kind ≡ 2 → is_cut lane after ≡ true
-  pub further : is_on lane before ≡ true → (kind ≡ 1) ⊎ (kind ≡ 2) → steps_left after < steps_left before
+  pub cut : is_on lane before ≡ true → kind ≡ MEMORY_KIND → is_cut lane after ≡ true
+  pub further : is_on lane before ≡ true → (kind ≡ PART_KIND) ⊎ (kind ≡ MEMORY_KIND) → steps_left after < steps_left before
 
 -- another lane's, or none, stays
 stays_off : (kind : ℕ) → stays_open kind false ≡ false
-stays_off kind = by_test ((kind == 4) || (kind == 5))
+stays_off kind = by_test ((kind == STOP_KIND) || (kind == FAULT_KIND))
   where
     by_test : (b : Bool) → cond b false false ≡ false
     by_test true = refl
@@ -67,7 +68,7 @@ collects_off kind lane before after off same = record {
 }
 
 -- it is closed by an end or a fault
-pub collects_closed : (kind lane : ℕ) (before after : Option Collector) → (kind ≡ 4) ⊎ (kind ≡ 5) → is_on lane before ≡ true → after ≡ None → Collects kind lane before after
+pub collects_closed : (kind lane : ℕ) (before after : Option Collector) → (kind ≡ STOP_KIND) ⊎ (kind ≡ FAULT_KIND) → is_on lane before ≡ true → after ≡ None → Collects kind lane before after
 collects_closed kind lane before after ends on none = record {
   open_on = ap (is_on lane) none ∙ sym (ap (stays_open kind) on ∙ shut);
   closed = λ _ _. none;
@@ -78,13 +79,13 @@ collects_closed kind lane before after ends on none = record {
 }
   where
     shut : stays_open kind true ≡ false
-    shut = ⊎_elim {C = stays_open kind true ≡ false} (λ (four : kind ≡ 4). ap (λ n. stays_open n true) four) (λ (five : kind ≡ 5). ap (λ n. stays_open n true) five) ends
+    shut = ⊎_elim {C = stays_open kind true ≡ false} (λ (four : kind ≡ STOP_KIND). ap (λ n. stays_open n true) four) (λ (five : kind ≡ FAULT_KIND). ap (λ n. stays_open n true) five) ends
 
-    no_pass : (kind ≡ 1) ⊎ (kind ≡ 2) → ⊥
+    no_pass : (kind ≡ PART_KIND) ⊎ (kind ≡ MEMORY_KIND) → ⊥
     no_pass passes =
         ⊎_elim {C = ⊥}
-        (λ (four : kind ≡ 4). ⊎_elim {C = ⊥} (λ (one : kind ≡ 1). omega (arith, four, one)) (λ (two : kind ≡ 2). omega (arith, four, two)) passes)
-        (λ (five : kind ≡ 5). ⊎_elim {C = ⊥} (λ (one : kind ≡ 1). omega (arith, five, one)) (λ (two : kind ≡ 2). omega (arith, five, two)) passes)
+        (λ (four : kind ≡ STOP_KIND). ⊎_elim {C = ⊥} (λ (one : kind ≡ PART_KIND). omega (arith, four, one)) (λ (two : kind ≡ MEMORY_KIND). omega (arith, four, two)) passes)
+        (λ (five : kind ≡ FAULT_KIND). ⊎_elim {C = ⊥} (λ (one : kind ≡ PART_KIND). omega (arith, five, one)) (λ (two : kind ≡ MEMORY_KIND). omega (arith, five, two)) passes)
         ends
 
 -- a mark or a visit leaves less of it
@@ -192,12 +193,12 @@ pub record HasChanged {D E C : Type 0} (d : Ghosts D) (old acted : Core D E C) (
   pub may_change : MayChange old lane moment kind change
   pub content : (reply ≡ Some (Refused DiskFault) → ⊥) → d.honest (old.parts).disk → d.content (acted.parts).disk ≡ after change (d.content (old.parts).disk)
   pub crash : LeavesChange d (old.parts).disk (acted.parts).disk change
-  pub saves : kind ≡ 4 → is_cut lane old.collector ≡ false → SavesAt old moment change
+  pub saves : kind ≡ STOP_KIND → is_cut lane old.collector ≡ false → SavesAt old moment change
   pub closes_only : is_cut lane old.collector ≡ true → (acted.parts).disk ≡ (old.parts).disk
-  pub passes : kind ≡ 1 → PassTouches change (touches_kept old.upkeep) (touches_kept acted.upkeep) moment
-  pub untouched : (kind ≡ 1 → ⊥) → acted.upkeep ≡ old.upkeep
+  pub passes : kind ≡ PART_KIND → PassTouches change (touches_kept old.upkeep) (touches_kept acted.upkeep) moment
+  pub untouched : (kind ≡ PART_KIND → ⊥) → acted.upkeep ≡ old.upkeep
   pub early : NoneAfter (old.upkeep).book old.last → NoneAfter (acted.upkeep).book moment
-  pub refused : kind ≡ 0 → is_on lane old.collector ≡ false
+  pub refused : kind ≡ COMMAND_KIND → is_on lane old.collector ≡ false
 
 pub step_leaves : {D E C : Type 0} (d : Ghosts D) (readings : C → Option Readings) (old acted new : Core D E C) (lane m n : ℕ) (reply : Option Reply) (answer : Answer)
     → IsStepped d readings old acted new lane m n reply answer → (x : HasChanged d old acted lane m n reply) → Collects n lane old.collector new.collector

@@ -1,4 +1,4 @@
--- The acts of a collector, and what is told of them by what the core keeps.
+-- What is told of the acts of a collector by what the core keeps.
 use Rattle.disk_trait.specs.declared.disk.Disk.{Ghosts}
 use Rattle.std.specs.Prelude.{ℕ, if◌then◌else◌, List, Option, Some, None, option_map, Result, Ok, Err}
 use Rattle.store_types.specs.declared.refusal.Refusal.{Refusal}
@@ -15,11 +15,6 @@ use Rattle.core_state.specs.Unreadables.{Asked, CoreUnreadable, known}
 use Rattle.core_collect.specs.Ending.{early_in}
 use Rattle.core_collect.specs.Starting.{StartTells, start_told}
 use Rattle.core_collect.specs.Stepping.{StepTells}
-
-abbrev pub IsCollectors : Act → Type 0
-IsCollectors Start = Unit {0}
-IsCollectors Step = Unit {0}
-IsCollectors _ = ⊥
 
 -- on any disk: what it answers by what the core keeps, and which collector opens
 abbrev pub CoreAnswersBy : {D E C : Type 0} → Ghosts D → Core D E C → Core D E C → ℕ → Act → Answer → Type 0

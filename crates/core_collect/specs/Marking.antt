@@ -1,5 +1,5 @@
 -- The marks of a collector: the index that is next, and what is marked of it.
-use Rattle.std.specs.Prelude.{◌≡◌, ◌<◌, ◌≤◌, ℕ, zero, suc, Bool, true, false, List, [], ◌∷◌, map, take, drop, length, Option, Some, None, IsSome, Result, Ok, Err, IfOk, Vec}
+use Rattle.std.specs.Prelude.{◌≡◌, ◌<◌, ◌≤◌, ◌⊎◌, ℕ, zero, suc, Bool, true, false, List, [], ◌∷◌, map, take, drop, length, Option, Some, None, IsSome, Result, Ok, Err, IfOk, Vec}
 use Rattle.std.specs.declared.alloc.Global.{Global}
 use Rattle.disk_trait.specs.Files.{Files}
 use Rattle.disk_trait.specs.declared.disk.Disk.{Ghosts}
@@ -118,12 +118,18 @@ StandsAt m catalogue c n how =
     (i : IndexAt) → next_index (passed_by n c.plan) ≡ Some i
     → standing m catalogue (at_hand_after n c.entries.items) i ≡ how
 
+-- the index that is next was forgotten, or no digests of it are at hand
+abbrev pub MayPass : List Listed → Collector → Type 0
+MayPass catalogue c = (i : IndexAt) → next_index c.plan ≡ Some i → (path_at i catalogue ≡ None) ⊎ (c.entries.items ≡ [])
+
 -- So many indexes are passed over: of an honest disk those that were forgotten or have no entries. The digests at hand of the next one are
--- those that were at hand, or else those that an honest disk's file has.
+-- those that were at hand, or else those that an honest disk's file has. On any disk those at hand are let go only with an index that was
+-- forgotten.
 pub record FindsAfter {D : Type 0} (d : Ghosts D) (disk : D) (catalogue : List Listed) (passed : ℕ) (c e : Collector) : Type 0 where
   pub lane : e.lane ≡ c.lane
   pub plan : e.plan ≡ passed_by passed c.plan
   pub skipped : d.honest disk → (n : ℕ) → n < passed → StandsAt (d.content disk) catalogue c n passed_over
+  pub let_go : 0 < passed → MayPass catalogue c
   pub had : (at_hand_after passed c.entries.items ≡ [] → ⊥) → e.entries.items ≡ at_hand_after passed c.entries.items
   pub read : d.honest disk → StandsAt (d.content disk) catalogue c passed (marked_next (bytes_of e.entries))
 
@@ -146,9 +152,10 @@ pub record PassesOver (old new : Collector) : Type 0 where
   pub none : new.entries.items ≡ []
   pub less : left_of new.plan < left_of old.plan
 
--- which on an honest disk was forgotten or has no entries
+-- which on an honest disk was forgotten or has no entries, and on any disk was forgotten or has no digests at hand
 abbrev pub PassesNext : {D : Type 0} → Ghosts D → Parts D → Collector → Collector → Type 0
 PassesNext d parts old new = PassesOver old new × (d.honest parts.disk → StandsAt (d.content parts.disk) parts.catalogue.items old 0 passed_over)
+    × MayPass parts.catalogue.items old
 
 -- what is unmarked but for the index that is next
 abbrev pub behind_next : List Listed → List Snapshot → Plan → List Unmarked

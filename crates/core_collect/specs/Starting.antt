@@ -5,6 +5,7 @@ use Rattle.store_types.specs.FileNames.{is_index_name}
 use Rattle.store_types.specs.Chain.Refusing.{◌>>=◌, if_none}
 use Rattle.store_types.specs.declared.refusal.Refusal.{Refusal}
 use Rattle.store_types.specs.declared.refusal.Refusal.TheVariants.{CollectorBusy, Unreadable}
+use Rattle.store_types.specs.declared.order.TheConstants.{COMMAND_KIND, START_KIND}
 use Rattle.wire_commands.specs.declared.reply.Reply.TheVariants.{Refused}
 use Rattle.gc_plan.specs.Plan.{begun}
 use Rattle.gc_plan.specs.declared.IndexAt.{IndexAt}
@@ -82,9 +83,9 @@ GivesCollector parts before at (Err stops.DiskFailed) = ⊥
 
 -- The core answers a start so, on any disk.
 pub record StartTells {D E C : Type 0} (old new : Core D E C) (lane : ℕ) (answer : Answer) : Type 0 where
-  pub refused : (answer.entry).kind ≡ 0 → (refusal : Refusal) × (answer.reply ≡ Some (Refused refusal))
+  pub refused : (answer.entry).kind ≡ COMMAND_KIND → (refusal : Refusal) × (answer.reply ≡ Some (Refused refusal))
       × (start_told old.collector (session_at old.parts lane) (old.parts).catalogue.items ≡ Err refusal)
-  pub opens : (answer.entry).kind ≡ 3 → (start_told old.collector (session_at old.parts lane) (old.parts).catalogue.items ≡ Ok tt)
+  pub opens : (answer.entry).kind ≡ START_KIND → (start_told old.collector (session_at old.parts lane) (old.parts).catalogue.items ≡ Ok tt)
       × IsSomeAnd new.collector (IsNewCollector old.parts lane (answer.entry).moment)
   -- where none opens, another lane's stays as it is
-  pub others : ((answer.entry).kind ≡ 3 → ⊥) → new.collector ≡ collector_by (answer.entry).kind lane old.collector
+  pub others : ((answer.entry).kind ≡ START_KIND → ⊥) → new.collector ≡ collector_by (answer.entry).kind lane old.collector

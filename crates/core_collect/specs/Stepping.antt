@@ -7,6 +7,7 @@ use Rattle.store_types.specs.declared.names.Digest32.{Digest32}
 use Rattle.store_types.specs.Times.{last_moment}
 use Rattle.store_types.specs.declared.refusal.Refusal.{Refusal}
 use Rattle.store_types.specs.declared.refusal.Refusal.TheVariants.{WrongState}
+use Rattle.store_types.specs.declared.order.TheConstants.{COMMAND_KIND, PART_KIND, MEMORY_KIND, STOP_KIND, FAULT_KIND}
 use Rattle.store_files.specs.Book.{Book, FitsBook, book_text}
 use Rattle.store_files.specs.Folder.{chunk_name}
 use Rattle.wire_commands.specs.declared.reply.Reply.TheVariants as replies
@@ -203,26 +204,26 @@ pub record TakesNext {D E C : Type 0} (d : Ghosts D) (readings : C → Option Re
 
 -- the lane's collector is not open: it is refused, memory was wanting, or the disk failed before
 abbrev pub IsAlone : Option ℕ → ℕ → Type 0
-IsAlone fault kind = (kind ≡ 0) ⊎ ((kind ≡ 2) ⊎ ((kind ≡ 5) × IsSome fault))
+IsAlone fault kind = (kind ≡ COMMAND_KIND) ⊎ ((kind ≡ MEMORY_KIND) ⊎ ((kind ≡ FAULT_KIND) × IsSome fault))
 
 -- What it answers by what the core keeps, on any disk.
 pub record StepTells {D E C : Type 0} (d : Ghosts D) (old new : Core D E C) (lane : ℕ) (answer : Answer) : Type 0 where
   -- it is refused with the lane's session, where the lane's collector is not open
-  pub refused : (answer.entry).kind ≡ 0 → (is_on lane old.collector ≡ false) × (answer.reply ≡ Some (replies.Refused (WrongState (state_of (session_at old.parts lane)))))
+  pub refused : (answer.entry).kind ≡ COMMAND_KIND → (is_on lane old.collector ≡ false) × (answer.reply ≡ Some (replies.Refused (WrongState (state_of (session_at old.parts lane)))))
   -- and there it is no mark, no visit and no end, whatever another lane's does
   pub open_alone : is_on lane old.collector ≡ false → IsAlone old.fault (answer.entry).kind
   -- a mark or a visit is the next by the collector's own plan
-  pub passes : is_cut lane old.collector ≡ false → (answer.entry).kind ≡ 1
+  pub passes : is_cut lane old.collector ≡ false → (answer.entry).kind ≡ PART_KIND
       → IsSomeAnd old.collector (λ c. IsSomeAnd new.collector (λ e. CorePasses d old new c e (answer.entry).moment))
   -- and so is what the disk may have lost or kept where it failed in this act
-  pub failed : is_cut lane old.collector ≡ false → (answer.entry).kind ≡ 5 → old.fault ≡ None
+  pub failed : is_cut lane old.collector ≡ false → (answer.entry).kind ≡ FAULT_KIND → old.fault ≡ None
       → IsSomeAnd old.collector (λ c. CoreFails d old new c (answer.entry).moment)
   -- the end of a collector replies what ended it early, or comes where all was visited and replies its report
-  pub ends : is_cut lane old.collector ≡ true → (answer.entry).kind ≡ 4 → IsSomeAnd (early_in old.collector) (λ early. answer.reply ≡ Some (replies.Refused (refusal_of early)))
-  pub reports : is_cut lane old.collector ≡ false → (answer.entry).kind ≡ 4
+  pub ends : is_cut lane old.collector ≡ true → (answer.entry).kind ≡ STOP_KIND → IsSomeAnd (early_in old.collector) (λ early. answer.reply ≡ Some (replies.Refused (refusal_of early)))
+  pub reports : is_cut lane old.collector ≡ false → (answer.entry).kind ≡ STOP_KIND
       → IsSomeAnd old.collector (λ c. EndsWhole (old.upkeep).book c answer.reply)
   -- what such an end saved is a book
-  pub fits : is_cut lane old.collector ≡ false → (answer.entry).kind ≡ 4 → NoneAfter (old.upkeep).book old.last → FitsBook (as_of (answer.entry).moment (old.upkeep).book)
+  pub fits : is_cut lane old.collector ≡ false → (answer.entry).kind ≡ STOP_KIND → NoneAfter (old.upkeep).book old.last → FitsBook (as_of (answer.entry).moment (old.upkeep).book)
   -- An honest disk's index that does not decode ends it early as it comes to be marked, and nothing else does so in a mark or a visit.
-  pub unread : is_cut lane old.collector ≡ false → (answer.entry).kind ≡ 1 → d.honest (old.parts).disk
+  pub unread : is_cut lane old.collector ≡ false → (answer.entry).kind ≡ PART_KIND → d.honest (old.parts).disk
       → IsSomeAnd old.collector (λ c. path_ended new.collector ≡ next_unreadable (d.content (old.parts).disk) (old.parts).catalogue.items c)

@@ -1,13 +1,14 @@
 //! An act of a collector.
 
-ghost use Rattle.std.specs.Prelude.{◌<◌};
+ghost use Rattle.std.specs.Prelude.{◌≡◌, ◌<◌};
+ghost use Rattle.store_history.specs.Acts.{family_of};
 ghost use Rattle.core_state.specs.Applies.{ActApplies, ActKeeps};
 ghost use Rattle.core_state.specs.Reserved.{HasRoom};
-ghost use Rattle.core_collect.specs.Acts.{CollectUnreadable, CoreAnswersBy, IsCollectors};
+ghost use Rattle.core_collect.specs.Acts.{CollectUnreadable, CoreAnswersBy};
 
 use crate::starting::start;
 use crate::stepping::step;
-use core_state::{Act, Answer, Core};
+use core_state::{Act, Answer, Core, Family};
 use disk_trait::Disk;
 use port_traits::Clock;
 use std::alloc::Global;
@@ -21,11 +22,11 @@ pub fn collect_act<D: Disk, E, C: Clock>(
 ) -> Answer
     requires lane { lane < 64 }
     requires room { HasRoom core.old lane }
-    requires kind { IsCollectors act }
+    requires kind { family_of act ≡ Family.Collects }
     ensures applies { ActApplies D.Disk C.Clock core.old core.new lane act result }
     ensures keeps { ActKeeps D.Disk core.old core.new lane act result }
     // on any disk: what it answers by what the core keeps, which collector opens, and what ends one early
-    ensures by_kept { CoreAnswersBy D.Disk core.old core.new lane act result }
+    ensures from_state { CoreAnswersBy D.Disk core.old core.new lane act result }
     // a snapshot is told as damaged exactly where one is, and an index as unreadable exactly where one ended the collector
     ensures unreadable { CollectUnreadable D.Disk core.old lane act result }
 {

@@ -8,6 +8,7 @@ use Rattle.file_install.specs.Install.{installed}
 use Rattle.file_install.proofs.InstallLaws.{installed_name}
 use Rattle.port_traits.specs.declared.clock.Clock as clocks
 use Rattle.store_types.specs.declared.refusal.Refusal.TheVariants.{DiskFault}
+use Rattle.store_types.specs.declared.order.TheConstants.{PART_KIND, STOP_KIND}
 use Rattle.store_files.specs.Archive.{Snapshot}
 use Rattle.store_files.specs.Book.{Book, book_text}
 use Rattle.store_files.specs.Folder.{chunk_name}
@@ -50,7 +51,7 @@ events_dated R w s [] d is = is
 events_dated R w s (e ∷ es) d is = events_dated R (world_after R w e) (swept_after R w s e) es d (event_dated R w s e d)
 
 -- no collector is open at first
-none_ends : (R : Option (List Snapshot)) (o : Opening) (e : Event) → IsLegal R (opened o) (e ∷ []) → e.act ≡ Step → kind e ≡ 4 → ⊥
+none_ends : (R : Option (List Snapshot)) (o : Opening) (e : Event) → IsLegal R (opened o) (e ∷ []) → e.act ≡ Step → kind e ≡ STOP_KIND → ⊥
 none_ends R o e legal step closes =
     let says = (legal.0).says in
     let closing : Right R (opened o) (lane e) (moment e) e.act (reply e) (class_of e.act) close_kind =
@@ -59,7 +60,7 @@ none_ends R o e legal step closes =
     subst (λ a. Right R (opened o) (lane e) (moment e) a (reply e) (class_of a) close_kind) step closing in
     its.1
 
-history_dated : (R : Option (List Snapshot)) (o : Opening) (es : List Event) (e : Event) (d : List ℕ) → IsLegal R (opened o) (es ++ e ∷ []) → e.act ≡ Step → kind e ≡ 4
+history_dated : (R : Option (List Snapshot)) (o : Opening) (es : List Event) (e : Event) (d : List ℕ) → IsLegal R (opened o) (es ++ e ∷ []) → e.act ≡ Step → kind e ≡ STOP_KIND
     → (swept R o es).touches.undated d ≡ false
 unfolding swept_all
 history_dated R o [] e d legal step closes = absurd (none_ends R o e legal step closes)
@@ -67,7 +68,7 @@ history_dated R o (v ∷ vs) e d legal step closes = events_dated R (world_after
 
 -- ---- the answer
 
-module _ {D E C : Type 0} (d : Ghosts D) (old new : Core D E C) (answer : Answer) (closes : (answer.entry).kind ≡ 4) where
+module _ {D E C : Type 0} (d : Ghosts D) (old new : Core D E C) (answer : Answer) (closes : (answer.entry).kind ≡ STOP_KIND) where
   other_kind : (n : ℕ) → (answer.entry).kind ≡ n → n ≡ 4
   other_kind n is = sym is ∙ closes
 
@@ -142,7 +143,7 @@ saved_book d clock old new h lane answer applies keeps tells early s m closes un
     undated : (x : List ℕ) → (touches_kept old.upkeep).undated x ≡ false
     undated x = (m.touches).undated x ∙ history_dated h.remote h.opening h.events e x stands.legal refl closes
 
-    marked : (answer.entry).kind ≡ 1 → ⊥
+    marked : (answer.entry).kind ≡ PART_KIND → ⊥
     marked is = one_four (sym is ∙ closes)
       where
         one_four : ◌≡◌ {A = ℕ} 1 4 → ⊥

@@ -1,6 +1,7 @@
 -- What holds of the disk after every list of acts.
 use Rattle.std.specs.Prelude.{◌≡◌, ◌≤◌, ◌↔◌, ℕ, false, List, ◌∷◌, Option, Some, None, IsSome}
 use Rattle.std.specs.FinMap.{get}
+use Rattle.store_types.specs.declared.order.TheConstants.{STOP_KIND}
 use Rattle.disk_trait.specs.declared.disk.Disk.{Ghosts}
 use Rattle.port_traits.specs.Readings.{Readings}
 use Rattle.port_traits.specs.declared.clock.Clock as clocks
@@ -38,5 +39,5 @@ SweepsLeaveChunkFiles d readings core =
 abbrev pub EndsSaveTheBook : {D E C : Type 0} → Ghosts D → clocks.Ghosts C → Core D E C → Core D E C → Type 0
 EndsSaveTheBook d clock old new =
     (h : History) (lane : ℕ) (answer : Answer) → ActApplies d clock old new lane Step answer → ActKeeps d old new lane Step answer → StepTells d old new lane answer
-    → NoneAfter (old.upkeep).book old.last → StandsFor d clock.readings old h → KeepsTouches d old h → (answer.entry).kind ≡ 4 → is_cut lane old.collector ≡ false
+    → NoneAfter (old.upkeep).book old.last → StandsFor d clock.readings old h → KeepsTouches d old h → (answer.entry).kind ≡ STOP_KIND → is_cut lane old.collector ≡ false
     → HoldsBook (d.content (new.parts).disk) (answer.entry).moment (touches_of_history (then_event h (event_of Step answer (d.calls (new.parts).disk))))

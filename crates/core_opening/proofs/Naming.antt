@@ -1,5 +1,5 @@
 -- The names in a set, and the files of these names.
-use Rattle.std.proofs.Common.{◌≡◌, ◌⊎◌, inl, inr, ⊎_elim, ◌↔◌, ℕ, Bool, true, false, not, cond, map, List, [], ◌∷◌, ◌++◌, Some, None, append_assoc, refl, sym, ap, subst, ◌∙◌, arith}
+use Rattle.std.proofs.Common.{◌≡◌, ◌⊎◌, inl, inr, ⊎_elim, ◌↔◌, ℕ, Bool, true, false, not, cond, map, List, [], ◌∷◌, ◌++◌, Some, append_assoc, refl, sym, ap, subst, ◌∙◌, arith}
 use Rattle.std.specs.BTreeSet.{BTreeSet, contains, Updates}
 use Rattle.std.specs.List.{Contains, filter}
 use Rattle.std.specs.List.Sorted.{IsStrictlySortedBy}
@@ -99,9 +99,6 @@ to_others (n ∷ ns) q h =
 names_viewed : (facts : List FileFact) → map (λ f. f.name) (map fact_view facts) ≡ map (λ (f : FileFact). f.name) facts
 names_viewed [] = refl
 names_viewed (f ∷ fs) = ap (λ (l : List (List ℕ)). f.name ∷ l) (names_viewed fs)
-
-pub lists_own : (set : BTreeSet (List ℕ)) → HasMembers set (manifest_name ∷ []) → ListsNames None set.keys
-lists_own set has = keys_are set (manifest_name ∷ []) has
 
 pub lists_all : (set : BTreeSet (List ℕ)) (m : Manifest) → HasMembers set (manifest_name ∷ map (λ (f : FileFact). f.name) m.files) → ListsNames (Some (manifest_view m)) set.keys
 lists_all set m has q =

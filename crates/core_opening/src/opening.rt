@@ -76,7 +76,7 @@ fn state_of(alloc: Global) -> Result<(Journal, Vec<Session>), AllocError>
     Ok((journal, sessions))
 }
 
-/// What opening took of memory and of the disk.
+/// What a core begins with: its memory, and what was read of the folder.
 #[derive(Drop)]
 struct Opened {
     journal: Journal,

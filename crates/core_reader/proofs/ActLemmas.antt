@@ -1,91 +1,29 @@
--- The acts of readers are well-formed commands.
-use Rattle.std.proofs.Common.{◌≡◌, ℕ, true, false, Option, Some, Result, Ok, Err, OnOk, refl, sym, ap, subst, ◌∙◌}
+-- What a reader's act is answered by what the core keeps, and by what stands on an honest disk.
+use Rattle.std.proofs.Common.{◌≡◌, ℕ, true, Option, Some, Result, Ok, Err, OnOk, refl, sym, ap, subst, ◌∙◌}
 use Rattle.disk_trait.specs.declared.disk.Disk.{Ghosts}
 use Rattle.disk_trait.specs.Files.{Files}
 use Rattle.port_traits.specs.Readings.{Readings}
-use Rattle.wire_commands.specs.declared.command.Command.TheVariants.{OpenWriter, Previous, NewFixed, NewDynamic, Chunk as ChunkCommand, Append, CloseIndex, Blob as BlobCommand, Finish, Abort, OpenReader, Download, GetChunk, Range, CloseReader, List as ListAll, Files as FilesOf, Forget, Prune, Verify, Sync, Gc, Group, Bye}
+use Rattle.wire_commands.specs.declared.command.Command.TheVariants.{OpenReader}
 use Rattle.store_types.specs.declared.refusal.Refusal.{Refusal}
 use Rattle.store_types.specs.declared.refusal.Refusal.TheVariants.{Halted, NoMemory}
 use Rattle.wire_commands.specs.declared.reply.Reply.{Reply}
 use Rattle.wire_commands.specs.declared.reply.Reply.TheVariants.{Done, Refused}
 use Rattle.store_history.specs.declared.act.Act.{Act}
-use Rattle.store_history.specs.declared.act.Act.TheVariants.{Plain, JobGroup, Blob, Chunk, ReadFile, ReadChunk, RemoteList, RemoteFile, RemoteChunk, Start, Step, Short, End}
+use Rattle.store_history.specs.declared.act.Act.TheVariants.{Plain, ReadFile, ReadChunk}
 use Rattle.store_history.specs.declared.act.Answer.{Answer}
-use Rattle.store_history.specs.Acts.{IsWellFormed, class_of, stepping}
-use Rattle.store_history.specs.LastTouches.{may_touch}
 use Rattle.core_state.specs.declared.entering.Place.{Place}
 use Rattle.core_state.specs.declared.parts.Parts.{Parts}
 use Rattle.core_state.specs.declared.state.Core.{Core}
 use Rattle.core_state.specs.declared.stop.Stop.{Stop}
 use Rattle.core_state.specs.declared.stop.Stop.TheVariants as stops
 use Rattle.core_state.specs.Begins.{IsAdmitted, Refuses, halted, short}
-use Rattle.core_state.specs.ByKept.{ByKept, CoreTells}
+use Rattle.core_state.specs.FromState.{FromState, CoreTells}
 use Rattle.core_state.specs.Closing.{is_reader}
 use Rattle.core_state.specs.Settles.{Settles, reply_by}
 use Rattle.core_state.specs.Stops.{told}
 use Rattle.core_state.specs.Wanted.{session_at}
-use Rattle.core_state.proofs.ByKept.{done_tells, refused_tells}
+use Rattle.core_state.proofs.FromState.{done_tells, refused_tells}
 use Rattle.core_reader.specs.AnsweredBy.{ActAnswersBy, ActReads, CoreAnswersBy, CoreReads, chunk_told, part_told, reader_told}
-use Rattle.core_reader.specs.ReaderActs.{IsReaders}
-
-pub readers_formed : (a : Act) → IsReaders a → IsWellFormed a
-readers_formed (Plain (OpenReader snapshot)) h = tt
-readers_formed (Plain (Download file offset)) h = tt
-readers_formed (Plain (GetChunk digest)) h = tt
-readers_formed (Plain (Range file offset len)) h = tt
-readers_formed (Plain CloseReader) h = tt
-readers_formed (Plain (OpenWriter snapshot)) h = absurd h
-readers_formed (Plain (Previous file offset)) h = absurd h
-readers_formed (Plain (NewFixed file size chunk_size)) h = absurd h
-readers_formed (Plain (NewDynamic file)) h = absurd h
-readers_formed (Plain (ChunkCommand digest blob)) h = absurd h
-readers_formed (Plain (Append number entries)) h = absurd h
-readers_formed (Plain (CloseIndex number count size csum)) h = absurd h
-readers_formed (Plain Finish) h = absurd h
-readers_formed (Plain Abort) h = absurd h
-readers_formed (Plain (BlobCommand file blob)) h = absurd h
-readers_formed (Plain (ListAll after)) h = absurd h
-readers_formed (Plain (FilesOf snapshot)) h = absurd h
-readers_formed (Plain (Forget snapshot)) h = absurd h
-readers_formed (Plain (Prune group keep dry)) h = absurd h
-readers_formed (Plain (Group group)) h = absurd h
-readers_formed (Plain (Verify snapshot)) h = absurd h
-readers_formed (Plain (Sync group)) h = absurd h
-readers_formed (Plain Gc) h = absurd h
-readers_formed (Plain Bye) h = absurd h
-readers_formed (JobGroup command) h = absurd h
-readers_formed (Blob name checked) h = absurd h
-readers_formed (Chunk digest checked) h = absurd h
-readers_formed (ReadFile name offset) h = tt
-readers_formed (ReadChunk name entry) h = tt
-readers_formed (RemoteList command) h = absurd h
-readers_formed (RemoteFile snapshot name offset) h = absurd h
-readers_formed (RemoteChunk digest) h = absurd h
-readers_formed Start h = absurd h
-readers_formed Step h = absurd h
-readers_formed Short h = absurd h
-readers_formed End h = absurd h
-
-pub readers_step : (a : Act) → IsReaders a → class_of a ≡ stepping
-readers_step (Plain c) h = refl
-readers_step (JobGroup command) h = absurd h
-readers_step (Blob name checked) h = absurd h
-readers_step (Chunk digest checked) h = absurd h
-readers_step (ReadFile name offset) h = refl
-readers_step (ReadChunk name entry) h = refl
-readers_step (RemoteList command) h = absurd h
-readers_step (RemoteFile snapshot name offset) h = absurd h
-readers_step (RemoteChunk digest) h = absurd h
-readers_step Start h = absurd h
-readers_step Step h = absurd h
-readers_step Short h = absurd h
-readers_step End h = absurd h
-
--- they touch no chunk
-pub readers_untouching : (a : Act) → IsReaders a → may_touch a ≡ false
-readers_untouching (Plain (Append number entries)) h = absurd h
-readers_untouching (Chunk digest checked) h = absurd h
-readers_untouching a h = refl
 
 -- ---- the session that an OPEN_READER leaves
 
@@ -125,7 +63,7 @@ readers_refused d readings old new lane (ReadChunk name entry) answer refuses = 
 readers_refused d readings old new lane act answer refuses = tt
 
 -- by what stood on the disk as the act was begun
-read_done : {D E C : Type 0} (d : Ghosts D) (readings : C → Option Readings) (old mid acted new : Core D E C) (lane : ℕ) (at : Place) (wanted : Files → ByKept) (result : Result Reply Stop) (answer : Answer)
+read_done : {D E C : Type 0} (d : Ghosts D) (readings : C → Option Readings) (old mid acted new : Core D E C) (lane : ℕ) (at : Place) (wanted : Files → FromState) (result : Result Reply Stop) (answer : Answer)
     → IsAdmitted readings old mid lane at → ActReads d wanted mid.parts at result → Settles d acted new at.lane at.moment (told result) answer → CoreReads d wanted old lane answer
 read_done {D} d readings old mid acted new lane at wanted result answer admitted tells e honest =
     let before = ((admitted.ready).begun).parts in

@@ -11,6 +11,7 @@ use Rattle.store_types.specs.declared.refusal.ChunkFault.{ChunkFault}
 use Rattle.store_types.specs.declared.refusal.Refusal.{Refusal}
 use Rattle.store_types.specs.declared.refusal.Refusal.TheVariants.{Damaged, NoMemory, DiskFault, Halted}
 use Rattle.store_types.specs.Chain.Refusing.{◌>>=◌}
+use Rattle.store_types.specs.declared.order.TheConstants.{COMMAND_KIND, MEMORY_KIND, FAULT_KIND}
 use Rattle.wire_commands.specs.declared.reply.Reply.{Reply}
 use Rattle.wire_commands.specs.declared.reply.Reply.TheVariants.{Data, Refused}
 use Rattle.store_history.specs.declared.act.Answer.{Answer}
@@ -18,7 +19,7 @@ use Rattle.restore_reader.specs.declared.ranges.Part.{Part}
 use Rattle.restore_reader.specs.Cutting.{cut}
 use Rattle.core_state.specs.declared.parts.Parts.{Parts}
 use Rattle.core_state.specs.declared.state.Core.{Core}
-use Rattle.core_state.specs.Begins.{Refuses, short as is_short, halted as is_halted, IsReady}
+use Rattle.core_state.specs.Begins.{Refuses, short as is_out_of_memory, halted as is_halted, IsReady}
 use Rattle.core_state.specs.Settles.{Settles, kind_by, reply_by}
 use Rattle.core_state.specs.Stops.{Gives, IfRefused, told}
 use Rattle.core_state.specs.declared.stop.Stop.{Stop}
@@ -116,7 +117,7 @@ module _ {D : Type 0} (g : Ghosts D) (disk : D) (may : Digest32 → Type 0) (dam
   }
 
   -- it was not done
-  pub damages_stopped : (kind : ℕ) (reply : Option Reply) → IsUndamaged reply → (kind ≡ 0 → ⊥) → TellsDamaged g disk may damage kind reply
+  pub damages_stopped : (kind : ℕ) (reply : Option Reply) → IsUndamaged reply → (kind ≡ COMMAND_KIND → ⊥) → TellsDamaged g disk may damage kind reply
   damages_stopped kind reply other is = record {
     named = λ d f e. absurd (other d f e);
     cause = λ d f e h. absurd (other d f e);
@@ -230,11 +231,11 @@ module _ {D : Type 0} (g : Ghosts D) (disk : D) where
 -- an act that is refused before it is done
 pub damages_refused : {D E C : Type 0} (g : Ghosts D) (readings : C → Option Readings) (old new : Core D E C) (lane : ℕ) (disk : D) (may : Digest32 → Type 0) (damage : Files → Option (Digest32 × ChunkFault)) (answer : Answer)
     → Refuses g readings old new lane answer → TellsDamaged g disk may damage (answer.entry).kind answer.reply
-damages_refused g readings old new lane disk may damage answer (is_short is) =
-    let kind : (answer.entry).kind ≡ 2 = ap (λ x. x.kind) (is.entered).entry in
+damages_refused g readings old new lane disk may damage answer (is_out_of_memory is) =
+    let kind : (answer.entry).kind ≡ MEMORY_KIND = ap (λ x. x.kind) (is.entered).entry in
     damages_stopped g disk may damage _ answer.reply (λ d f e. memory_undamaged d f (sym (is.entered).reply_is ∙ e)) (λ k. absurd (omega (arith, k, kind)))
 damages_refused g readings old new lane disk may damage answer (is_halted is) =
-    let kind : (answer.entry).kind ≡ 5 = ap (λ x. x.kind) (is.entered).entry in
+    let kind : (answer.entry).kind ≡ FAULT_KIND = ap (λ x. x.kind) (is.entered).entry in
     damages_stopped g disk may damage _ answer.reply (λ d f e. halted_undamaged is.first d f (sym (is.entered).reply_is ∙ e)) (λ k. absurd (omega (arith, k, kind)))
 
 -- an act that was done, as its command tells

@@ -21,7 +21,7 @@ use Rattle.core_state.specs.declared.stop.Stop.TheVariants.{Refused, NoMemory, D
 use Rattle.core_state.specs.Replies.{reply_told}
 use Rattle.core_state.specs.Stops.{Gives, stop_by_read, told}
 use Rattle.core_state.specs.Wanted.{session_at}
-use Rattle.core_state.proofs.ByKept.{Stops, stopped}
+use Rattle.core_state.proofs.FromState.{Stops, stopped}
 use Rattle.core_reader.specs.AnsweredBy.{ActReads, chunk_told, part_told}
 use Rattle.core_reader.specs.Asked.{index_of, place_of}
 use Rattle.core_reader.specs.Chunks.{bytes_at}

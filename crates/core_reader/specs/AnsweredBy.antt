@@ -22,7 +22,7 @@ use Rattle.core_state.specs.declared.kept.Session.{Session}
 use Rattle.core_state.specs.declared.parts.Parts.{Parts}
 use Rattle.core_state.specs.declared.state.Core.{Core}
 use Rattle.core_state.specs.declared.stop.Stop.{Stop}
-use Rattle.core_state.specs.ByKept.{ActTells, ByKept, CoreTells}
+use Rattle.core_state.specs.FromState.{ActTells, FromState, CoreTells}
 use Rattle.core_state.specs.Closing.{is_reader}
 use Rattle.core_state.specs.Wanted.{session_at}
 use Rattle.core_reader.specs.Asked.{index_of, place_of, to_read}
@@ -55,7 +55,7 @@ pub record ActOpens {D : Type 0} (snapshot : List ℕ) (old new : Parts D) (at :
   pub opened : OnOk result (is_reader (session_at new at.lane) ≡ true)
 
 -- a read is answered by what stands on an honest disk, whatever it holds
-abbrev pub ActReads : {D : Type 0} → Ghosts D → (Files → ByKept) → Parts D → Place → Result Reply Stop → Type 0
+abbrev pub ActReads : {D : Type 0} → Ghosts D → (Files → FromState) → Parts D → Place → Result Reply Stop → Type 0
 ActReads d wanted old at result = d.honest old.disk → ActTells (wanted (d.content old.disk)) old at result
 
 -- so are these of the acts of readers
@@ -70,7 +70,7 @@ pub record CoreOpensBy {D E C : Type 0} (snapshot : List ℕ) (old new : Core D 
   pub answers : CoreTells (reader_told snapshot) old lane answer
   pub opened : CoreOpens new lane (Plain (OpenReader snapshot)) answer
 
-abbrev pub CoreReads : {D E C : Type 0} → Ghosts D → (Files → ByKept) → Core D E C → ℕ → Answer → Type 0
+abbrev pub CoreReads : {D E C : Type 0} → Ghosts D → (Files → FromState) → Core D E C → ℕ → Answer → Type 0
 CoreReads d wanted old lane answer = d.honest (old.parts).disk → CoreTells (wanted (d.content (old.parts).disk)) old lane answer
 
 abbrev pub CoreAnswersBy : {D E C : Type 0} → Ghosts D → Core D E C → Core D E C → ℕ → Act → Answer → Type 0

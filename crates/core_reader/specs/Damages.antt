@@ -11,6 +11,7 @@ use Rattle.store_files.specs.Folder.{chunk_name}
 use Rattle.snapshot_files.specs.Entry.{entry_at}
 use Rattle.store_types.specs.declared.refusal.Refusal.{Refusal}
 use Rattle.store_types.specs.declared.refusal.Refusal.TheVariants.{Damaged}
+use Rattle.store_types.specs.declared.order.TheConstants.{COMMAND_KIND}
 use Rattle.wire_commands.specs.declared.command.Command.TheVariants.{GetChunk, Range}
 use Rattle.wire_commands.specs.declared.reply.Reply.{Reply}
 use Rattle.wire_commands.specs.declared.reply.Reply.TheVariants.{Refused}
@@ -102,7 +103,7 @@ MayName act session catalogue digest = Contains (needed act session catalogue) d
 pub record TellsDamaged {D : Type 0} (d : Ghosts D) (disk : D) (may_name : Digest32 → Type 0) (damage : Files → Option (Digest32 × ChunkFault)) (kind : ℕ) (reply : Option Reply) : Type 0 where
   pub named : (digest : Digest32) (found : ChunkFault) → reply ≡ Some (Refused (Damaged digest found)) → may_name digest
   pub cause : (digest : Digest32) (found : ChunkFault) → reply ≡ Some (Refused (Damaged digest found)) → d.honest disk → damage (d.content disk) ≡ Some (digest, found)
-  pub damaged : (digest : Digest32) (found : ChunkFault) → kind ≡ 0 → d.honest disk → damage (d.content disk) ≡ Some (digest, found) → reply ≡ Some (Refused (Damaged digest found))
+  pub damaged : (digest : Digest32) (found : ChunkFault) → kind ≡ COMMAND_KIND → d.honest disk → damage (d.content disk) ≡ Some (digest, found) → reply ≡ Some (Refused (Damaged digest found))
 
 -- the same of an act, by how its command ended
 abbrev pub ActDamaged : {D : Type 0} → Ghosts D → Parts D → Place → Act → Result Reply Stop → Type 0

@@ -1,11 +1,11 @@
--- The acts of readers.
+-- What an OPEN_READER leaves, and the two of a RANGE.
 use Rattle.std.specs.Prelude.{◌≡◌, ℕ, true, List, Some, Result}
 use Rattle.disk_trait.specs.declared.disk.Disk.{Ghosts}
-use Rattle.wire_commands.specs.declared.command.Command.TheVariants.{OpenReader, Download, GetChunk, Range, CloseReader}
+use Rattle.wire_commands.specs.declared.command.Command.TheVariants.{OpenReader, Range}
 use Rattle.wire_commands.specs.declared.reply.Reply.{Reply}
 use Rattle.wire_commands.specs.declared.reply.Reply.TheVariants.{Done}
 use Rattle.store_history.specs.declared.act.Act.{Act}
-use Rattle.store_history.specs.declared.act.Act.TheVariants.{Plain, ReadFile, ReadChunk}
+use Rattle.store_history.specs.declared.act.Act.TheVariants.{Plain}
 use Rattle.store_history.specs.declared.act.Answer.{Answer}
 use Rattle.core_state.specs.Closing.{is_reader}
 use Rattle.core_state.specs.Wanted.{session_at}
@@ -14,16 +14,6 @@ use Rattle.core_state.specs.declared.parts.Parts.{Parts}
 use Rattle.core_state.specs.declared.state.Core.{Core}
 use Rattle.core_state.specs.declared.stop.Stop.{Stop}
 use Rattle.core_state.specs.Commands.{PlainDoes, PlainLeaves}
-
-abbrev pub IsReaders : Act → Type 0
-IsReaders (Plain (OpenReader snapshot)) = Unit {0}
-IsReaders (Plain (Download file offset)) = Unit {0}
-IsReaders (Plain (GetChunk digest)) = Unit {0}
-IsReaders (Plain (Range file offset len)) = Unit {0}
-IsReaders (Plain CloseReader) = Unit {0}
-IsReaders (ReadFile name offset) = Unit {0}
-IsReaders (ReadChunk name entry) = Unit {0}
-IsReaders _ = ⊥
 
 -- ---- the session that an OPEN_READER leaves
 

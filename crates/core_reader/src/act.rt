@@ -1,6 +1,7 @@
 //! A reader's act.
 
-ghost use Rattle.std.specs.Prelude.{◌<◌};
+ghost use Rattle.std.specs.Prelude.{◌≡◌, ◌<◌};
+ghost use Rattle.store_history.specs.Acts.{family_of};
 ghost use Rattle.core_state.specs.Applies.{ActApplies, ActKeeps};
 ghost use Rattle.core_state.specs.Commands.{ActDoes, ActLeaves};
 ghost use Rattle.core_state.specs.Reserved.{HasRoom};
@@ -8,7 +9,6 @@ ghost use Rattle.core_state.specs.Unreadables.{ActUnreadable, CoreUnreadable};
 ghost use Rattle.core_reader.specs.AnsweredBy.{ActAnswersBy, CoreAnswersBy};
 ghost use Rattle.core_reader.specs.Asked.{asked_file};
 ghost use Rattle.core_reader.specs.Damages.{ActDamaged, CoreDamaged};
-ghost use Rattle.core_reader.specs.ReaderActs.{IsReaders};
 
 use crate::chunks::get_chunk;
 use crate::closing::close_reader;
@@ -16,7 +16,7 @@ use crate::downloading::download;
 use crate::opening::open_reader;
 use crate::ranges::range;
 use crate::reading::{read_chunk, read_file};
-use core_state::{Act, Admitted, Answer, Core, Parts, Place, Stop, begin, settle};
+use core_state::{Act, Admitted, Answer, Core, Family, Parts, Place, Stop, begin, settle};
 use disk_trait::Disk;
 use port_traits::Clock;
 use std::alloc::Global;
@@ -24,10 +24,10 @@ use wire_commands::{Command, Reply};
 
 fn perform<D: Disk>(parts: &mut Parts<D>, alloc: Global, at: Place, act: Act) -> Result<Reply, Stop>
     requires lane { at.lane < 64 }
-    requires kind { IsReaders act }
+    requires kind { family_of act ≡ Family.Reads }
     ensures does { ActDoes D.Disk parts.old parts.new at act result }
     ensures leaves { ActLeaves D.Disk parts.old parts.new at act result }
-    ensures by_kept { ActAnswersBy D.Disk parts.old parts.new at act result }
+    ensures from_state { ActAnswersBy D.Disk parts.old parts.new at act result }
     ensures unreadable { ActUnreadable D.Disk (asked_file act) parts.old at result }
     ensures damaged { ActDamaged D.Disk parts.old at act result }
 {
@@ -62,12 +62,12 @@ pub fn reader_act<D: Disk, E, C: Clock>(
 ) -> Answer
     requires lane { lane < 64 }
     requires room { HasRoom core.old lane }
-    requires kind { IsReaders act }
+    requires kind { family_of act ≡ Family.Reads }
     ensures applies { ActApplies D.Disk C.Clock core.old core.new lane act result }
     ensures keeps { ActKeeps D.Disk core.old core.new lane act result }
     // on any disk OPEN_READER answers what the core keeps, and once it is done the lane has a reader; a VERIFY's
     // reads answer, on an honest one, what stands there
-    ensures by_kept { CoreAnswersBy D.Disk core.old core.new lane act result }
+    ensures from_state { CoreAnswersBy D.Disk core.old core.new lane act result }
     ensures unreadable { CoreUnreadable D.Disk (asked_file act) core.old lane result }
     ensures damaged { CoreDamaged D.Disk core.old lane act result }
 {

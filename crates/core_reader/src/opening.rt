@@ -28,7 +28,7 @@ pub fn open_reader<D: Disk>(
     ensures does { PlainDoes D.Disk parts.old parts.new at (OpenReader snapshot.now) result }
     ensures leaves { PlainLeaves D.Disk parts.old parts.new at (OpenReader snapshot.now) result }
     // on any disk; once it is done, the lane has a reader
-    ensures by_kept { ActOpens snapshot.now parts.old parts.new at result }
+    ensures from_state { ActOpens snapshot.now parts.old parts.new at result }
     // it is told as damaged exactly where it is, on an honest disk
     ensures unreadable { ActUnreadable D.Disk (asked_open snapshot.now) parts.old at result }
 {

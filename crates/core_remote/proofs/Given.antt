@@ -20,7 +20,6 @@ use Rattle.store_types.proofs.OrderLaws.{same_keys}
 use Rattle.blob_codec.specs.Blob.{blob}
 use Rattle.store_files.specs.Archive.{Content, File, Snapshot, archive, blob as blob_of, file_named, file_text, piece_with, pieces_of}
 use Rattle.store_files.specs.Folder.{IsPiece, chunk_name, file_path}
-use Rattle.wire_commands.specs.declared.command.Command.TheVariants.{Sync}
 use Rattle.wire_commands.specs.declared.reply.Reply.{Reply}
 use Rattle.wire_commands.specs.declared.reply.Reply.TheVariants.{Data, Keys, Refused}
 use Rattle.store_model.specs.AdminSteps.{group_texts}
@@ -35,11 +34,13 @@ use Rattle.snapshot_files.specs.Grouped.{GroupKeys, is_in, keys_ascend}
 use Rattle.snapshot_files.specs.Parts.{part_at, part_from}
 use Rattle.snapshot_files.proofs.Rising.{one_list, rises, rises_filter}
 use Rattle.store_history.specs.declared.act.Act.{Act}
-use Rattle.store_history.specs.declared.act.Act.TheVariants.{RemoteChunk, RemoteFile, RemoteList}
+use Rattle.store_history.specs.declared.act.Family.TheVariants.{Reaches}
+use Rattle.store_history.specs.Acts.{IsWellFormed, family_of}
 use Rattle.store_history.specs.Remote.{Reads, ReadsIn, part_told, piece_in, snapshot_in, text_in, text_named}
 use Rattle.core_state.specs.Remotes.{ShowsRemote}
 use Rattle.core_state.specs.Replies.{reply_told}
-use Rattle.core_remote.specs.RemoteActs.{GivesFrom, GivesRemote, IsRemotes, blob_told, texts_of}
+use Rattle.core_remote.specs.RemoteActs.{GivesFrom, GivesRemote, blob_told, texts_of}
+use Rattle.core_remote.proofs.RemoteLemmas.{by_read}
 
 -- ---- a group's snapshots
 
@@ -193,19 +194,18 @@ module _ (m : Files) (snapshots : List Snapshot) (stands : StandsFor m snapshots
 
   -- ---- any read
 
-  reads_are : (act : Act) (reply : Reply) → IsRemotes act → GivesFrom m act reply → Reads snapshots act (Some reply)
-  reads_are (RemoteList (Sync group)) reply is gives = by_group (group_of group) gives
-    where
-      by_group : (o : Option GroupKey) → IfSome o (λ g. (keys : List SnapshotKey) × GroupKeys m g keys × (reply ≡ Keys (texts_of keys))) → IfSome o (λ g. Some reply ≡ Some (Keys (group_texts g snapshots)))
-      by_group None gives = tt
-      by_group (Some g) (keys, has, is) = ap (λ r. Some r) (is ∙ ap (λ ks. Keys (map key_text (take group_limit ks))) (group_is g keys has))
-  reads_are (RemoteFile snapshot name offset) reply is gives = (refl, file_is snapshot name offset reply gives)
-  reads_are (RemoteChunk digest) reply is gives = (refl, chunk_is digest reply gives)
-  reads_are act reply is gives = absurd is
+  by_group : (reply : Reply) (o : Option GroupKey) → IfSome o (λ g. (keys : List SnapshotKey) × GroupKeys m g keys × (reply ≡ Keys (texts_of keys))) → IfSome o (λ g. Some reply ≡ Some (Keys (group_texts g snapshots)))
+  by_group reply None gives = tt
+  by_group reply (Some g) (keys, has, is) = ap (λ r. Some r) (is ∙ ap (λ ks. Keys (map key_text (take group_limit ks))) (group_is g keys has))
+
+  reads_are : (reply : Reply) (act : Act) → family_of act ≡ Reaches → IsWellFormed act → GivesFrom m act reply → Reads snapshots act (Some reply)
+  reads_are reply =
+      by_read (λ act. GivesFrom m act reply → Reads snapshots act (Some reply)) (λ group. by_group reply (group_of group))
+      (λ snapshot name offset named gives. (refl, file_is snapshot name offset reply gives)) (λ digest gives. (refl, chunk_is digest reply gives))
 
 -- of a remote that stands for what the history's has
-pub given_right : {E : Type 0} (e : Ghosts E) (remote : Option E) (R : Option (List Snapshot)) (act : Act) (reply : Reply) → IsRemotes act → ShowsRemote e remote R → GivesRemote e remote act (Ok reply) → ReadsIn R act (Some reply)
-given_right e None None act reply is shown gives = tt
-given_right e (Some r) (Some snapshots) act reply is shown gives = reads_are (e.content r) snapshots shown.1 act reply is (gives shown.0)
-given_right e (Some r) None act reply is shown gives = absurd shown
-given_right e None (Some snapshots) act reply is shown gives = absurd shown
+pub given_right : {E : Type 0} (e : Ghosts E) (remote : Option E) (R : Option (List Snapshot)) (act : Act) (reply : Reply) → family_of act ≡ Reaches → IsWellFormed act → ShowsRemote e remote R → GivesRemote e remote act (Ok reply) → ReadsIn R act (Some reply)
+given_right e None None act reply is formed shown gives = tt
+given_right e (Some r) (Some snapshots) act reply is formed shown gives = reads_are (e.content r) snapshots shown.1 reply act is formed (gives shown.0)
+given_right e (Some r) None act reply is formed shown gives = absurd shown
+given_right e None (Some snapshots) act reply is formed shown gives = absurd shown

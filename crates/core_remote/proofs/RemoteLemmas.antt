@@ -2,44 +2,52 @@
 use Rattle.std.proofs.Common.{◌≡◌, ◌<◌, ℕ, Bool, true, false, is_some, List, filter, take, Option, None, Some, IfOk, IsSome, IsTrue, MatchResult, Result, Ok, Err, refl, sym, ap, ◌∙◌}
 use Rattle.std.specs.List.{last_or}
 use Rattle.store_types.specs.Chain.Refusing.{◌>>=◌, or_else, unless}
-use Rattle.store_types.specs.Names.{group_of}
+use Rattle.store_types.specs.Names.{group_of, key_of}
+use Rattle.store_types.specs.declared.names.Digest32.{Digest32}
+use Rattle.store_types.specs.declared.names.FileName.{FileName}
 use Rattle.store_types.specs.declared.names.GroupKey.{GroupKey}
 use Rattle.store_types.specs.declared.refusal.Refusal.{Refusal}
 use Rattle.store_types.specs.declared.refusal.Refusal.TheVariants as refusals
 use Rattle.store_types.specs.declared.refusal.Refusal.TheVariants.{BadName, NoRemote}
 use Rattle.store_types.specs.declared.refusal.SessionState.TheVariants as states
 use Rattle.store_files.specs.Archive.{Snapshot}
+use Rattle.wire_commands.specs.declared.command.Command.{Command}
 use Rattle.wire_commands.specs.declared.command.Command.TheVariants.{Sync}
 use Rattle.wire_commands.specs.declared.reply.Reply.{Reply}
 use Rattle.wire_commands.specs.declared.reply.Reply.TheVariants as replies
 use Rattle.wire_commands.specs.HasText.{ReplyHasText}
 use Rattle.store_model.specs.Store as model
+use Rattle.store_model.specs.Jobs.{IsSync}
 use Rattle.store_model.specs.Stands.{group_limit}
 use Rattle.store_model.specs.Store.{Store, session, in_group, keys_in}
 use Rattle.store_model.specs.SyncJob.{is_later, to_pull}
 use Rattle.store_history.specs.declared.act.Act.{Act}
 use Rattle.store_history.specs.declared.act.Act.TheVariants.{RemoteChunk, RemoteFile, RemoteList}
-use Rattle.store_history.specs.Acts.{IsWellFormed}
+use Rattle.store_history.specs.declared.act.Family.TheVariants.{Reaches}
+use Rattle.store_history.specs.Acts.{IsWellFormed, family_of}
 use Rattle.store_history.specs.Remote as rules
+use Rattle.store_history.proofs.Families.{by_remote}
 use Rattle.core_state.specs.declared.kept.Session.{Session}
 use Rattle.core_state.specs.declared.kept.Session.TheVariants.{Idle, Reader, Writer}
 use Rattle.core_state.specs.declared.parts.Parts.{Parts}
 use Rattle.core_state.specs.declared.stop.RemoteStop.{RemoteStop}
 use Rattle.core_state.specs.declared.stop.RemoteStop.TheVariants as stops
-use Rattle.core_state.specs.Commands.{is_remotes}
 use Rattle.core_state.specs.Holds.{Shows}
 use Rattle.core_state.specs.Replies.{may_answer, may_give, refuses_sync}
 use Rattle.core_state.specs.Shown.{shown_session}
 use Rattle.core_state.specs.Wanted.{session_at, want_idle}
 use Rattle.core_state.proofs.Commanding.{session_shown}
 use Rattle.core_state.proofs.RemoteReads.{GivesFit}
-use Rattle.core_remote.specs.RemoteActs.{EndsBy, HasName, IsRemotes, StopHasText, read_told}
+use Rattle.core_remote.specs.RemoteActs.{EndsBy, HasName, StopHasText, read_told}
 
-pub are_remotes : (act : Act) → IsRemotes act → is_remotes act ≡ true
-are_remotes (RemoteList (Sync group)) is = refl
-are_remotes (RemoteFile snapshot name offset) is = refl
-are_remotes (RemoteChunk digest) is = refl
-are_remotes act is = absurd is
+-- the well-formed ones, one by one
+pub by_read : (P : Act → Type 0) → ((group : List ℕ) → P (RemoteList (Sync group))) → ((snapshot : List ℕ) (name : FileName) (offset : ℕ) → IsSome (key_of snapshot) → P (RemoteFile snapshot name offset))
+    → ((digest : Digest32) → P (RemoteChunk digest)) → (act : Act) → family_of act ≡ Reaches → IsWellFormed act → P act
+by_read P list file chunk = by_remote (λ act. IsWellFormed act → P act) by_command file (λ digest formed. chunk digest)
+  where
+    by_command : (c : Command) → IsSync c → P (RemoteList c)
+    by_command (Sync group) formed = list group
+    by_command c formed = absurd formed
 
 abbrev done : Result (Unit {0}) Refusal
 done = Ok tt
@@ -70,16 +78,15 @@ there_same None = refl
 there_same (Some snapshots) = refl
 
 -- a core that shows the store, and has a remote where it is given one, tells what the plain store tells
-pub told_same : {D : Type 0} (parts : Parts D) (s : Store) (k : ℕ) (act : Act) (R : Option (List Snapshot)) → IsRemotes act → Shows parts s → k < 64
-    → rules.may_read R s k act ≡ read_told act (is_some R) (session_at parts k)
+pub told_same : {D : Type 0} (parts : Parts D) (s : Store) (k : ℕ) (R : Option (List Snapshot)) → Shows parts s → k < 64
+    → (act : Act) → family_of act ≡ Reaches → IsWellFormed act → rules.may_read R s k act ≡ read_told act (is_some R) (session_at parts k)
 unfolding to_pull
-told_same parts s k (RemoteList (Sync group)) R is shows lt =
+told_same parts s k R shows lt =
     let idle : want_idle (session_at parts k) ≡ model.want_idle (session s k) = ap want_idle (session_shown parts s k shows lt) ∙ idle_same s.snapshots (session s k) in
-    pulled_same (later_in s) (model.want_idle (session s k)) (group_of group) R
-    ∙ ap (λ i. (i >>= λ _. or_else BadName (group_of group) >>= λ _. done) >>= λ _. unless NoRemote (is_some R)) (sym idle)
-told_same parts s k (RemoteFile snapshot name offset) R is shows lt = there_same R
-told_same parts s k (RemoteChunk digest) R is shows lt = there_same R
-told_same parts s k act R is shows lt = absurd is
+    by_read (λ act. rules.may_read R s k act ≡ read_told act (is_some R) (session_at parts k))
+    (λ group. pulled_same (later_in s) (model.want_idle (session s k)) (group_of group) R
+    ∙ ap (λ i. (i >>= λ _. or_else BadName (group_of group) >>= λ _. done) >>= λ _. unless NoRemote (is_some R)) (sym idle))
+    (λ snapshot name offset formed. there_same R) (λ digest. there_same R)
 
 -- ---- it is one of the act's refusals
 
@@ -106,53 +113,48 @@ begun_refuses group has x r is = by_session x is
     by_session (Writer w) e = ap refuses_sync (sym (error_same (refusals.WrongState states.Writer) r e))
     by_session (Reader w) e = ap refuses_sync (sym (error_same (refusals.WrongState states.Reader) r e))
 
-refuses_by : (act : Act) (has : Bool) (x : Session) (r : Refusal) → IsRemotes act → read_told act has x ≡ Err r → may_answer act (replies.Refused r) ≡ true
-refuses_by (RemoteList (Sync group)) has x r is told = begun_refuses group has x r told
-refuses_by (RemoteFile snapshot name offset) has x r is told = unread (RemoteFile snapshot name offset) r has refl told
-refuses_by (RemoteChunk digest) has x r is told = unread (RemoteChunk digest) r has refl told
-refuses_by act has x r is told = absurd is
+refuses_by : (has : Bool) (x : Session) (r : Refusal) (act : Act) → family_of act ≡ Reaches → IsWellFormed act → read_told act has x ≡ Err r → may_answer act (replies.Refused r) ≡ true
+refuses_by has x r =
+    by_read (λ act. read_told act has x ≡ Err r → may_answer act (replies.Refused r) ≡ true) (λ group. begun_refuses group has x r)
+    (λ snapshot name offset formed. unread (RemoteFile snapshot name offset) r has refl) (λ digest. unread (RemoteChunk digest) r has refl)
 
 -- ---- whether it is read
 
 -- where it is, what it names is there to be named
-pub has_name : (act : Act) (has : Bool) (x : Session) → IsRemotes act → IsWellFormed act → read_told act has x ≡ done → HasName act
-has_name (RemoteList (Sync group)) has x is formed told = by_session x told
+pub has_name : (has : Bool) (x : Session) (act : Act) → family_of act ≡ Reaches → IsWellFormed act → read_told act has x ≡ done → HasName act
+has_name has x =
+    by_read (λ act. read_told act has x ≡ done → HasName act) (λ group. by_session group x) (λ snapshot name offset named told. named) (λ digest told. tt)
   where
     by_group : (o : Option GroupKey) → ((or_else BadName o >>= λ _. done) >>= λ _. unless NoRemote has) ≡ done → IsSome o
     by_group None e = cc
     by_group (Some g) e = refl
 
-    by_session : (y : Session) → ((want_idle y >>= λ _. or_else BadName (group_of group) >>= λ _. done) >>= λ _. unless NoRemote has) ≡ done → IsSome (group_of group)
-    by_session Idle e = by_group (group_of group) e
-    by_session (Writer w) e = cc
-    by_session (Reader w) e = cc
-has_name (RemoteFile snapshot name offset) has x is formed told = formed
-has_name (RemoteChunk digest) has x is formed told = tt
-has_name act has x is formed told = absurd is
+    by_session : (group : List ℕ) (y : Session) → ((want_idle y >>= λ _. or_else BadName (group_of group) >>= λ _. done) >>= λ _. unless NoRemote has) ≡ done → IsSome (group_of group)
+    by_session group Idle e = by_group (group_of group) e
+    by_session group (Writer w) e = cc
+    by_session group (Reader w) e = cc
 
 unless_there : (has : Bool) → unless NoRemote has ≡ done → has ≡ true
 unless_there true e = refl
 unless_there false e = cc
 
 -- and there is a remote
-pub has_remote : (act : Act) (has : Bool) (x : Session) → IsRemotes act → read_told act has x ≡ done → has ≡ true
-has_remote (RemoteList (Sync group)) has x is told = by_session x told
+pub has_remote : (has : Bool) (x : Session) (act : Act) → family_of act ≡ Reaches → IsWellFormed act → read_told act has x ≡ done → has ≡ true
+has_remote has x =
+    by_read (λ act. read_told act has x ≡ done → has ≡ true) (λ group. by_session group x) (λ snapshot name offset named. unless_there has) (λ digest. unless_there has)
   where
     by_group : (o : Option GroupKey) → ((or_else BadName o >>= λ _. done) >>= λ _. unless NoRemote has) ≡ done → has ≡ true
     by_group None e = cc
     by_group (Some g) e = unless_there has e
 
-    by_session : (y : Session) → ((want_idle y >>= λ _. or_else BadName (group_of group) >>= λ _. done) >>= λ _. unless NoRemote has) ≡ done → has ≡ true
-    by_session Idle e = by_group (group_of group) e
-    by_session (Writer w) e = cc
-    by_session (Reader w) e = cc
-has_remote (RemoteFile snapshot name offset) has x is told = unless_there has told
-has_remote (RemoteChunk digest) has x is told = unless_there has told
-has_remote act has x is told = absurd is
+    by_session : (group : List ℕ) (y : Session) → ((want_idle y >>= λ _. or_else BadName (group_of group) >>= λ _. done) >>= λ _. unless NoRemote has) ≡ done → has ≡ true
+    by_session group Idle e = by_group (group_of group) e
+    by_session group (Writer w) e = cc
+    by_session group (Reader w) e = cc
 
-pub ends_fit : (act : Act) (has : Bool) (x : Session) (ended : Result Reply RemoteStop) → IsRemotes act → EndsBy (read_told act has x) ended → IfOk ended (λ reply. IsTrue (may_give act reply)) → MatchResult ended ReplyHasText StopHasText
+pub ends_fit : (act : Act) (has : Bool) (x : Session) (ended : Result Reply RemoteStop) → family_of act ≡ Reaches → IsWellFormed act → EndsBy (read_told act has x) ended → IfOk ended (λ reply. IsTrue (may_give act reply)) → MatchResult ended ReplyHasText StopHasText
     → GivesFit act ended
-ends_fit act has x (Ok reply) is told kind text = (kind, text)
-ends_fit act has x (Err (stops.Refused r)) is told kind text = (refuses_by act has x r is told, text)
-ends_fit act has x (Err stops.NoMemory) is told kind text = tt
-ends_fit act has x (Err stops.Failed) is told kind text = tt
+ends_fit act has x (Ok reply) is formed told kind text = (kind, text)
+ends_fit act has x (Err (stops.Refused r)) is formed told kind text = (refuses_by has x r act is formed told, text)
+ends_fit act has x (Err stops.NoMemory) is formed told kind text = tt
+ends_fit act has x (Err stops.Failed) is formed told kind text = tt

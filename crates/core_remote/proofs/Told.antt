@@ -1,12 +1,14 @@
 -- How a read of the remote that was begun ends, as it is entered.
 use Rattle.std.proofs.Common.{◌≡◌, ◌<◌, ◌⊎◌, ⊎_elim, inl, inr, ℕ, false, is_some, Option, None, Some, IfSome, IfOk, IsTrue, MatchResult, Result, Ok, Err, refl, sym, ap, subst, ◌∙◌, arith}
+use Rattle.store_types.specs.declared.order.TheConstants.{PART_KIND, MEMORY_KIND, FAULT_KIND, REMOTE_FAULT_KIND}
 use Rattle.disk_trait.specs.declared.disk.Disk.{Ghosts}
 use Rattle.port_traits.specs.declared.clock.Clock as clocks
 use Rattle.wire_commands.specs.declared.reply.Reply.{Reply}
 use Rattle.wire_commands.specs.HasText.{ReplyHasText}
 use Rattle.store_history.specs.declared.act.Act.{Act}
 use Rattle.store_history.specs.declared.act.Answer.{Answer}
-use Rattle.store_history.specs.Acts.{IsWellFormed}
+use Rattle.store_history.specs.declared.act.Family.TheVariants.{Reaches}
+use Rattle.store_history.specs.Acts.{IsWellFormed, family_of}
 use Rattle.store_history.specs.Remote as rules
 use Rattle.core_state.specs.declared.entering.Admitted.TheVariants.{Answered, At}
 use Rattle.core_state.specs.declared.entering.Place.{Place}
@@ -23,9 +25,9 @@ use Rattle.core_state.specs.Wanted.{session_at}
 use Rattle.core_state.proofs.Applying.{refused_remote}
 use Rattle.core_state.proofs.RemoteLemmas.{stays_there}
 use Rattle.core_state.proofs.RemoteReads.{FailsWhere, GivesRight, read_alone, read_applies, read_keeps, refused, unread_alone, unread_applies, unread_keeps}
-use Rattle.core_remote.specs.RemoteActs.{FailsBy, GivesFrom, GivesRemote, IsRemotes, IsTested, RemoteGives, RemoteTells, StopHasText, TellsEnd, UnreadWhere, read_told}
+use Rattle.core_remote.specs.RemoteActs.{FailsBy, GivesFrom, GivesRemote, IsTested, RemoteGives, RemoteTells, StopHasText, TellsEnd, UnreadWhere, read_told}
 use Rattle.core_remote.proofs.Given.{given_right}
-use Rattle.core_remote.proofs.RemoteLemmas.{are_remotes, ends_fit, told_same}
+use Rattle.core_remote.proofs.RemoteLemmas.{ends_fit, told_same}
 
 -- what holds, holds in any case
 in_any : {A P : Type 0} (o : Option A) → P → IfSome o (λ _. P)
@@ -37,26 +39,26 @@ pub gives_none : {E : Type 0} (e : Ghosts E) (remote : Option E) (act : Act) (st
 gives_none e None act stop = tt
 gives_none e (Some r) act stop = λ h. tt
 
-module _ {D E C : Type 0} (d : Ghosts D) (e : Ghosts E) (clock : clocks.Ghosts C) (old new : Core D E C) (k : ℕ) (act : Act) (answer : Answer) (is : IsRemotes act) where
+module _ {D E C : Type 0} (d : Ghosts D) (e : Ghosts E) (clock : clocks.Ghosts C) (old new : Core D E C) (k : ℕ) (act : Act) (answer : Answer) (is : family_of act ≡ Reaches) where
   -- ---- refused before it is begun
 
   module _ (refuses : Refuses d clock.readings old new k answer) where
     pub refused_keeps : ActKeeps d old new k act answer
-    refused_keeps = unread_keeps d e clock old new k act (are_remotes act is) answer refuses
+    refused_keeps = unread_keeps d e clock old new k act is answer refuses
 
     pub refused_applies : k < 64 → IsWellFormed act → AdmittedHasText (Answered answer) → CoreApplies d e clock old new k act answer
-    refused_applies lt formed text = unread_applies d e clock old new k act (are_remotes act is) answer refuses lt formed text
+    refused_applies lt formed text = unread_applies d e clock old new k act is answer refuses lt formed text
 
     pub refused_alone : k < 64 → IsWellFormed act → AdmittedHasText (Answered answer) → ActApplies d clock old new k act answer
-    refused_alone lt formed text = unread_alone d e clock old new k act (are_remotes act is) answer refuses lt formed text
+    refused_alone lt formed text = unread_alone d e clock old new k act is answer refuses lt formed text
 
-    other_kinds : Refuses d clock.readings old new k answer → ((answer.entry).kind ≡ 2) ⊎ ((answer.entry).kind ≡ 5)
+    other_kinds : Refuses d clock.readings old new k answer → ((answer.entry).kind ≡ MEMORY_KIND) ⊎ ((answer.entry).kind ≡ FAULT_KIND)
     other_kinds (short s) = inl (ap (λ x. x.kind) (s.entered).entry)
     other_kinds (halted s) = inr (ap (λ x. x.kind) (s.entered).entry)
 
     no_kind : (n : ℕ) → (n ≡ 2 → ⊥) → (n ≡ 5 → ⊥) → (answer.entry).kind ≡ n → ⊥
     no_kind n two five at =
-        ⊎_elim (λ (x : (answer.entry).kind ≡ 2). two (sym at ∙ x)) (λ (x : (answer.entry).kind ≡ 5). five (sym at ∙ x)) (other_kinds refuses)
+        ⊎_elim (λ (x : (answer.entry).kind ≡ MEMORY_KIND). two (sym at ∙ x)) (λ (x : (answer.entry).kind ≡ FAULT_KIND). five (sym at ∙ x)) (other_kinds refuses)
 
     not_called : new.remote ≡ old.remote
     not_called = refused_remote d clock old new k answer refuses
@@ -64,8 +66,8 @@ module _ {D E C : Type 0} (d : Ghosts D) (e : Ghosts E) (clock : clocks.Ghosts C
     pub refused_tells : RemoteTells old new k act answer
     refused_tells = record {
       refused = λ zero. absurd (no_kind 0 (λ x. absurd (omega (arith, x))) (λ x. absurd (omega (arith, x))) zero);
-      reads = λ at. ⊎_elim (λ (one : (answer.entry).kind ≡ 1). absurd (no_kind 1 (λ x. absurd (omega (arith, x))) (λ x. absurd (omega (arith, x))) one))
-          (λ (seven : (answer.entry).kind ≡ 7). absurd (no_kind 7 (λ x. absurd (omega (arith, x))) (λ x. absurd (omega (arith, x))) seven)) at;
+      reads = λ at. ⊎_elim (λ (one : (answer.entry).kind ≡ PART_KIND). absurd (no_kind 1 (λ x. absurd (omega (arith, x))) (λ x. absurd (omega (arith, x))) one))
+          (λ (seven : (answer.entry).kind ≡ REMOTE_FAULT_KIND). absurd (no_kind 7 (λ x. absurd (omega (arith, x))) (λ x. absurd (omega (arith, x))) seven)) at;
       unread = λ _ _. not_called;
       halted = in_any old.fault not_called;
       tested = λ one. absurd (no_kind 1 (λ x. absurd (omega (arith, x))) (λ x. absurd (omega (arith, x))) one);
@@ -89,7 +91,7 @@ module _ {D E C : Type 0} (d : Ghosts D) (e : Ghosts E) (clock : clocks.Ghosts C
     -- and of a history
     of_history : (h : History) → StandsFor d clock.readings old h → rules.may_read h.remote (world h).store k act ≡ read_told act (is_some mid.remote) (session_at mid.parts k)
     of_history h s =
-        told_same old.parts (world h).store k act h.remote is s.shows lt ∙ ap (λ t. read_told act t (session_at old.parts k)) (sym s.remote) ∙ sym before
+        told_same old.parts (world h).store k h.remote s.shows lt act is formed ∙ ap (λ t. read_told act t (session_at old.parts k)) (sym s.remote) ∙ sym before
 
     settles : SettlesRead d (record mid { remote = remote }) new k at.moment ended answer
     settles = subst (λ n. SettlesRead d (record mid { remote = remote }) new n at.moment ended answer) admitted.lane_is settled
@@ -105,7 +107,7 @@ module _ {D E C : Type 0} (d : Ghosts D) (e : Ghosts E) (clock : clocks.Ghosts C
     handed (Err stops.Failed) tells zero = absurd (omega (arith, zero))
 
     pub done_keeps : ActKeeps d old new k act answer
-    done_keeps = read_keeps d e clock old mid new k at.moment act (are_remotes act is) remote ended answer lt formed admitted.ready filled settles (handed ended tells)
+    done_keeps = read_keeps d e clock old mid new k at.moment act is remote ended answer lt formed admitted.ready filled settles (handed ended tells)
 
     fails_by : (r : Result Reply RemoteStop) → FailsBy e mid.remote remote r → FailsWhere e mid.remote remote r
     fails_by (Ok reply) failed = tt
@@ -118,15 +120,15 @@ module _ {D E C : Type 0} (d : Ghosts D) (e : Ghosts E) (clock : clocks.Ghosts C
     was r gives = subst (λ (x : Option E). GivesRemote e x act r) ((admitted.ready).begun).remote gives
 
     right_by : (r : Result Reply RemoteStop) → TellsEnd mid.parts mid.remote k act r → GivesRemote e mid.remote act r → (h : History) → StandsFor d clock.readings old h → ShowsRemote e old.remote h.remote → GivesRight h k act r
-    right_by (Ok reply) tells gives h s shown = (of_history h s ∙ tells, given_right e old.remote h.remote act reply is shown (was (Ok reply) gives))
+    right_by (Ok reply) tells gives h s shown = (of_history h s ∙ tells, given_right e old.remote h.remote act reply is formed shown (was (Ok reply) gives))
     right_by (Err (stops.Refused r)) tells gives h s shown = of_history h s ∙ tells
     right_by (Err stops.NoMemory) tells gives h s shown = tt
     right_by (Err stops.Failed) tells gives h s shown = of_history h s ∙ tells
 
     pub done_applies : CoreApplies d e clock old new k act answer
     done_applies =
-        read_applies d e clock old mid new k at.moment act (are_remotes act is) remote ended answer lt formed admitted.ready filled settles (handed ended tells)
-        (ends_fit act (is_some mid.remote) (session_at mid.parts k) ended is tells kind text) stays (stays_there e mid.remote remote stays) (fails_by ended failed) (right_by ended tells gives)
+        read_applies d e clock old mid new k at.moment act is remote ended answer lt formed admitted.ready filled settles (handed ended tells)
+        (ends_fit act (is_some mid.remote) (session_at mid.parts k) ended is formed tells kind text) stays (stays_there e mid.remote remote stays) (fails_by ended failed) (right_by ended tells gives)
 
     -- a refusal by its tests is that of each history, whatever the remote is
     refused_right : (r : Result Reply RemoteStop) → TellsEnd mid.parts mid.remote k act r → kind_by r ≡ 0 → (h : History) → StandsFor d clock.readings old h → GivesRight h k act r
@@ -137,20 +139,20 @@ module _ {D E C : Type 0} (d : Ghosts D) (e : Ghosts E) (clock : clocks.Ghosts C
 
     pub done_alone : reads_remote act answer ≡ false → ActApplies d clock old new k act answer
     done_alone alone =
-        read_alone d e clock old mid new k at.moment act (are_remotes act is) remote ended answer lt formed admitted.ready filled settles (handed ended tells) done_applies
+        read_alone d e clock old mid new k at.moment act is remote ended answer lt formed admitted.ready filled settles (handed ended tells) done_applies
         (stays_there e mid.remote remote stays)
-        (refused_right ended tells (refused d e clock old mid new k at.moment act (are_remotes act is) remote ended answer lt formed admitted.ready filled settles (handed ended tells) alone))
+        (refused_right ended tells (refused d e clock old mid new k at.moment act is remote ended answer lt formed admitted.ready filled settles (handed ended tells) alone))
 
-    not_read : (n : ℕ) → (answer.entry).kind ≡ n → (n ≡ 1 → ⊥) → (n ≡ 7 → ⊥) → ((answer.entry).kind ≡ 1) ⊎ ((answer.entry).kind ≡ 7) → ⊥
-    not_read n kind one seven at = ⊎_elim (λ (x : (answer.entry).kind ≡ 1). one (sym kind ∙ x)) (λ (x : (answer.entry).kind ≡ 7). seven (sym kind ∙ x)) at
+    not_read : (n : ℕ) → (answer.entry).kind ≡ n → (n ≡ 1 → ⊥) → (n ≡ 7 → ⊥) → ((answer.entry).kind ≡ PART_KIND) ⊎ ((answer.entry).kind ≡ REMOTE_FAULT_KIND) → ⊥
+    not_read n kind one seven at = ⊎_elim (λ (x : (answer.entry).kind ≡ PART_KIND). one (sym kind ∙ x)) (λ (x : (answer.entry).kind ≡ REMOTE_FAULT_KIND). seven (sym kind ∙ x)) at
 
-    tested_by : (r : Result Reply RemoteStop) → IfOk r (IsTested act) → (answer.entry).kind ≡ kind_by r → answer.reply ≡ Some (reply_by r) → (answer.entry).kind ≡ 1 → IfSome answer.reply (IsTested act)
+    tested_by : (r : Result Reply RemoteStop) → IfOk r (IsTested act) → (answer.entry).kind ≡ kind_by r → answer.reply ≡ Some (reply_by r) → (answer.entry).kind ≡ PART_KIND → IfSome answer.reply (IsTested act)
     tested_by (Ok reply) tests kind told one = subst (λ (x : Option Reply). IfSome x (IsTested act)) (sym told) tests
     tested_by (Err (stops.Refused r)) tests kind told one = absurd (omega (arith, kind, one))
     tested_by (Err stops.NoMemory) tests kind told one = absurd (omega (arith, kind, one))
     tested_by (Err stops.Failed) tests kind told one = absurd (omega (arith, kind, one))
 
-    chunk_tested : (answer.entry).kind ≡ 1 → IfSome answer.reply (IsTested act)
+    chunk_tested : (answer.entry).kind ≡ PART_KIND → IfSome answer.reply (IsTested act)
     chunk_tested = tested_by ended tested kind_is settled.reply_is
 
     -- where its tests refuse the read the remote is not called

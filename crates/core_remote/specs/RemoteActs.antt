@@ -10,6 +10,7 @@ use Rattle.store_types.specs.declared.refusal.Refusal.{Refusal}
 use Rattle.store_types.specs.declared.refusal.Refusal.TheVariants.{BadName, Damaged, NoRemote}
 use Rattle.store_types.specs.Chain.Refusing.{◌>>=◌, or_else, unless}
 use Rattle.store_types.specs.Names.{group_of, key_of, key_text}
+use Rattle.store_types.specs.declared.order.TheConstants.{COMMAND_KIND, PART_KIND, REMOTE_FAULT_KIND}
 use Rattle.blob_codec.specs.Blob.{blob}
 use Rattle.store_files.specs.Folder.{file_path}
 use Rattle.wire_commands.specs.declared.command.Command.TheVariants.{Sync}
@@ -31,12 +32,6 @@ use Rattle.core_state.specs.declared.stop.RemoteStop.TheVariants as stops
 use Rattle.core_state.specs.Remotes.{faults_of}
 use Rattle.core_state.specs.Replies.{reply_told}
 use Rattle.core_state.specs.Wanted.{session_at, want_idle}
-
-abbrev pub IsRemotes : Act → Type 0
-IsRemotes (RemoteList (Sync group)) = Unit {0}
-IsRemotes (RemoteFile snapshot name offset) = Unit {0}
-IsRemotes (RemoteChunk digest) = Unit {0}
-IsRemotes act = ⊥
 
 -- ---- what refuses it
 
@@ -98,12 +93,12 @@ IsTested act reply = Unit {0}
 -- On any remote: a read is made exactly where nothing refuses it, and else this is the refusal. The remote is not called where
 -- something refuses the read, nor after the disk failed. What is given of a chunk is the blob of a piece with its digest.
 pub record RemoteTells {D E C : Type 0} (old new : Core D E C) (lane : ℕ) (act : Act) (answer : Answer) : Type 0 where
-  pub refused : (answer.entry).kind ≡ 0
+  pub refused : (answer.entry).kind ≡ COMMAND_KIND
       → (refusal : Refusal) × (answer.reply ≡ Some (Refused refusal)) × (read_told act (is_some old.remote) (session_at old.parts lane) ≡ Err refusal)
-  pub reads : ((answer.entry).kind ≡ 1) ⊎ ((answer.entry).kind ≡ 7) → read_told act (is_some old.remote) (session_at old.parts lane) ≡ Ok tt
+  pub reads : ((answer.entry).kind ≡ PART_KIND) ⊎ ((answer.entry).kind ≡ REMOTE_FAULT_KIND) → read_told act (is_some old.remote) (session_at old.parts lane) ≡ Ok tt
   pub unread : UnreadWhere old.parts old.remote new.remote lane act
   pub halted : IfSome old.fault (λ _. new.remote ≡ old.remote)
-  pub tested : (answer.entry).kind ≡ 1 → IfSome answer.reply (IsTested act)
+  pub tested : (answer.entry).kind ≡ PART_KIND → IfSome answer.reply (IsTested act)
 
 -- ---- what it gives
 
@@ -147,4 +142,4 @@ FailsBy e old new result = IsErrOf result stops.Failed → Rose (faults_of e old
 -- Of an honest remote, whatever it holds: what was read is what stands there.
 abbrev pub RemoteGives : {D E C : Type 0} → Ghosts E → Core D E C → Act → Answer → Type 0
 RemoteGives e old act answer =
-    (answer.entry).kind ≡ 1 → IfSome old.remote (λ r. e.honest r → IfSome answer.reply (GivesFrom (e.content r) act))
+    (answer.entry).kind ≡ PART_KIND → IfSome old.remote (λ r. e.honest r → IfSome answer.reply (GivesFrom (e.content r) act))

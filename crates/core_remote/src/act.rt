@@ -2,23 +2,20 @@
 
 ghost use Rattle.std.specs.Prelude.{◌≡◌, ◌<◌, false, IfOk, IsTrue, MatchResult};
 ghost use Rattle.wire_commands.specs.HasText.{ReplyHasText};
-ghost use Rattle.store_history.specs.Acts.{IsWellFormed};
+ghost use Rattle.store_history.specs.Acts.{IsWellFormed, family_of};
 ghost use Rattle.core_state.specs.Applies.{ActApplies, ActKeeps, CoreApplies};
 ghost use Rattle.core_state.specs.Remotes.{RemoteStays, reads_remote};
 ghost use Rattle.core_state.specs.Replies.{may_give};
 ghost use Rattle.core_state.specs.Reserved.{HasRoom};
-ghost use Rattle.core_remote.specs.RemoteActs.{FailsBy, GivesRemote, IsRemotes, IsTested, RemoteGives, RemoteTells, StopHasText, TellsEnd, UnreadWhere};
+ghost use Rattle.core_remote.specs.RemoteActs.{FailsBy, GivesRemote, IsTested, RemoteGives, RemoteTells, StopHasText, TellsEnd, UnreadWhere};
 
 use crate::reading::read;
 use crate::refusing::may_read;
-use core_state::{Act, Admitted, Answer, Core, Parts, RemoteStop, begin, settle_read};
+use core_state::{Act, Admitted, Answer, Core, Family, Parts, RemoteStop, begin, settle_read};
 use disk_trait::Disk;
 use port_traits::Clock;
 use std::alloc::Global;
 use wire_commands::Reply;
-
-/// Lets go of an act that is answered without it.
-fn let_go(_act: Act) {}
 
 /// Reads the remote, where nothing refuses it.
 fn reach<D, E: Disk>(
@@ -29,7 +26,7 @@ fn reach<D, E: Disk>(
     act: Act,
 ) -> Result<Reply, RemoteStop>
     requires lane { lane < 64 }
-    requires kind { IsRemotes act }
+    requires kind { family_of act ≡ Family.Reaches }
     requires formed { IsWellFormed act }
     ensures tells { TellsEnd parts.now remote.old lane act result }
     ensures unread { UnreadWhere parts.now remote.old remote.new lane act }
@@ -42,13 +39,8 @@ fn reach<D, E: Disk>(
     ensures text { MatchResult result ReplyHasText StopHasText }
 {
     let has_remote = remote.is_some();
-    match may_read(parts, alloc, lane, has_remote, &act) {
-        Ok(()) => read(remote, alloc, act),
-        Err(stop) => {
-            let_go(act);
-            Err(stop)
-        }
-    }
+    may_read(parts, alloc, lane, has_remote, &act)?;
+    read(remote, alloc, act)
 }
 
 /// Reads the remote once, and enters it in the order. The disk is not called.
@@ -60,7 +52,7 @@ pub fn remote_act<D: Disk, E: Disk, C: Clock>(
 ) -> Answer
     requires lane { lane < 64 }
     requires room { HasRoom core.old lane }
-    requires kind { IsRemotes act }
+    requires kind { family_of act ≡ Family.Reaches }
     requires formed { IsWellFormed act }
     ensures applies { CoreApplies D.Disk E.Disk C.Clock core.old core.new lane act result }
     // whatever the remote is, where its tests refuse the read
@@ -68,15 +60,12 @@ pub fn remote_act<D: Disk, E: Disk, C: Clock>(
         → ActApplies D.Disk C.Clock core.old core.new lane act result }
     ensures keeps { ActKeeps D.Disk core.old core.new lane act result }
     // on any remote: what refuses it, that it is not called then, and that a chunk is tested
-    ensures by_kept { RemoteTells core.old core.new lane act result }
+    ensures from_state { RemoteTells core.old core.new lane act result }
     // of an honest remote, whatever it holds: what it gives
     ensures by_remote { RemoteGives E.Disk core.old act result }
 {
     match begin(core, alloc, lane, &act) {
-        Admitted::Answered(answer) => {
-            let_go(act);
-            answer
-        }
+        Admitted::Answered(answer) => answer,
         Admitted::At(at) => {
             let ended = reach(&core.parts, &mut core.remote, alloc, lane, act);
             settle_read(core, at, ended)

@@ -5,14 +5,15 @@ ghost use Rattle.std.specs.List.{All};
 ghost use Rattle.disk_trait.specs.Effects.{OnlyReads};
 ghost use Rattle.store_types.specs.Names.{IsKey, group_of, key_of};
 ghost use Rattle.store_history.specs.declared.act.Act.TheVariants.{RemoteChunk, RemoteFile, RemoteList};
+ghost use Rattle.store_history.specs.Acts.{IsWellFormed, family_of};
 ghost use Rattle.wire_commands.specs.HasText.{ReplyHasText};
 ghost use Rattle.wire_commands.specs.declared.command.Command.TheVariants.{Sync};
 ghost use Rattle.core_state.specs.Remotes.{RemoteStays};
 ghost use Rattle.core_state.specs.Replies.{gives_blob, gives_file, gives_keys, may_give};
-ghost use Rattle.core_remote.specs.RemoteActs.{FailsBy, Gives, GivesRemote, HasName, IsRemotes, IsShort, IsTested, IsUnread, texts_of as texts_by};
+ghost use Rattle.core_remote.specs.RemoteActs.{FailsBy, Gives, GivesRemote, HasName, IsShort, IsTested, IsUnread, texts_of as texts_by};
 
 use chunk_store::{LoadFault, load};
-use core_state::{Act, RemoteStop};
+use core_state::{Act, Family, RemoteStop};
 use disk_trait::{Disk, DiskError};
 use snapshot_files::{ReadError, keys_in_group, path_of, read_part};
 use std::alloc::{AllocError, Global};
@@ -107,7 +108,8 @@ fn chunk<E: Disk>(remote: &mut E, alloc: Global, digest: &Digest32) -> Result<Re
 
 /// Reads what the act asks for.
 fn read_disk<E: Disk>(remote: &mut E, alloc: Global, act: Act) -> Result<Reply, DiskError>
-    requires kind { IsRemotes act }
+    requires kind { family_of act ≡ Family.Reaches }
+    requires formed { IsWellFormed act }
     requires named { HasName act }
     ensures reads { OnlyReads E.Disk remote.old remote.new (IsErrOf result DiskError.Failed) }
     ensures gives { Gives E.Disk remote.old act result }
@@ -131,7 +133,8 @@ fn read_disk<E: Disk>(remote: &mut E, alloc: Global, act: Act) -> Result<Reply, 
 /// Reads what the act asks for, of the remote that is there.
 pub fn read<E: Disk>(remote: &mut Option<E>, alloc: Global, act: Act) -> Result<Reply, RemoteStop>
     requires there { is_some remote.old ≡ true }
-    requires kind { IsRemotes act }
+    requires kind { family_of act ≡ Family.Reaches }
+    requires formed { IsWellFormed act }
     requires named { HasName act }
     ensures stays { RemoteStays E.Disk remote.old remote.new }
     ensures failed { FailsBy E.Disk remote.old remote.new result }

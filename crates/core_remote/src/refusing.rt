@@ -1,9 +1,10 @@
 //! What refuses a read of the remote.
 
-ghost use Rattle.std.specs.Prelude.{◌<◌, IfErr};
-ghost use Rattle.core_remote.specs.RemoteActs.{IsRemotes, StopHasText, TellsBegin, TellsRead};
+ghost use Rattle.std.specs.Prelude.{◌≡◌, ◌<◌, IfErr};
+ghost use Rattle.store_history.specs.Acts.{family_of};
+ghost use Rattle.core_remote.specs.RemoteActs.{StopHasText, TellsBegin, TellsRead};
 
-use core_state::{Act, Parts, RemoteStop};
+use core_state::{Act, Family, Parts, RemoteStop};
 use std::alloc::Global;
 use store_types::{GroupKey, Refusal};
 use wire_commands::Command;
@@ -37,7 +38,7 @@ pub fn may_read<D>(
     act: &Act,
 ) -> Result<(), RemoteStop>
     requires lane { lane < 64 }
-    requires kind { IsRemotes act.now }
+    requires kind { family_of act.now ≡ Family.Reaches }
     ensures tells { TellsRead parts.now lane has_remote act.now result }
     ensures text { IfErr result StopHasText }
 {

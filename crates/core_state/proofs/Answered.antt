@@ -6,6 +6,7 @@ use Rattle.port_traits.specs.Readings.{Readings}
 use Rattle.disk_trait.specs.declared.disk.DiskError.{DiskError}
 use Rattle.disk_trait.specs.declared.disk.DiskError.TheVariants.{NoMemory as DiskMemory, Failed as DiskFailed}
 use Rattle.store_types.specs.declared.refusal.Refusal.TheVariants.{NoMemory, Halted, DiskFault}
+use Rattle.store_types.specs.declared.order.TheConstants.{MEMORY_KIND}
 use Rattle.wire_commands.specs.declared.reply.Reply.{Reply}
 use Rattle.wire_commands.specs.declared.reply.Reply.TheVariants.{Refused}
 use Rattle.store_model.specs.Store.{Store, Outcome}
@@ -130,7 +131,7 @@ halted_stands d readings old new h k act answer s inside formed step is =
 
 pub refused_stands : {D E C : Type 0} (d : Ghosts D) (readings : C → Option Readings) (old new : Core D E C) (h : History) (k : ℕ) (act : Act) (answer : Answer)
     → StandsFor d readings old h → k < 64 → IsWellFormed act → IsAsked (class_of act)
-    → Refuses d readings old new k answer → (is_closing old k act ≡ true → (answer.entry).kind ≡ 2 → ⊥)
+    → Refuses d readings old new k answer → (is_closing old k act ≡ true → (answer.entry).kind ≡ MEMORY_KIND → ⊥)
     → StandsFor d readings new (then_event h (event_of act answer (d.calls (new.parts).disk)))
 refused_stands d readings old new h k act answer s inside formed step (short is) memory =
     short_stands d readings old new h k act answer s inside formed (asked_no_end (class_of act) step) (λ _ closing. memory closing (ap (λ x. x.kind) (is.entered).entry))

@@ -1,6 +1,7 @@
 -- What an act's answer is on any disk.
 use Rattle.disk_trait.specs.declared.disk.Disk.{Ghosts}
 use Rattle.std.proofs.Common.{◌≡◌, ◌≤◌, ℕ, Bool, true, false, ◌&&◌, ◌==◌, [], ◌∷◌, ◌++◌, length, Option, Some, None, Result, Ok, Err, IfSome, IsSome, is_some, IfOk, IsErrOf, inl, inr, refl, sym, ap, subst, ◌∙◌, arith}
+use Rattle.store_types.specs.declared.order.TheConstants.{FAULT_KIND}
 use Rattle.port_traits.specs.Readings.{Readings}
 use Rattle.disk_trait.specs.Disk.{Rose, Serves}
 use Rattle.disk_trait.specs.declared.disk.DiskError.{DiskError}
@@ -30,7 +31,7 @@ pub entered_answered : {D E C : Type 0} (d : Ghosts D) (old mid new : Core D E C
     → IfSome reply ReplyHasText
     → mid.fault ≡ fault_after (length (old.journal).entries.items) kind old.fault
     → d.faults (old.parts).disk ≤ d.faults (mid.parts).disk
-    → (kind ≡ 5 → old.fault ≡ None → Rose (d.faults (old.parts).disk) (d.faults (mid.parts).disk))
+    → (kind ≡ FAULT_KIND → old.fault ≡ None → Rose (d.faults (old.parts).disk) (d.faults (mid.parts).disk))
     → IsAnswered d old new lane answer
 entered_answered d old mid new lane moment kind reply answer e entries calls text fault count cause =
     let kind_is : (answer.entry).kind ≡ kind = ap (λ x. x.kind) e.entry in record {

@@ -10,15 +10,17 @@ use Rattle.port_traits.specs.declared.clock.Clock as clocks
 use Rattle.store_types.specs.declared.refusal.Refusal.{Refusal}
 use Rattle.store_types.specs.declared.refusal.Refusal.TheVariants as refusals
 use Rattle.store_types.specs.declared.refusal.Refusal.TheVariants.{DiskFault}
+use Rattle.store_types.specs.declared.order.TheConstants.{START_KIND}
 use Rattle.wire_commands.specs.declared.reply.Reply.{Reply}
 use Rattle.wire_commands.specs.declared.reply.Reply.TheVariants as replies
 use Rattle.store_history.specs.declared.act.Act.{Act}
-use Rattle.store_history.specs.declared.act.Act.TheVariants.{Chunk, Start, Step, Short, End}
+use Rattle.store_history.specs.declared.act.Act.TheVariants.{Plain, Chunk, Start, Step, Short, End}
 use Rattle.store_history.specs.declared.act.Answer.{Answer}
 use Rattle.store_history.specs.Acts.{IsWellFormed, class_of, stepping, starting, sweeping, wanting, ending}
 use Rattle.store_history.specs.History.{act_outcome}
 use Rattle.atime_book.specs.Touches.{NoneAfter}
 use Rattle.store_history.specs.LastTouches.{SameTouches, touches_by_entry, touched_by}
+use Rattle.store_history.proofs.Families.{no_collector}
 use Rattle.core_state.specs.declared.kept.Session.{Session}
 use Rattle.core_state.specs.declared.entering.Admitted.TheVariants.{Answered}
 use Rattle.core_state.specs.declared.entering.Place.{Place}
@@ -154,6 +156,7 @@ step_plain Start step = cc
 step_plain Step step = cc
 step_plain Short step = cc
 step_plain End step = cc
+step_plain (Plain command) step = no_collector command
 step_plain act step = refl
 
 -- it leaves sessions and locks, where it does or is a collector's
@@ -168,7 +171,7 @@ step_asked : (act : Act) → class_of act ≡ stepping → IsAsked (class_of act
 step_asked act step = subst IsAsked (sym step) tt
 
 -- an act that is answered as any opens no collector
-pub no_start_kind : {D E C : Type 0} (d : Ghosts D) (old new : Core D E C) (act : Act) (answer : Answer) → HasCause d old new act answer → (answer.entry).kind ≡ 3 → ⊥
+pub no_start_kind : {D E C : Type 0} (d : Ghosts D) (old new : Core D E C) (act : Act) (answer : Answer) → HasCause d old new act answer → (answer.entry).kind ≡ START_KIND → ⊥
 no_start_kind d old new act answer (was_done before zero reply told may) three = omega (arith, zero, three)
 no_start_kind d old new act answer (was_short two told) three = omega (arith, two, three)
 no_start_kind d old new act answer (has_failed before five told fault rose) three = omega (arith, five, three)
@@ -198,12 +201,6 @@ class_told act answer other no_start is = is
 pub closes_none : (fault : Option ℕ) (act : Act) (x : Session) → closes act x ≡ false → closes_by fault act x ≡ true → ⊥
 closes_none None act x off on = true_false (sym on ∙ off)
 closes_none (Some first) act x off on = true_false (sym on)
-
-step_no_end : (act : Act) → class_of act ≡ stepping → class_of act ≡ ending → ⊥
-step_no_end act step ends = apart (sym step ∙ ends)
-  where
-    apart : stepping ≡ ending → ⊥
-    apart e = cc
 
 want_no_end : (act : Act) → class_of act ≡ wanting → class_of act ≡ ending → ⊥
 want_no_end act want ends = apart (sym want ∙ ends)
@@ -274,11 +271,11 @@ module _ {D E C : Type 0} (d : Ghosts D) (clock : clocks.Ghosts C) where
       let (refusal, is, fine) = refused_as old new lane answer refuses in
       let none : by_reply (change_at old.parts lane act) answer.reply ≡ stays = ap (by_reply (change_at old.parts lane act)) is ∙ refused_stays (change_at old.parts lane act) refusal fine in record {
         unchanged = refused_unchanged d clock.readings old new lane answer refuses;
-        quiet = λ _. same;
+        no_disk_call = λ _. same;
         reads = λ _ h. ap d.content same;
         content = λ _ _ _ h. ap d.content same ∙ ap (λ c. after c (d.content (old.parts).disk)) (sym none);
         crash = λ _. inl same;
-        due = λ _ told. absurd (fine (refusal_is refusal DiskFault (sym is ∙ told)));
+        passed_its_tests = λ _ told. absurd (fine (refusal_is refusal DiskFault (sym is ∙ told)));
         firm = λ _. undone answer refusal is;
         listed = ap (λ p. p.catalogue.items) parts ∙ sym (ap (λ r. listed_by act r answer.place (session_at old.parts lane) (old.parts).catalogue.items) is
             ∙ unlisted act refusal answer.place (session_at old.parts lane) (old.parts).catalogue.items);
@@ -387,14 +384,14 @@ module _ {D E C : Type 0} (d : Ghosts D) (clock : clocks.Ghosts C) where
       let reply = settles.reply_is in
       let closed : is_closing old at.lane act ≡ true → HasClosed acted.parts at.lane (told result) = λ closing. leaves.closed (closing_before old mid at.lane act before closing) in record {
         unchanged = done_unchanged d clock.readings old mid acted new at.lane at.moment (told result) answer ready leaves.unchanged settles;
-        quiet = λ quiet. ap (λ p. p.disk) settles.parts ∙ leaves.quiet quiet ∙ ap (λ p. p.disk) before;
+        no_disk_call = λ no_disk_call. ap (λ p. p.disk) settles.parts ∙ leaves.no_disk_call no_disk_call ∙ ap (λ p. p.disk) before;
         reads = λ only h. ap (λ p. d.content p.disk) settles.parts ∙ leaves.reads only (subst (λ p. d.honest p.disk) (sym before) h) ∙ ap (λ p. d.content p.disk) before;
         content = λ _ _ fine h. ap (λ p. d.content p.disk) settles.parts ∙ content_at before reply (λ e. fine (reply ∙ e)) h;
         crash = λ _. subst (λ p. LeavesChange d (old.parts).disk p.disk (by_reply (change_at old.parts at.lane act) answer.reply)) (sym settles.parts)
             (subst (λ r. LeavesChange d (old.parts).disk (acted.parts).disk (by_reply (change_at old.parts at.lane act) r)) (sym reply)
             (subst (λ p. LeavesChange d p.disk (acted.parts).disk (by_reply (change_at p at.lane act) (Some (reply_by (told result))))) before
             (crash_told d (mid.parts).disk (acted.parts).disk (change_at mid.parts at.lane act) result does.plain leaves.crash)));
-        due = λ _ told s h. leaves.due (fault_met act result does.answers (sym reply ∙ told)) s (subst (λ p. Holds d p s) (sym before) h);
+        passed_its_tests = λ _ told s h. leaves.passed_its_tests (fault_met act result does.answers (sym reply ∙ told)) s (subst (λ p. Holds d p s) (sym before) h);
         firm = λ _ done. subst (λ p. IsFirm d (old.parts).disk p.disk (change_at old.parts at.lane act)) (sym settles.parts)
             (subst (λ p. IsFirm d p.disk (acted.parts).disk (change_at p at.lane act)) before
             (done_told _ result leaves.firm (if_plain answer.reply _ reply done)));

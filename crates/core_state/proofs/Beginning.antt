@@ -1,6 +1,7 @@
 -- The act that starts a collector.
 use Rattle.disk_trait.specs.declared.disk.Disk.{Ghosts}
 use Rattle.std.proofs.Common.{◌≡◌, false, IsSome, inr, refl}
+use Rattle.store_types.specs.declared.order.TheConstants.{START_KIND}
 use Rattle.store_history.specs.declared.act.Act.{Act}
 use Rattle.store_history.specs.declared.act.Act.TheVariants.{Start}
 use Rattle.store_history.specs.declared.act.Answer.{Answer}
@@ -43,6 +44,6 @@ module _ {D E C : Type 0} (d : Ghosts D) (old new : Core D E C) where
   start_caused act answer is cause = absurd is
 
 -- and opened no collector
-pub start_told : (act : Act) (answer : Answer) → IsStart act → ((answer.entry).kind ≡ 3 → ⊥) → IsSome answer.reply → IsTold act answer
+pub start_told : (act : Act) (answer : Answer) → IsStart act → ((answer.entry).kind ≡ START_KIND → ⊥) → IsSome answer.reply → IsTold act answer
 start_told Start answer is other told = inr (other, told)
 start_told act answer is other told = absurd is

@@ -14,7 +14,7 @@ use Rattle.store_history.specs.declared.act.Answer.{Answer}
 use Rattle.store_history.specs.Acts.{class_of, stepping, wanting}
 use Rattle.core_state.specs.declared.state.Core.{Core}
 use Rattle.core_state.specs.Settles.{IsEntered, Settles}
-use Rattle.core_state.specs.Begins.{IsBegun, IsShort, Refuses, short as is_short, halted as is_halted, IsReady}
+use Rattle.core_state.specs.Begins.{IsBegun, IsShort, Refuses, short as is_out_of_memory, halted as is_halted, IsReady}
 use Rattle.core_state.specs.Replies.{may_answer}
 use Rattle.core_state.specs.Answers.{HasCause, done, short, failed, halted, EndHasCause, ended, end_failed, IsCaused}
 
@@ -24,7 +24,7 @@ short_caused d readings old new lane act answer is = short (ap (λ x. x.kind) (i
 
 pub refused_caused : {D E C : Type 0} (d : Ghosts D) (readings : C → Option Readings) (old new : Core D E C) (lane : ℕ) (act : Act) (answer : Answer)
     → Refuses d readings old new lane answer → HasCause d old new act answer
-refused_caused d readings old new lane act answer (is_short is) = short_caused d readings old new lane act answer is
+refused_caused d readings old new lane act answer (is_out_of_memory is) = short_caused d readings old new lane act answer is
 refused_caused d readings old new lane act answer (is_halted is) = halted is.first is.fault (ap (λ x. x.kind) (is.entered).entry) (is.entered).reply_is
 
 pub done_caused : {D E C : Type 0} (d : Ghosts D) (readings : C → Option Readings) (old mid acted new : Core D E C) (lane moment : ℕ) (act : Act) (result : Result Reply DiskError) (answer : Answer)

@@ -4,6 +4,7 @@ use Rattle.std.specs.Prelude.{option_map}
 use Rattle.std.proofs.Props.{props}
 use Rattle.std.proofs.lemmas.Bool.{eqb-true}
 use Rattle.store_types.specs.declared.names.Digest32.{Digest32}
+use Rattle.store_types.specs.declared.order.TheConstants.{MEMORY_KIND, STOP_KIND, END_KIND}
 use Rattle.store_files.specs.Archive.{Snapshot}
 use Rattle.gc_plan.specs.Plan.{Plan}
 use Rattle.store_model.specs.Lanes.{Collecting}
@@ -30,10 +31,10 @@ apart a b ne = by_test (a == b) refl
     by_test false is = refl
 
 module _ (lane : ℕ) (c : Option Collector) where
-  by_kind : (kind : ℕ) (a b on : Bool) → (kind == 2) ≡ a → ((kind == 4) || (kind == 6)) ≡ b → is_on lane c ≡ on
+  by_kind : (kind : ℕ) (a b on : Bool) → (kind == MEMORY_KIND) ≡ a → ((kind == STOP_KIND) || (kind == END_KIND)) ≡ b → is_on lane c ≡ on
       → collector_by kind lane c ≡ cond a (cond on (option_map with_cut c) c) (cond b (cond on None c) c)
   by_kind kind a b on p q r =
-      ap (λ x. cond x (cut_on lane c) (cond ((kind == 4) || (kind == 6)) (closed_on lane c) c)) p
+      ap (λ x. cond x (cut_on lane c) (cond ((kind == STOP_KIND) || (kind == END_KIND)) (closed_on lane c) c)) p
       ∙ ap (λ x. cond a (cut_on lane c) (cond x (closed_on lane c) c)) q
       ∙ ap (λ x. cond a (cond x (option_map with_cut c) c) (cond b (cond x None c) c)) r
 
@@ -44,15 +45,15 @@ module _ (lane : ℕ) (c : Option Collector) where
 
   -- another lane's
   pub by_off : (kind : ℕ) → is_on lane c ≡ false → c ≡ collector_by kind lane c
-  by_off kind off = sym (by_kind kind (kind == 2) ((kind == 4) || (kind == 6)) false refl refl off ∙ all_same (kind == 2) ((kind == 4) || (kind == 6)))
+  by_off kind off = sym (by_kind kind (kind == MEMORY_KIND) ((kind == STOP_KIND) || (kind == END_KIND)) false refl refl off ∙ all_same (kind == MEMORY_KIND) ((kind == STOP_KIND) || (kind == END_KIND)))
 
-  pub by_memory : (kind : ℕ) → kind ≡ 2 → is_on lane c ≡ true → option_map with_cut c ≡ collector_by kind lane c
-  by_memory kind two on = sym (by_kind kind true ((kind == 4) || (kind == 6)) true (ap (λ n. n == 2) two) refl on)
+  pub by_memory : (kind : ℕ) → kind ≡ MEMORY_KIND → is_on lane c ≡ true → option_map with_cut c ≡ collector_by kind lane c
+  by_memory kind two on = sym (by_kind kind true ((kind == STOP_KIND) || (kind == END_KIND)) true (ap (λ n. n == 2) two) refl on)
 
-  pub by_other : (kind : ℕ) → (kind ≡ 2 → ⊥) → ((kind == 4) || (kind == 6)) ≡ false → c ≡ collector_by kind lane c
+  pub by_other : (kind : ℕ) → (kind ≡ MEMORY_KIND → ⊥) → ((kind == STOP_KIND) || (kind == END_KIND)) ≡ false → c ≡ collector_by kind lane c
   by_other kind other calm = sym (by_kind kind false false (is_on lane c) (apart kind 2 other) calm refl)
 
-  pub by_end : (kind : ℕ) → (kind ≡ 2 → ⊥) → ((kind == 4) || (kind == 6)) ≡ true → is_on lane c ≡ true → None ≡ collector_by kind lane c
+  pub by_end : (kind : ℕ) → (kind ≡ MEMORY_KIND → ⊥) → ((kind == STOP_KIND) || (kind == END_KIND)) ≡ true → is_on lane c ≡ true → None ≡ collector_by kind lane c
   by_end kind other ends on = sym (by_kind kind false true true (apart kind 2 other) ends on)
 
 -- what ended it before stands
@@ -93,20 +94,20 @@ abbrev pub opens : ℕ → Option Early → Option OpenOn
 opens lane ended = Some (record { lane = lane; ended = ended })
 
 -- want of memory, whatever ended it before
-cut_ended : (is_short : Bool) → first_of (ended_if is_short) NoMemory ≡ Some NoMemory
+cut_ended : (is_out_of_memory : Bool) → first_of (ended_if is_out_of_memory) NoMemory ≡ Some NoMemory
 cut_ended true = refl
 cut_ended false = refl
 
 module _ (k : ℕ) where
   -- both are this lane's, or neither
   on_same : (c : Collector) (w : Collecting) → open_in (Some c) ≡ shown_collecting (Some w) → (c.lane == k) ≡ (w.lane == k)
-  on_same c w is = ap (λ (x : OpenOn). x.lane == k) (same_open (record { lane = c.lane; ended = c.ended }) (record { lane = w.lane; ended = ended_if w.is_short }) is)
+  on_same c w is = ap (λ (x : OpenOn). x.lane == k) (same_open (record { lane = c.lane; ended = c.ended }) (record { lane = w.lane; ended = ended_if w.is_out_of_memory }) is)
 
-  ended_same : (c : Collector) (w : Collecting) → open_in (Some c) ≡ shown_collecting (Some w) → c.ended ≡ ended_if w.is_short
-  ended_same c w is = ap (λ (x : OpenOn). x.ended) (same_open (record { lane = c.lane; ended = c.ended }) (record { lane = w.lane; ended = ended_if w.is_short }) is)
+  ended_same : (c : Collector) (w : Collecting) → open_in (Some c) ≡ shown_collecting (Some w) → c.ended ≡ ended_if w.is_out_of_memory
+  ended_same c w is = ap (λ (x : OpenOn). x.ended) (same_open (record { lane = c.lane; ended = c.ended }) (record { lane = w.lane; ended = ended_if w.is_out_of_memory }) is)
 
   lane_same : (c : Collector) (w : Collecting) → open_in (Some c) ≡ shown_collecting (Some w) → c.lane ≡ w.lane
-  lane_same c w is = ap (λ (x : OpenOn). x.lane) (same_open (record { lane = c.lane; ended = c.ended }) (record { lane = w.lane; ended = ended_if w.is_short }) is)
+  lane_same c w is = ap (λ (x : OpenOn). x.lane) (same_open (record { lane = c.lane; ended = c.ended }) (record { lane = w.lane; ended = ended_if w.is_out_of_memory }) is)
 
   pub cut_shown : (c : Option Collector) (w : Option Collecting) → open_in c ≡ shown_collecting w → open_in (cut_on k c) ≡ shown_collecting (worlds.cut_on k w)
   cut_shown None None is = refl
@@ -117,7 +118,7 @@ module _ (k : ℕ) where
       is_cut_so : open_in (Some (with_cut c)) ≡ opens w.lane (Some NoMemory)
       is_cut_so = ap (λ n. opens n (first_of c.ended NoMemory)) (lane_same c w is)
           ∙ ap (λ r. opens w.lane (first_of r NoMemory)) (ended_same c w is)
-          ∙ ap (opens w.lane) (cut_ended w.is_short)
+          ∙ ap (opens w.lane) (cut_ended w.is_out_of_memory)
 
       by_test : (b : Bool) → (w.lane == k) ≡ b → open_in (cut_on k (Some c)) ≡ shown_collecting (cond (w.lane == k) (worlds.new_collecting k true) (Some w))
       by_test true on =
@@ -146,9 +147,9 @@ module _ (k : ℕ) where
   cut_is None (Some w) is on = absurd (none_some _ is)
   cut_is (Some c) (Some w) is on = by_test (w.lane == k) refl on
     where
-      by_test : (b : Bool) → (w.lane == k) ≡ b → cond b (Some w.is_short) None ≡ Some true → (c.lane == k) && is_some c.ended ≡ true
+      by_test : (b : Bool) → (w.lane == k) ≡ b → cond b (Some w.is_out_of_memory) None ≡ Some true → (c.lane == k) && is_some c.ended ≡ true
       by_test true at short =
-          let so : w.is_short ≡ true = bool_same w.is_short true short in
+          let so : w.is_out_of_memory ≡ true = bool_same w.is_out_of_memory true short in
           ap (λ b. b && is_some c.ended) (on_same c w is ∙ at) ∙ ap is_some (ended_same c w is ∙ ap ended_if so)
       by_test false at short = absurd (none_some true short)
 

@@ -43,8 +43,8 @@ use Rattle.core_state.specs.Catalogue.{listed_by}
 use Rattle.core_state.specs.Changes.{Change, IsFirm, LeavesChange, MayLeave, after, by_stop, change_of, stays, undone, installs, stores, drops, finishes, forgets}
 use Rattle.core_state.specs.Chunks.{Adds, IsSafe}
 use Rattle.core_state.specs.Closing.{HasClosed, closes, is_reader, is_writer}
-use Rattle.core_state.specs.Commands.{ActDoes, ActLeaves, IsNoRefusal, change_at, ends_session, is_quiet, is_still, leaves_writer, reads_only}
-use Rattle.core_state.specs.Due.{IsDue}
+use Rattle.core_state.specs.Commands.{ActDoes, ActLeaves, IsNoRefusal, change_at, ends_session, calls_no_disk, is_still, leaves_writer, reads_only}
+use Rattle.core_state.specs.PassedTests.{PassesItsTests}
 use Rattle.core_state.specs.Holds.{Holds, IsOnDisk, Shows, Does, Acts}
 use Rattle.core_state.specs.Replies.{may_answer}
 use Rattle.core_state.specs.Settles.{reply_by}
@@ -301,35 +301,35 @@ reads_stay acts.End session catalogue only = cc
 reads_stay act session catalogue only = refl
 
 -- of an act that only reads it says nothing
-due_reads : (act : Act) (s : Store) (lane : ℕ) → reads_only act ≡ true → IsDue act s lane
-due_reads (acts.Blob name checked) s lane only = cc
-due_reads (acts.Chunk digest checked) s lane only = cc
-due_reads (acts.Plain Finish) s lane only = cc
-due_reads (acts.Plain (Forget snapshot)) s lane only = cc
-due_reads act s lane only = tt
+reads_pass : (act : Act) (s : Store) (lane : ℕ) → reads_only act ≡ true → PassesItsTests act s lane
+reads_pass (acts.Blob name checked) s lane only = cc
+reads_pass (acts.Chunk digest checked) s lane only = cc
+reads_pass (acts.Plain Finish) s lane only = cc
+reads_pass (acts.Plain (Forget snapshot)) s lane only = cc
+reads_pass act s lane only = tt
 
 -- the acts that read the disk, and change nothing there
 abbrev pub reads_disk : Act → Bool
-reads_disk act = reads_only act && not (is_quiet act)
+reads_disk act = reads_only act && not (calls_no_disk act)
 
-not_quiet : (act : Act) → reads_disk act ≡ true → is_quiet act ≡ true → ⊥
-not_quiet act reads quiet = apart (is_quiet act) (and_parts (reads_only act) (not (is_quiet act)) reads).1 quiet
+disk_called : (act : Act) → reads_disk act ≡ true → calls_no_disk act ≡ true → ⊥
+disk_called act reads no_disk_call = apart (calls_no_disk act) (and_parts (reads_only act) (not (calls_no_disk act)) reads).1 no_disk_call
   where
     apart : (b : Bool) → not b ≡ true → b ≡ true → ⊥
     apart true e is = cc
     apart false e is = cc
 
 -- an act that makes no call of the disk changes nothing there
-quiet_reads : (act : Act) → is_quiet act ≡ true → reads_only act ≡ true
-quiet_reads (acts.Blob name checked) quiet = cc
-quiet_reads (acts.Chunk digest checked) quiet = cc
-quiet_reads (acts.Plain (CloseIndex number count size csum)) quiet = cc
-quiet_reads (acts.Plain Finish) quiet = cc
-quiet_reads (acts.Plain Abort) quiet = cc
-quiet_reads (acts.Plain (Forget snapshot)) quiet = cc
-quiet_reads acts.Step quiet = cc
-quiet_reads acts.End quiet = cc
-quiet_reads act quiet = refl
+no_disk_reads : (act : Act) → calls_no_disk act ≡ true → reads_only act ≡ true
+no_disk_reads (acts.Blob name checked) no_disk_call = cc
+no_disk_reads (acts.Chunk digest checked) no_disk_call = cc
+no_disk_reads (acts.Plain (CloseIndex number count size csum)) no_disk_call = cc
+no_disk_reads (acts.Plain Finish) no_disk_call = cc
+no_disk_reads (acts.Plain Abort) no_disk_call = cc
+no_disk_reads (acts.Plain (Forget snapshot)) no_disk_call = cc
+no_disk_reads acts.Step no_disk_call = cc
+no_disk_reads acts.End no_disk_call = cc
+no_disk_reads act no_disk_call = refl
 
 pub not_still : {P : Type 0} (act : Act) → is_still act ≡ false → is_still act ≡ true → P
 not_still act other is = absurd (false_true (sym other ∙ is))
@@ -487,13 +487,13 @@ module _ {D : Type 0} (d : Ghosts D) where
 
   -- Unless the disk was called, it is the same: so a refusal that comes without a call leaves the disk itself.
   pub reads_leaves : (old new : Parts D) (at : Place) (act : Act) (result : Result Reply Stop) (failed : Type 0) → OnlyReads d old.disk new.disk failed → SameKept old new
-      → IfOk result (DoneIdly old at act) → (is_quiet act ≡ true → new.disk ≡ old.disk)
+      → IfOk result (DoneIdly old at act) → (calls_no_disk act ≡ true → new.disk ≡ old.disk)
       → ((refusal : Refusal) → result ≡ Err (Refused refusal) → is_uncalled refusal ≡ true → new.disk ≡ old.disk)
-      → (closes act (session_at old at.lane) ≡ true → IsErrOf result DiskFailed) → (IsErrOf result DiskFailed → (s : Store) → IsDue act s at.lane)
+      → (closes act (session_at old at.lane) ≡ true → IsErrOf result DiskFailed) → (IsErrOf result DiskFailed → (s : Store) → PassesItsTests act s at.lane)
       → ActLeaves d old new at act result
-  reads_leaves old new at act result failed reads kept idly quiet uncalled closed due = record {
+  reads_leaves old new at act result failed reads kept idly no_disk_call uncalled closed passed_its_tests = record {
     unchanged = leaves_all old new result (plainly old at act result idly) kept uncalled (λ _. reads.same);
-    quiet = quiet;
+    no_disk_call = no_disk_call;
     reads = λ _. reads.same;
     content = same_after old.disk new.disk (change_at old at.lane act) result (changes_none old at act result idly) reads.same;
     crash = same_leaves old.disk new.disk _ reads.crash;
@@ -501,7 +501,7 @@ module _ {D : Type 0} (d : Ghosts D) where
     listed = listed_so old new at act result kept.catalogue (lists_none old at act result idly);
     admin = λ _. (kept.sessions, kept.locks);
     adds = adds_same d old new act (told result) reads.same;
-    due = λ f s _. due f s;
+    passed_its_tests = λ f s _. passed_its_tests f s;
     closed = closed_so old new at act result idly closed;
     ended = ends_none old new at act result idly;
     writes = still_writes old new at act result idly kept;
@@ -637,8 +637,8 @@ module _ {D : Type 0} (d : Ghosts D) where
       → (closes act (session_at old at.lane) ≡ true → ⊥) → ActLeaves d old new at act result
   stopped_leaves old new at act stop result failed stops reads kept called uncalled going =
       stopped (ActLeaves d old new at act) result stop stops
-      (reads_leaves old new at act (Err stop) failed reads kept tt (λ quiet. absurd (not_quiet act called quiet)) (uncalled_by old new stop uncalled) (λ closing. absurd (going closing))
-      (λ _ s. due_reads act s at.lane (and_parts (reads_only act) (not (is_quiet act)) called).0))
+      (reads_leaves old new at act (Err stop) failed reads kept tt (λ no_disk_call. absurd (disk_called act called no_disk_call)) (uncalled_by old new stop uncalled) (λ closing. absurd (going closing))
+      (λ _ s. reads_pass act s at.lane (and_parts (reads_only act) (not (calls_no_disk act)) called).0))
 
   -- done, where nothing has changed
   pub read_does : (old new : Parts D) (at : Place) (act : Act) (reply : Reply) (failed : Type 0) → OnlyReads d old.disk new.disk failed → SameKept old new
@@ -648,9 +648,9 @@ module _ {D : Type 0} (d : Ghosts D) where
       reads_does old new at act (Ok reply) (reads_by _ _ _ _ (λ e. absurd (not_done reply e)) reads) kept text answers plain is
 
   pub read_leaves : (old new : Parts D) (at : Place) (act : Act) (reply : Reply) (failed : Type 0) → OnlyReads d old.disk new.disk failed → SameKept old new
-      → DoneIdly old at act reply → (is_quiet act ≡ true → new.disk ≡ old.disk) → ActLeaves d old new at act (Ok reply)
-  read_leaves old new at act reply failed reads kept idly quiet =
-      reads_leaves old new at act (Ok reply) failed reads kept idly quiet (λ r e t. cc)
+      → DoneIdly old at act reply → (calls_no_disk act ≡ true → new.disk ≡ old.disk) → ActLeaves d old new at act (Ok reply)
+  read_leaves old new at act reply failed reads kept idly no_disk_call =
+      reads_leaves old new at act (Ok reply) failed reads kept idly no_disk_call (λ r e t. cc)
       (λ closing. absurd (false_true (sym idly.goes_on ∙ closes_ends act (session_at old at.lane) closing))) (λ f. absurd (not_done reply f))
 
   -- ---- done without a call of the disk, where parts have changed
@@ -679,7 +679,7 @@ module _ {D : Type 0} (d : Ghosts D) where
   changed_leaves old new at act reply same plain change listed other ended writes =
       let none = reads_none old.disk new.disk ⊥ same (λ f. f) in record {
         unchanged = done_unchanged old new reply plain;
-        quiet = λ _. same;
+        no_disk_call = λ _. same;
         reads = λ _. none.same;
         content = same_after old.disk new.disk (change_at old at.lane act) (Ok reply) change none.same;
         crash = same_leaves old.disk new.disk _ none.crash;
@@ -687,7 +687,7 @@ module _ {D : Type 0} (d : Ghosts D) where
         listed = listed;
         admin = not_still act other;
         adds = adds_same d old new act (told (Ok reply)) none.same;
-        due = λ f. absurd (not_done reply f);
+        passed_its_tests = λ f. absurd (not_done reply f);
         closed = λ closing. ended (closes_ends act (session_at old at.lane) closing);
         ended = ended;
         writes = writes;
@@ -710,7 +710,7 @@ module _ {D : Type 0} (d : Ghosts D) where
         told_step new at act s after_it reply (Ok (after_it, reply)) e refl (record { honest = serves.kept.0 h.honest; shows = shows; files = files }) remote w;
   }
 
-  pub writes_leaves : (old new : Parts D) (at : Place) (act : Act) (reply : Reply) → IsNoRefusal reply → is_quiet act ≡ false
+  pub writes_leaves : (old new : Parts D) (at : Place) (act : Act) (reply : Reply) → IsNoRefusal reply → calls_no_disk act ≡ false
       → (d.honest old.disk → d.content new.disk ≡ after (change_at old at.lane act) (d.content old.disk))
       → LeavesChange d old.disk new.disk (change_at old at.lane act) → IsFirm d old.disk new.disk (change_at old at.lane act)
       → new.catalogue.items ≡ listed_by act (Some reply) at.number (session_at old at.lane) old.catalogue.items
@@ -719,7 +719,7 @@ module _ {D : Type 0} (d : Ghosts D) where
       → ActLeaves d old new at act (Ok reply)
   writes_leaves old new at act reply plain called content crash firm listed admin adds ended writes = record {
     unchanged = done_unchanged old new reply plain;
-    quiet = λ quiet. absurd (false_true (sym called ∙ quiet));
+    no_disk_call = λ no_disk_call. absurd (false_true (sym called ∙ no_disk_call));
     reads = λ only h. content h ∙ ap (λ change. after change (d.content old.disk)) (reads_stay act (session_at old at.lane) old.catalogue.items only);
     content = λ _. content;
     crash = crash;
@@ -727,7 +727,7 @@ module _ {D : Type 0} (d : Ghosts D) where
     listed = listed;
     admin = admin;
     adds = adds;
-    due = λ f. absurd (not_done reply f);
+    passed_its_tests = λ f. absurd (not_done reply f);
     closed = λ closing. ended (closes_ends act (session_at old at.lane) closing);
     ended = ended;
     writes = writes;
@@ -764,13 +764,13 @@ module _ {D : Type 0} (d : Ghosts D) where
   pub failed_leaves : {A : Type 0} (old new : Parts D) (at : Place) (act : Act) (done : Result A DiskError) (e : DiskError) (result : Result Reply Stop) → Stops result (stop_of e) → done ≡ Err e
       → (IsErrOf done disks.NoMemory → SameContent d old.disk new.disk) → (IsErrOf done disks.NoMemory → LeavesSame d old.disk new.disk)
       → LeavesChange d old.disk new.disk (change_at old at.lane act) → SameKept old new → reads_only act ≡ false
-      → (IsErrOf done disks.NoMemory → closes act (session_at old at.lane) ≡ true → ⊥) → ((s : Store) → Holds d old s → IsDue act s at.lane)
+      → (IsErrOf done disks.NoMemory → closes act (session_at old at.lane) ≡ true → ⊥) → ((s : Store) → Holds d old s → PassesItsTests act s at.lane)
       → ActLeaves d old new at act result
-  failed_leaves old new at act done e result stops was same unmoved crash kept called going due =
+  failed_leaves old new at act done e result stops was same unmoved crash kept called going passed_its_tests =
       stopped (ActLeaves d old new at act) result (stop_of e) stops (by_error e was)
     where
-      quiet : is_quiet act ≡ true → new.disk ≡ old.disk
-      quiet q = absurd (false_true (sym called ∙ quiet_reads act q))
+      no_disk_call : calls_no_disk act ≡ true → new.disk ≡ old.disk
+      no_disk_call q = absurd (false_true (sym called ∙ no_disk_reads act q))
 
       reads : reads_only act ≡ true → SameContent d old.disk new.disk
       reads only = absurd (false_true (sym called ∙ only))
@@ -778,7 +778,7 @@ module _ {D : Type 0} (d : Ghosts D) where
       by_error : (e : DiskError) → done ≡ Err e → ActLeaves d old new at act (Err (stop_of e))
       by_error disks.NoMemory was = record {
         unchanged = leaves_all old new (Err NoMemory) tt kept (λ r e t. cc) (λ _. same was);
-        quiet = quiet;
+        no_disk_call = no_disk_call;
         reads = reads;
         content = λ _. same was;
         crash = unmoved was;
@@ -786,14 +786,14 @@ module _ {D : Type 0} (d : Ghosts D) where
         listed = kept.catalogue ∙ sym (unlisted_by act NoMemory at.number (session_at old at.lane) old.catalogue.items);
         admin = λ _. (kept.sessions, kept.locks);
         adds = adds_same d old new act (told (Err NoMemory)) (same was);
-        due = λ f. absurd (not_memory f);
+        passed_its_tests = λ f. absurd (not_memory f);
         closed = λ closing. absurd (going was closing);
         ended = λ _. tt;
         writes = λ _. tt;
       }
       by_error disks.Failed was = record {
         unchanged = leaves_all old new (Err DiskFailed) tt kept (λ r e t. cc) (λ fine. absurd (fine refl));
-        quiet = quiet;
+        no_disk_call = no_disk_call;
         reads = reads;
         content = λ fine. absurd (fine refl);
         crash = crash;
@@ -801,7 +801,7 @@ module _ {D : Type 0} (d : Ghosts D) where
         listed = kept.catalogue ∙ sym (unlisted_by act DiskFailed at.number (session_at old at.lane) old.catalogue.items);
         admin = λ _. (kept.sessions, kept.locks);
         adds = λ s h. tt;
-        due = λ _. due;
+        passed_its_tests = λ _. passed_its_tests;
         closed = λ closing. tt;
         ended = λ _. tt;
         writes = λ _. tt;

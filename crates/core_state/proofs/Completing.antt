@@ -1,5 +1,5 @@
 -- What a FINISH that is not refused puts: the manifest that completes the writer's snapshot.
-use Rattle.std.proofs.Common.{◌≡◌, ℕ, Bool, true, false, ◌==◌, cond, length, List, [], ◌∷◌, Option, Some, None, Result, Ok, Err, refl, sym, ap, ◌∙◌, arith}
+use Rattle.std.proofs.Common.{◌≡◌, ℕ, Bool, true, false, ◌==◌, cond, length, List, [], ◌∷◌, Option, Some, None, Ok, Err, refl, sym, ap, ◌∙◌, arith}
 use Rattle.std.proofs.lemmas.Option.{some_pair_parts}
 use Rattle.std.proofs.lemmas.Slice.Eq.{bytes_eq-Decides}
 use Rattle.std.specs.List.{find}
@@ -8,19 +8,20 @@ use Rattle.std.specs.Str.{bytes_eq}
 use Rattle.disk_trait.specs.Files.{Files}
 use Rattle.store_types.specs.declared.names.SnapshotKey.{SnapshotKey}
 use Rattle.store_types.specs.declared.refusal.Refusal.{Refusal}
-use Rattle.store_types.specs.declared.refusal.Refusal.TheVariants.{NoFile, OpenIndexes, WrongState}
-use Rattle.store_types.specs.declared.refusal.SessionState.TheVariants as states
+use Rattle.store_types.specs.declared.refusal.Refusal.TheVariants.{NoFile, OpenIndexes}
 use Rattle.store_types.specs.Chain.Refusing.{◌>>=◌, unless, or_else}
 use Rattle.store_types.specs.FileNames.{manifest_name}
 use Rattle.store_files.specs.Archive.{File, file_text, file_named}
 use Rattle.store_files.specs.Folder.{file_path, manifest_path}
 use Rattle.store_files.specs.Manifest.{Manifest}
+use Rattle.wire_commands.specs.declared.command.Command.TheVariants.{Finish}
 use Rattle.wire_commands.specs.declared.reply.Reply.TheVariants.{Done}
 use Rattle.store_model.specs.Manifests.{data_in, manifest_data, want_manifest, want_listed, listing_of, finish_check}
 use Rattle.store_model.specs.Stands.{IsSnapshot}
-use Rattle.store_model.specs.Store as model
-use Rattle.store_model.specs.Store.{Store, Writer, Outcome, none, writer, session, with_session, want_writer, insert_snapshot}
+use Rattle.store_model.specs.Store.{Store, Writer, Outcome, none, writer, session, with_session, insert_snapshot}
 use Rattle.store_model.specs.WriterSteps.{snapshot_of, finish}
+use Rattle.store_model.specs.Steps.{outcome}
+use Rattle.store_model.proofs.Done.{done}
 use Rattle.store_model.proofs.FileInsertions.{only_named}
 use Rattle.store_model.proofs.ListingLemmas.{listing_lists}
 use Rattle.backup_session.specs.Shown.{shown, manifest_text}
@@ -112,28 +113,13 @@ pub data FinishIs (s : Store) (lane : ℕ) : Type 0 where
   fails : (r : Refusal) → finish s lane ≡ Err r → FinishIs s lane
   gives : (w : Writer) (m : Manifest) → session s lane ≡ writer w → finish_check w ≡ Ok m → finish s lane ≡ Ok (finished s lane w, Done) → FinishIs s lane
 
-module _ (s : Store) (lane : ℕ) where
-  abbrev checked : Writer → Result Manifest Refusal → Outcome
-  checked w r = r >>= λ _. Ok (finished s lane w, Done)
-
-  abbrev tested : model.Session → Outcome
-  tested x = want_writer x >>= λ w. checked w (finish_check w)
-
-  step_is : finish s lane ≡ tested (session s lane)
-  unfolding finish
-  step_is = refl
-
-  pub finish_is : FinishIs s lane
-  finish_is = by_session (session s lane) refl
-    where
-      by_check : (w : Writer) → session s lane ≡ writer w → (r : Result Manifest Refusal) → finish_check w ≡ r → FinishIs s lane
-      by_check w at (Ok m) is = gives w m at is (step_is ∙ ap tested at ∙ ap (checked w) is)
-      by_check w at (Err r) is = fails r (step_is ∙ ap tested at ∙ ap (checked w) is)
-
-      by_session : (x : model.Session) → session s lane ≡ x → FinishIs s lane
-      by_session model.none at = fails (WrongState states.Idle) (step_is ∙ ap tested at)
-      by_session (model.writer w) at = by_check w at (finish_check w) refl
-      by_session (model.reader r) at = fails (WrongState states.Reader) (step_is ∙ ap tested at)
+pub finish_is : (s : Store) (lane : ℕ) → FinishIs s lane
+unfolding outcome
+finish_is s lane = by_outcome (finish s lane) refl
+  where
+    by_outcome : (o : Outcome) → finish s lane ≡ o → FinishIs s lane
+    by_outcome (Ok after) e = let d = done s lane 0 Finish after e in gives d.0 d.1 d.2 d.3 (e ∙ ap (λ x. Ok x) d.4)
+    by_outcome (Err r) e = fails r e
 
 -- ---- and what it puts
 

@@ -5,6 +5,7 @@ use Rattle.disk_trait.specs.declared.disk.DiskError.TheVariants as disks
 use Rattle.disk_trait.specs.declared.disk.Failed.{Failed}
 use Rattle.port_traits.specs.declared.clock.Clock as clocks
 use Rattle.store_types.specs.declared.refusal.Refusal.TheVariants.{DiskFault}
+use Rattle.store_types.specs.declared.order.TheConstants.{START_KIND}
 use Rattle.wire_commands.specs.declared.reply.Reply.{Reply}
 use Rattle.wire_commands.specs.declared.reply.Reply.TheVariants as replies
 use Rattle.store_model.specs.Store.{Store, ended as ended_store}
@@ -46,7 +47,7 @@ false_true : false ≡ true → ⊥
 false_true e = cc
 
 -- a lane's end opens no collector
-no_open : {D E C : Type 0} (d : Ghosts D) (old new : Core D E C) (answer : Answer) → EndHasCause d old new answer → (answer.entry).kind ≡ 3 → ⊥
+no_open : {D E C : Type 0} (d : Ghosts D) (old new : Core D E C) (answer : Answer) → EndHasCause d old new answer → (answer.entry).kind ≡ START_KIND → ⊥
 no_open d old new answer (has_ended six told) three = omega (arith, six, three)
 no_open d old new answer (end_failed before five told fault rose) three = omega (arith, five, three)
 
@@ -76,7 +77,7 @@ module _ {D E C : Type 0} (d : Ghosts D) (clock : clocks.Ghosts C) where
       → ActLeaves d mid.parts acted.parts at End (Ok replies.Done) → IsEntered d acted new at.lane at.moment 6 None answer → ActKeeps d old new at.lane End answer
   ended_kept_at old mid acted new at answer none next rest leaves entered = record {
     unchanged = untold_unchanged d old.parts new.parts answer.reply entered.reply_is;
-    quiet = λ quiet. absurd (false_true quiet);
+    no_disk_call = λ no_disk_call. absurd (false_true no_disk_call);
     reads = λ only. absurd (false_true only);
     content = λ _ _ _ h. subst (λ p. d.content p.disk ≡ after (by_reply (change_at old.parts at.lane End) answer.reply) (d.content (old.parts).disk)) (sym entered.parts)
         (subst (λ r. d.content (acted.parts).disk ≡ after (by_reply (change_at old.parts at.lane End) r) (d.content (old.parts).disk)) (sym entered.reply_is)
@@ -84,7 +85,7 @@ module _ {D E C : Type 0} (d : Ghosts D) (clock : clocks.Ghosts C) where
     crash = λ _. subst (λ p. LeavesChange d (old.parts).disk p.disk (by_reply (change_at old.parts at.lane End) answer.reply)) (sym entered.parts)
         (subst (λ r. LeavesChange d (old.parts).disk (acted.parts).disk (by_reply (change_at old.parts at.lane End) r)) (sym entered.reply_is)
         (subst (λ p. LeavesChange d p.disk (acted.parts).disk (change_at p at.lane End)) next.parts leaves.crash));
-    due = λ _ _ s h. tt;
+    passed_its_tests = λ _ _ s h. tt;
     firm = λ _ _. subst (λ p. IsFirm d (old.parts).disk p.disk (change_at old.parts at.lane End)) (sym entered.parts)
         (subst (λ p. IsFirm d p.disk (acted.parts).disk (change_at p at.lane End)) next.parts leaves.firm);
     listed = ap (λ p. p.catalogue.items) entered.parts ∙ leaves.listed ∙ ap (λ p. p.catalogue.items) next.parts;
@@ -149,13 +150,13 @@ module _ {D E C : Type 0} (d : Ghosts D) (clock : clocks.Ghosts C) where
       → ActLeaves d mid.parts acted.parts at End (Err DiskFailed) → Settles d acted new at.lane at.moment (Err disks.Failed) answer → ActKeeps d old new at.lane End answer
   end_failed_kept_at old mid acted new at answer none busy next rest leaves settles = record {
     unchanged = unchanged_between d old.parts mid.parts acted.parts new.parts (reply_by (Err disks.Failed)) answer.reply next.parts settles.parts settles.reply_is leaves.unchanged;
-    quiet = λ quiet. absurd (false_true quiet);
+    no_disk_call = λ no_disk_call. absurd (false_true no_disk_call);
     reads = λ only. absurd (false_true only);
     content = λ _ _ fine h. absurd (fine settles.reply_is);
     crash = λ _. subst (λ p. LeavesChange d (old.parts).disk p.disk (by_reply (change_at old.parts at.lane End) answer.reply)) (sym settles.parts)
         (subst (λ r. LeavesChange d (old.parts).disk (acted.parts).disk (by_reply (change_at old.parts at.lane End) r)) (sym settles.reply_is)
         (subst (λ p. LeavesChange d p.disk (acted.parts).disk (change_at p at.lane End)) next.parts leaves.crash));
-    due = λ _ _ s h. tt;
+    passed_its_tests = λ _ _ s h. tt;
     firm = λ _. undone answer DiskFault settles.reply_is;
     listed = ap (λ p. p.catalogue.items) settles.parts ∙ leaves.listed ∙ ap (λ p. p.catalogue.items) next.parts;
     admin = λ is. absurd (false_true is);
@@ -220,11 +221,11 @@ module _ {D E C : Type 0} (d : Ghosts D) (clock : clocks.Ghosts C) where
   end_halted_kept_at old mid acted new at first answer some next rest same catalogue idle entered =
       let still = ap (λ p. p.disk) entered.parts ∙ same ∙ ap (λ p. p.disk) next.parts in record {
         unchanged = untold_unchanged d old.parts new.parts answer.reply entered.reply_is;
-        quiet = λ quiet. absurd (false_true quiet);
+        no_disk_call = λ no_disk_call. absurd (false_true no_disk_call);
         reads = λ only. absurd (false_true only);
         content = λ _ none. absurd (none_some first (sym some ∙ none));
         crash = λ _. inl still;
-        due = λ _ _ s h. tt;
+        passed_its_tests = λ _ _ s h. tt;
         firm = λ none. absurd (none_some first (sym some ∙ none));
         listed = ap (λ p. p.catalogue.items) entered.parts ∙ catalogue ∙ ap (λ p. p.catalogue.items) next.parts;
         admin = λ is. absurd (false_true is);

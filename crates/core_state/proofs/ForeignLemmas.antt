@@ -13,6 +13,7 @@ use Rattle.store_types.specs.FileNames.{manifest_name}
 use Rattle.store_types.specs.declared.names.SnapshotKey.{SnapshotKey}
 use Rattle.store_types.specs.declared.refusal.Refusal.{Refusal}
 use Rattle.store_types.specs.declared.refusal.Refusal.TheVariants as refusals
+use Rattle.store_types.specs.declared.order.TheConstants.{FAULT_KIND}
 use Rattle.store_files.specs.Archive.{File}
 use Rattle.store_files.specs.Folder.{chunk_name, file_path}
 use Rattle.snapshot_files.proofs.Losing.{without_others}
@@ -179,16 +180,7 @@ module _ (q : List ℕ) (none : IsNoFile q) where
   missed_change : (act : Act) (session : Session) (catalogue : List Listed) → MissesChunk q act → MissesFiles q session → MissesAll q (change_of act session catalogue)
   missed_change (acts.Blob name checked) session catalogue chunk has = missed_writer q session _ has (λ w all. missed_blob name checked w)
   missed_change (acts.Chunk digest checked) session catalogue chunk has = missed_writer q session _ has (λ w all. missed_stored q digest checked chunk)
-  missed_change (acts.ReadFile name offset) session catalogue chunk has = tt
-  missed_change (acts.ReadChunk name entry) session catalogue chunk has = tt
-  missed_change (acts.RemoteList command) session catalogue chunk has = tt
-  missed_change (acts.RemoteFile snapshot name offset) session catalogue chunk has = tt
-  missed_change (acts.RemoteChunk digest) session catalogue chunk has = tt
-  missed_change acts.Start session catalogue chunk has = tt
-  missed_change acts.Step session catalogue chunk has = tt
-  missed_change acts.Short session catalogue chunk has = tt
   missed_change acts.End session catalogue chunk has = missed_writer q session _ has (λ w all. missed_paths q w.files all)
-  missed_change (acts.JobGroup command) session catalogue chunk has = tt
   missed_change (acts.Plain c) session catalogue chunk has = missed_command c
     where
       missed_command : (c : Command) → MissesAll q (change_of (acts.Plain c) session catalogue)
@@ -197,6 +189,7 @@ module _ (q : List ℕ) (none : IsNoFile q) where
       missed_command commands.Abort = missed_writer q session _ has (λ w all. missed_paths q w.files all)
       missed_command (commands.Forget snapshot) = missed_forgotten _
       missed_command c = tt
+  missed_change act session catalogue chunk has = tt
 
   missed_shown : (x : model.Session) (snapshots : List Rattle.store_files.specs.Archive.Snapshot) → MissesFiles q (shown_session snapshots x)
   missed_shown model.none snapshots = tt
@@ -207,23 +200,7 @@ module _ (q : List ℕ) (none : IsNoFile q) where
 
 -- a fault is told by no command's tests
 not_command : (c : Command) → command_answers c (replies.Refused refusals.DiskFault) ≡ false
-not_command (commands.OpenWriter snapshot) = refl
-not_command (commands.Previous file offset) = refl
-not_command (commands.NewFixed file size chunk_size) = refl
-not_command (commands.NewDynamic file) = refl
-not_command (commands.Append number entries) = refl
-not_command (commands.CloseIndex number count size csum) = refl
-not_command commands.Finish = refl
-not_command commands.Abort = refl
-not_command commands.CloseReader = refl
-not_command (commands.OpenReader snapshot) = refl
-not_command (commands.Download file offset) = refl
-not_command (commands.GetChunk digest) = refl
-not_command (commands.Range file offset len) = refl
-not_command (commands.List rest) = refl
-not_command (commands.Files snapshot) = refl
-not_command (commands.Forget snapshot) = refl
-not_command (commands.Group name) = refl
+not_command commands.Bye = refl
 not_command c = refl
 
 not_job : (c : Command) → may_answer (acts.JobGroup c) (replies.Refused refusals.DiskFault) ≡ false
@@ -233,17 +210,7 @@ not_job c = refl
 not_told : (act : Act) → may_answer act (replies.Refused refusals.DiskFault) ≡ false
 not_told (acts.Plain c) = not_command c
 not_told (acts.JobGroup c) = not_job c
-not_told (acts.Blob name checked) = refl
-not_told (acts.Chunk digest checked) = refl
-not_told (acts.ReadFile name offset) = refl
-not_told (acts.ReadChunk name entry) = refl
-not_told (acts.RemoteList command) = refl
-not_told (acts.RemoteFile snapshot name offset) = refl
-not_told (acts.RemoteChunk digest) = refl
-not_told acts.Start = refl
-not_told acts.Step = refl
-not_told acts.Short = refl
-not_told acts.End = refl
+not_told act = refl
 
 true_false : (b : Bool) → IsTrue b → b ≡ false → ⊥
 true_false true t e = cc
@@ -307,12 +274,6 @@ not_stepped d old new act answer (step_ends before kind reply told may) none is 
 not_stepped d old new act answer (step_as_any cause) none is = not_caused d old new act answer cause none is
 
 pub not_faulted : {D E C : Type 0} (d : Ghosts D) (old new : Core D E C) (act : Act) (answer : Answer) → IsCaused d old new act answer → new.fault ≡ None → answer.reply ≡ Some (replies.Refused refusals.DiskFault) → ⊥
-not_faulted d old new (acts.Plain c) answer cause = not_caused d old new (acts.Plain c) answer cause
-not_faulted d old new (acts.JobGroup c) answer cause = not_caused d old new (acts.JobGroup c) answer cause
-not_faulted d old new (acts.Blob name checked) answer cause = not_caused d old new (acts.Blob name checked) answer cause
-not_faulted d old new (acts.Chunk digest checked) answer cause = not_caused d old new (acts.Chunk digest checked) answer cause
-not_faulted d old new (acts.ReadFile name offset) answer cause = not_caused d old new (acts.ReadFile name offset) answer cause
-not_faulted d old new (acts.ReadChunk name entry) answer cause = not_caused d old new (acts.ReadChunk name entry) answer cause
 not_faulted d old new (acts.RemoteList command) answer cause = not_reached d old new (acts.RemoteList command) answer cause
 not_faulted d old new (acts.RemoteFile snapshot name offset) answer cause = not_reached d old new (acts.RemoteFile snapshot name offset) answer cause
 not_faulted d old new (acts.RemoteChunk digest) answer cause = not_reached d old new (acts.RemoteChunk digest) answer cause
@@ -320,11 +281,12 @@ not_faulted d old new acts.Start answer cause = not_started d old new acts.Start
 not_faulted d old new acts.Step answer cause = not_stepped d old new acts.Step answer cause
 not_faulted d old new acts.Short answer cause = λ none is. short_fault (sym cause.1 ∙ is)
 not_faulted d old new acts.End answer cause = not_ended d old new answer cause
+not_faulted d old new act answer cause = not_caused d old new act answer cause
 
 -- a fault stays
 pub no_fault_before : (place kind : ℕ) (before : Option ℕ) → fault_after place kind before ≡ None → before ≡ None
 no_fault_before place kind None e = refl
-no_fault_before place kind (Some first) e = absurd (by_test (kind == 5) e)
+no_fault_before place kind (Some first) e = absurd (by_test (kind == FAULT_KIND) e)
   where
     by_test : (b : Bool) → (if b then first_fault place (Some first) else Some first) ≡ None → ⊥
     by_test true e = cc

@@ -14,8 +14,7 @@ use Rattle.port_traits.specs.declared.clock.Clock as clocks
 use Rattle.store_types.specs.declared.names.Digest32.{Digest32}
 use Rattle.store_types.specs.declared.refusal.Refusal.{Refusal}
 use Rattle.store_types.specs.declared.refusal.Refusal.TheVariants as refusals
-use Rattle.store_types.specs.declared.refusal.SessionState.TheVariants as states
-use Rattle.store_types.specs.Chain.Refusing.{◌>>=◌}
+use Rattle.store_types.specs.declared.order.TheConstants.{COMMAND_KIND, START_KIND}
 use Rattle.blob_codec.specs.Blob.{blob}
 use Rattle.store_files.specs.Archive.{Snapshot}
 use Rattle.store_files.specs.Folder.{IsDigest, chunk_name}
@@ -25,10 +24,11 @@ use Rattle.wire_commands.specs.declared.reply.Reply.TheVariants as replies
 use Rattle.store_model.specs.ArchiveSteps.{checked_chunk}
 use Rattle.store_model.specs.Steps.{answered}
 use Rattle.store_model.specs.Store as model
-use Rattle.store_model.specs.Store.{Store, Outcome, session, want_writer, with_session}
+use Rattle.store_model.specs.Store.{Store, Outcome, with_session}
 use Rattle.store_model.specs.WriterCalls.{chunk}
-use Rattle.store_model.specs.WriterSteps.{goes_on}
 use Rattle.store_model.proofs.Paths.{chunk_apart}
+use Rattle.store_model.proofs.Done.{err_ok}
+use Rattle.store_model.proofs.Done as walks
 use Rattle.atime_book.specs.Touches.{greatest}
 use Rattle.chunk_store.proofs.Names.{chunk_not_temporary, same_digest}
 use Rattle.store_history.specs.declared.act.Act.{Act}
@@ -97,48 +97,18 @@ sent_there digest checked when t =
 
 -- ---- a CHUNK of the plain store
 
--- it is refused, or its piece joins the pool of the lane's writer
-data ChunkIs (s : Store) (lane : ℕ) (r : Result (List ℕ) Refusal) : Type 0 where
-  fails : (refusal : Refusal) → checked_chunk s lane r ≡ Err refusal → ChunkIs s lane r
-  gives : (w : model.Writer) (piece : List ℕ) → r ≡ Ok piece → checked_chunk s lane r ≡ Ok (with_session s lane (model.writer (chunk w piece)), replies.Done) → ChunkIs s lane r
+refused_done : (refusal : Refusal) → replies.Refused refusal ≡ replies.Done → ⊥
+refused_done refusal e = cc
 
-module _ (s : Store) (lane : ℕ) (r : Result (List ℕ) Refusal) where
-  abbrev pooled : model.Writer → Result (List ℕ) Refusal → Outcome
-  pooled w o = o >>= λ piece. Ok (with_session s lane (model.writer (chunk w piece)), replies.Done)
-
-  abbrev asked : model.Session → Outcome
-  asked x = want_writer x >>= λ w. pooled w r
-
-  step_is : checked_chunk s lane r ≡ asked (session s lane)
-  unfolding checked_chunk goes_on
-  step_is = refl
-
-  chunk_is : ChunkIs s lane r
-  chunk_is = by_session (session s lane) refl
-    where
-      by_check : (w : model.Writer) → session s lane ≡ model.writer w → (o : Result (List ℕ) Refusal) → r ≡ o → ChunkIs s lane r
-      by_check w at (Ok piece) is = gives w piece is (step_is ∙ ap asked at ∙ ap (pooled w) is)
-      by_check w at (Err refusal) is = fails refusal (step_is ∙ ap asked at ∙ ap (pooled w) is)
-
-      by_session : (x : model.Session) → session s lane ≡ x → ChunkIs s lane r
-      by_session model.none at = fails (refusals.WrongState states.Idle) (step_is ∙ ap asked at)
-      by_session (model.writer w) at = by_check w at r refl
-      by_session (model.reader v) at = fails (refusals.WrongState states.Reader) (step_is ∙ ap asked at)
-
-  refused_done : (refusal : Refusal) → replies.Refused refusal ≡ replies.Done → ⊥
-  refused_done refusal e = cc
-
-  -- done, its piece is in the pool
-  chunk_done : (answered s (checked_chunk s lane r)).1 ≡ replies.Done
-      → (w : model.Writer) × (piece : List ℕ) × (r ≡ Ok piece) × ((answered s (checked_chunk s lane r)).0 ≡ with_session s lane (model.writer (chunk w piece)))
-  chunk_done is = by_case chunk_is
-    where
-      by_case : ChunkIs s lane r → (w : model.Writer) × (piece : List ℕ) × (r ≡ Ok piece) × ((answered s (checked_chunk s lane r)).0 ≡ with_session s lane (model.writer (chunk w piece)))
-      by_case (fails refusal e) = absurd (refused_done refusal (sym (ap (λ (o : Outcome). (answered s o).1) e) ∙ is))
-      by_case (gives w piece ok e) = (w, piece, ok, ap (λ (o : Outcome). (answered s o).0) e)
-
-err_ok : {A : Type 0} (e : Refusal) (x : A) → ◌≡◌ {A = Result A Refusal} (Err e) (Ok x) → ⊥
-err_ok e x is = cc
+-- done, its piece is in the pool of the lane's writer
+chunk_done : (s : Store) (lane : ℕ) (r : Result (List ℕ) Refusal) → (answered s (checked_chunk s lane r)).1 ≡ replies.Done
+    → (w : model.Writer) × (piece : List ℕ) × (r ≡ Ok piece) × ((answered s (checked_chunk s lane r)).0 ≡ with_session s lane (model.writer (chunk w piece)))
+chunk_done s lane r = by_outcome (checked_chunk s lane r) refl
+  where
+    by_outcome : (o : Outcome) → checked_chunk s lane r ≡ o → (answered s o).1 ≡ replies.Done
+        → (w : model.Writer) × (piece : List ℕ) × (r ≡ Ok piece) × ((answered s o).0 ≡ with_session s lane (model.writer (chunk w piece)))
+    by_outcome (Ok after) e is = let d = walks.chunk_done s lane r after e in (d.0, d.1, d.3, ap (λ (x : Store × Reply). x.0) d.4)
+    by_outcome (Err refusal) e is = absurd (refused_done refusal is)
 
 -- which has the digest under which it was sent
 piece_digest : (digest : Digest32) (checked : Result (List ℕ) Refusal) (piece : List ℕ) → IsCheckedChunk digest checked → data_in checked ≡ Ok piece → sha256 piece ≡ digest.0
@@ -156,7 +126,7 @@ chunk_there m s lane w digest piece lt named disk =
 
 -- ---- one act
 
-store_after : (R : Option (List Snapshot)) (w : World) (e : Event) → kind e ≡ 0 → (world_after R w e).store ≡ (answered w.store (act_outcome R w (lane_of e) (moment e) e.act)).0
+store_after : (R : Option (List Snapshot)) (w : World) (e : Event) → kind e ≡ COMMAND_KIND → (world_after R w e).store ≡ (answered w.store (act_outcome R w (lane_of e) (moment e) e.act)).0
 unfolding world_after moved
 store_after R w e zero = ap (λ n. (moved R w (lane_of e) (moment e) e.act (kind_of n)).store) zero
 
@@ -241,7 +211,7 @@ module _ {D E C : Type 0} (d : Ghosts D) (clock : clocks.Ghosts C) (old new : Co
     abbrev sends : Act
     sends = Chunk digest checked
 
-    module _ (zero : (answer.entry).kind ≡ 0) (told : answer.reply ≡ Some replies.Done) where
+    module _ (zero : (answer.entry).kind ≡ COMMAND_KIND) (told : answer.reply ≡ Some replies.Done) where
       chunk_out : act_outcome h.remote w k (answer.entry).moment sends ≡ checked_chunk w.store k (data_in checked)
       unfolding act_outcome
       chunk_out = refl
@@ -278,7 +248,7 @@ module _ {D E C : Type 0} (d : Ghosts D) (clock : clocks.Ghosts C) (old new : Co
           (λ same. subst (Present sends) same here)
           (λ ne. others sends f x is (λ same. ne (same_digest digest.0 x (subst IsDigest named (is_digest its.1)) is (sym same)), chunk_not_temporary x digest.0) ne)
 
-    by_reply_told : (answer.entry).kind ≡ 0 → (reply : Reply) → answer.reply ≡ Some reply → IsTrue (may_answer sends reply) → (x : List ℕ) → IsDigest x → Present sends x
+    by_reply_told : (answer.entry).kind ≡ COMMAND_KIND → (reply : Reply) → answer.reply ≡ Some reply → IsTrue (may_answer sends reply) → (x : List ℕ) → IsDigest x → Present sends x
     by_reply_told zero replies.Done told may x is = sent zero told x is
     by_reply_told zero (replies.Refused r) told may x is = refused sends f r told (λ same. not_faulted d old new sends answer f.cause f.none (told ∙ ap (λ (v : Refusal). Some (replies.Refused v)) same)) x is
     by_reply_told zero reply told may x is = absurd (false_true may)
@@ -298,7 +268,7 @@ module _ {D E C : Type 0} (d : Ghosts D) (clock : clocks.Ghosts C) (old new : Co
 -- where the core stands for the history then
 pub touches_by : {D E C : Type 0} (d : Ghosts D) (clock : clocks.Ghosts C) (old new : Core D E C) (lane : ℕ) (act : Act) (answer : Answer) → lane < 64 → IsWellFormed act
     → IsAnswered d old new lane answer → IsCaused d old new act answer → ActKeeps d old new lane act answer
-    → is_step act ≡ false → new.collector ≡ collector_by (answer.entry).kind lane old.collector → ((answer.entry).kind ≡ 3 → ⊥)
+    → is_step act ≡ false → new.collector ≡ collector_by (answer.entry).kind lane old.collector → ((answer.entry).kind ≡ START_KIND → ⊥)
     → (h : History) → StandsFor d clock.readings old h → KeepsTouches d old h → StandsFor d clock.readings new (then_event h (event_of act answer (d.calls (new.parts).disk)))
     → KeepsTouches d new (then_event h (event_of act answer (d.calls (new.parts).disk)))
 touches_by d clock old new lane act answer lt formed answers cause keeps unstepped collector opens_none h s touches so = record {
@@ -349,7 +319,7 @@ touches_by d clock old new lane act answer lt formed answers cause keeps unstepp
 
 pub touches_more : {D E C : Type 0} (d : Ghosts D) (clock : clocks.Ghosts C) (old new : Core D E C) (lane : ℕ) (act : Act) (answer : Answer) → lane < 64 → IsWellFormed act
     → StandsMore d clock old new act answer → IsAnswered d old new lane answer → IsCaused d old new act answer → ActKeeps d old new lane act answer
-    → is_step act ≡ false → new.collector ≡ collector_by (answer.entry).kind lane old.collector → ((answer.entry).kind ≡ 3 → ⊥)
+    → is_step act ≡ false → new.collector ≡ collector_by (answer.entry).kind lane old.collector → ((answer.entry).kind ≡ START_KIND → ⊥)
     → (h : History) → StandsFor d clock.readings old h → KeepsTouches d old h → IsClearFor act (then_event h (event_of act answer (d.calls (new.parts).disk)))
     → KeepsTouches d new (then_event h (event_of act answer (d.calls (new.parts).disk)))
 touches_more d clock old new lane act answer lt formed more answers cause keeps unstepped collector opens_none h s touches clear =

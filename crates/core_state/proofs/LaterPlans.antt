@@ -10,6 +10,7 @@ use Rattle.store_types.specs.declared.names.SnapshotKey.{SnapshotKey}
 use Rattle.store_types.specs.declared.refusal.Refusal.{Refusal}
 use Rattle.store_types.specs.Names.{key_of, same_key}
 use Rattle.store_types.specs.KeyOrder.{same_key_equiv}
+use Rattle.store_types.specs.declared.order.TheConstants.{START_KIND}
 use Rattle.store_files.specs.Archive.{Snapshot}
 use Rattle.wire_commands.specs.declared.command.Command.TheVariants.{Finish, Forget}
 use Rattle.wire_commands.specs.declared.reply.Reply.{Reply}
@@ -126,14 +127,14 @@ unstarted w s e starting (suc (suc (suc (suc (suc (suc zero)))))) other none = r
 unstarted w s e starting (suc (suc (suc (suc (suc (suc (suc zero))))))) other none = refl
 unstarted w s e starting (suc (suc (suc (suc (suc (suc (suc (suc n)))))))) other none = refl
 
-sweep_after : (R : Option (List Snapshot)) (w : World) (s : Swept) (e : Event) → (class_of e.act ≡ sweeping → ⊥) → (kind e ≡ 3 → ⊥)
+sweep_after : (R : Option (List Snapshot)) (w : World) (s : Swept) (e : Event) → (class_of e.act ≡ sweeping → ⊥) → (kind e ≡ START_KIND → ⊥)
     → (swept_after R w s e).sweep ≡ while_open (after R w e).collecting (option_map (spared e.act (reply_of e)) s.sweep)
 unfolding swept_after
 sweep_after R w s e other none = ap (while_open (after R w e).collecting) (unstarted w s e (class_of e.act) (kind e) other none)
 
 pub none_open : (v : Option Collecting) → None ≡ shown_collecting v → v ≡ None
 none_open None is = refl
-none_open (Some v) is = let shown : OpenOn = record { lane = v.lane; ended = ended_if v.is_short } in absurd (none_some shown is)
+none_open (Some v) is = let shown : OpenOn = record { lane = v.lane; ended = ended_if v.is_out_of_memory } in absurd (none_some shown is)
 
 pub stays_open : (x : OpenOn) (v : Option Collecting) (sweep : Option Sweep) → Some x ≡ shown_collecting v → while_open v sweep ≡ sweep
 stays_open x None sweep is = absurd (none_some x (sym is))
@@ -387,7 +388,7 @@ module _ {D E C : Type 0} (d : Ghosts D) (clock : clocks.Ghosts C) (old new : Co
 
 pub plans_more : {D E C : Type 0} (d : Ghosts D) (clock : clocks.Ghosts C) (old new : Core D E C) (lane : ℕ) (act : Act) (answer : Answer) (h : History) → lane < 64 → IsWellFormed act
     → IsAnswered d old new lane answer → ActKeeps d old new lane act answer → is_step act ≡ false → new.collector ≡ collector_by (answer.entry).kind lane old.collector
-    → ((answer.entry).kind ≡ 3 → ⊥) → StandsFor d clock.readings old h → StandsFor d clock.readings new (then_event h (event_of act answer (d.calls (new.parts).disk))) → KeepsTouches d old h
+    → ((answer.entry).kind ≡ START_KIND → ⊥) → StandsFor d clock.readings old h → StandsFor d clock.readings new (then_event h (event_of act answer (d.calls (new.parts).disk))) → KeepsTouches d old h
     → ShowsOpen (length (new.journal).entries.items) (new.parts).catalogue.items (world (then_event h (event_of act answer (d.calls (new.parts).disk)))).store.snapshots new.collector
     (swept_of (then_event h (event_of act answer (d.calls (new.parts).disk)))).sweep
 plans_more d clock old new lane act answer h lt formed answers keeps unstepped collector opens_none s so touches = by_open new.collector refl

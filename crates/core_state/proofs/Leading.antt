@@ -12,6 +12,7 @@ use Rattle.store_files.specs.Archive.{Snapshot}
 use Rattle.store_files.specs.Folder.{HasWholeChunks, chunk_name, file_path, manifest_path}
 use Rattle.store_files.specs.Manifest.{Manifest}
 use Rattle.store_types.specs.Names.{key_of}
+use Rattle.store_types.specs.declared.order.TheConstants.{FAULT_KIND}
 use Rattle.wire_commands.specs.declared.command.Command.TheVariants.{Finish, Forget}
 use Rattle.wire_commands.specs.declared.reply.Reply.{Reply}
 use Rattle.wire_commands.specs.declared.reply.Reply.TheVariants as replies
@@ -41,7 +42,7 @@ use Rattle.core_state.specs.Applies.{ActKeeps}
 use Rattle.core_state.specs.Changes.{Change, IsFirm, LeavesChange, MayLeave, after, by_reply, change_of, chunk_put, drops, finishes, forgets, installs, stays, stores, undone}
 use Rattle.core_state.specs.Commands.{IsNoRefusal, change_at, is_step}
 use Rattle.core_state.specs.Holds.{Holds}
-use Rattle.core_state.specs.Due.{IsDue}
+use Rattle.core_state.specs.PassedTests.{PassesItsTests}
 use Rattle.core_state.specs.Recovers.{TellsMoments}
 use Rattle.core_state.specs.Wanted.{session_at}
 use Rattle.core_state.proofs.Calls.{later}
@@ -140,10 +141,10 @@ pub record IsCalm {D E C : Type 0} (d : Ghosts D) (old new : Core D E C) (R : Op
   pub formed : IsWellFormed act
   pub right : Right R w (answer.entry).lane (answer.entry).moment act answer.reply (class_of act) (kind_of (answer.entry).kind)
   -- no fault came
-  pub unhurt : ((answer.entry).kind == 5) ≡ false → answer.reply ≡ Some (replies.Refused refusals.DiskFault) → ⊥
-  pub whole : ((answer.entry).kind == 5) ≡ false → HasWholeChunks (d.content (new.parts).disk)
+  pub unhurt : ((answer.entry).kind == FAULT_KIND) ≡ false → answer.reply ≡ Some (replies.Refused refusals.DiskFault) → ⊥
+  pub whole : ((answer.entry).kind == FAULT_KIND) ≡ false → HasWholeChunks (d.content (new.parts).disk)
   -- one did
-  pub due : answer.reply ≡ Some (replies.Refused refusals.DiskFault) → IsDue act w.store (answer.entry).lane
+  pub passed_its_tests : answer.reply ≡ Some (replies.Refused refusals.DiskFault) → PassesItsTests act w.store (answer.entry).lane
 
 pub stays_refused : (change : Change) (r : Refusal) → (r ≡ refusals.DiskFault → ⊥) → by_reply change (Some (replies.Refused r)) ≡ stays
 stays_refused change refusals.DiskFault other = absurd (other refl)
@@ -263,7 +264,7 @@ module _ {D E C : Type 0} (d : Ghosts D) (told : TellsMoments d) (old new : Core
   by_finish : IsCalm d old new R w fin answer → FinishIs w.store k → CameTo R w k (answer.entry).moment fin answer.reply n → LeadsTo (next fin)
   by_finish f step (short reply then_is) = shorted fin f reply then_is
   by_finish f (finish_fails r is) (done calm says then_is) = refused fin f r (finish_out ∙ is) calm says then_is
-  by_finish f (finish_fails r is) (faulted hurt reply then_is) = absurd (err_ok (finish w.store k) r is (f.due reply))
+  by_finish f (finish_fails r is) (faulted hurt reply then_is) = absurd (err_ok (finish w.store k) r is (f.passed_its_tests reply))
   by_finish f (finish_gives v m at check is) (done calm says then_is) =
       let reply : answer.reply ≡ Some replies.Done = says ∙ ap (λ (x : Outcome). Some (answered w.store x).1) (finish_out ∙ is) in
       finish_given f v m at check (ap (by_reply (change_at old.parts k fin)) reply) (λ _. reply) (then_is ∙ ap (λ (x : Outcome). (answered w.store x).0) (finish_out ∙ is))
@@ -292,7 +293,7 @@ module _ {D E C : Type 0} (d : Ghosts D) (told : TellsMoments d) (old new : Core
     by_forget : ForgetIs w.store k text → CameTo R w k (answer.entry).moment gone answer.reply n → LeadsTo (next gone)
     by_forget step (short reply then_is) = shorted gone f reply then_is
     by_forget (forget_fails r is) (done calm says then_is) = refused gone f r (forget_out ∙ is) calm says then_is
-    by_forget (forget_fails r is) (faulted hurt reply then_is) = absurd (err_ok (forget w.store k text) r is (f.due reply))
+    by_forget (forget_fails r is) (faulted hurt reply then_is) = absurd (err_ok (forget w.store k text) r is (f.passed_its_tests reply))
     by_forget (forget_gives key x named there is) (done calm says then_is) =
         let reply : answer.reply ≡ Some replies.Done = says ∙ ap (λ (x : Outcome). Some (answered w.store x).1) (forget_out ∙ is) in
         forget_given key x named there (ap (by_reply (change_at old.parts k gone)) reply) (λ _. reply) (then_is ∙ ap (λ (x : Outcome). (answered w.store x).0) (forget_out ∙ is))
@@ -321,7 +322,7 @@ module _ {D E C : Type 0} (d : Ghosts D) (told : TellsMoments d) (old new : Core
         stored put.0 put.2 (subst HasWholeChunks now_reads (f.whole calm))
     by_change (inr put) (short reply then_is) = shorted sends f reply then_is
     by_change (inr put) (faulted hurt reply then_is) =
-        stored put.0 put.2 (whole_storing read digest.0 put.0 (subst (λ r. IsDue (Chunk digest r) w.store k) put.1 (f.due reply)) (((f.holds).files).snapshots).chunks)
+        stored put.0 put.2 (whole_storing read digest.0 put.0 (subst (λ r. PassesItsTests (Chunk digest r) w.store k) put.1 (f.passed_its_tests reply)) (((f.holds).files).snapshots).chunks)
 
   -- ---- any act
 

@@ -27,7 +27,7 @@ pub mod Readers
 pub mod Commanding
 pub mod Calls
 pub mod Touching
-pub mod ByKept
+pub mod FromState
 pub mod Applying
 pub mod Starts
 pub mod Ending

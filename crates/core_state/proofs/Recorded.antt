@@ -2,6 +2,7 @@
 use Rattle.disk_trait.specs.declared.disk.Disk.{Ghosts}
 use Rattle.std.proofs.Common.{◌≡◌, ◌<◌, ◌≤◌, ◌+◌, ◌^◌, inl, inr, ℕ, suc, List, [], ◌∷◌, ◌++◌, length, length-append, Option, Some, None, IfSome, Result, sym, ap, subst, ◌∙◌, arith}
 use Rattle.std.proofs.lemmas.List.{map-append, length-map}
+use Rattle.store_types.specs.declared.order.TheConstants.{MEMORY_KIND}
 use Rattle.port_traits.specs.Readings.{Readings}
 use Rattle.disk_trait.specs.declared.disk.DiskError.{DiskError}
 use Rattle.wire_commands.specs.declared.reply.Reply.{Reply}
@@ -132,7 +133,7 @@ step_kind d old new act answer step cause = subst (λ c. FitsKind c old.fault (a
     by_cause (was_halted place before is told) = inr (inr is)
 
 pub wanting_kind : {D E C : Type 0} (old : Core D E C) (act : Act) (answer : Answer)
-    → class_of act ≡ wanting → (answer.entry).kind ≡ 2 → FitsKind (class_of act) old.fault (answer.entry).kind
+    → class_of act ≡ wanting → (answer.entry).kind ≡ MEMORY_KIND → FitsKind (class_of act) old.fault (answer.entry).kind
 wanting_kind old act answer want is = subst (λ c. FitsKind c old.fault (answer.entry).kind) (sym want) is
 
 pub end_kind : {D E C : Type 0} (d : Ghosts D) (old new : Core D E C) (act : Act) (answer : Answer)

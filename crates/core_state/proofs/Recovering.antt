@@ -1,6 +1,7 @@
 -- Each image stands for what the history gives by then, with one act more.
 use Rattle.std.proofs.Common.{◌≡◌, ◌<◌, ◌≤◌, ◌⊎◌, ⊎_elim, inl, inr, ℕ, Bool, true, false, not, ◌&&◌, ◌==◌, if◌then◌else◌, is_none, nat_le, length, List, [], ◌∷◌, ◌++◌, append-nil, Option, Some, None, IfSome, refl, sym, ap, subst, ◌∙◌, arith}
 use Rattle.std.proofs.lemmas.Bool.{cases_lt, leb-true}
+use Rattle.store_types.specs.declared.order.TheConstants.{FAULT_KIND}
 use Rattle.disk_trait.specs.Disk.{Now}
 use Rattle.disk_trait.specs.Files.{Files}
 use Rattle.disk_trait.specs.declared.disk.Disk.{Ghosts}
@@ -43,7 +44,7 @@ pub one_is : (R : Option (List Snapshot)) (w : World) (e : Event) → one_more R
 unfolding after
 one_is R w e = refl
 
-after_is : (R : Option (List Snapshot)) (w : World) (e : Event) → (kind e == 5) ≡ false → one_more R w e ≡ (after R w e).store
+after_is : (R : Option (List Snapshot)) (w : World) (e : Event) → (kind e == FAULT_KIND) ≡ false → one_more R w e ≡ (after R w e).store
 after_is R w e calm = ap (λ b. if b then undisturbed R w e else (after R w e).store) calm
 
 pub clear_for : (act : Act) (h : History) → IsClear h → IsClearFor act h
@@ -78,7 +79,7 @@ module _ {D E C : Type 0} (d : Ghosts D) (clock : clocks.Ghosts C) (told : Tells
 
   -- What it leaves of images that stand for the snapshots of now, where the disk had not failed.
   abbrev pub LeadsOn : Type 0
-  LeadsOn = old.fault ≡ None → Leads d (old.parts).disk (new.parts).disk ((kind e == 5) ≡ false) (w.store).snapshots (one_more h.remote w e).snapshots
+  LeadsOn = old.fault ≡ None → Leads d (old.parts).disk (new.parts).disk ((kind e == FAULT_KIND) ≡ false) (w.store).snapshots (one_more h.remote w e).snapshots
 
   module _ (s : StandsFor d clock.readings old h) (halts : IfSome old.fault (λ _. (new.parts).disk ≡ (old.parts).disk))
       (change : Change) (crash : LeavesChange d (old.parts).disk (new.parts).disk change) (leads_on : LeadsOn) (begin : ℕ) (recovers : Recovers d begin old h) where
@@ -93,7 +94,7 @@ module _ {D E C : Type 0} (d : Ghosts D) (clock : clocks.Ghosts C) (told : Tells
       calm : is_none w.fault ≡ true
       calm = ap is_none (sym s.fault ∙ none)
 
-      its : Leads d (old.parts).disk (new.parts).disk ((kind e == 5) ≡ false) (w.store).snapshots (one_more h.remote w e).snapshots
+      its : Leads d (old.parts).disk (new.parts).disk ((kind e == FAULT_KIND) ≡ false) (w.store).snapshots (one_more h.remote w e).snapshots
       its = leads_on none
 
       -- each image of now stands for the snapshots of now
@@ -113,9 +114,9 @@ module _ {D E C : Type 0} (d : Ghosts D) (clock : clocks.Ghosts C) (told : Tells
           let up = later d (old.parts).disk (new.parts).disk _ crash in
           (x.0, x.1, reopens_before h.remote start h.events e t x.0 (omega (arith, lt, up)) x.2)
 
-      past_by : (t : ℕ) (a b : Bool) → nat_le e.calls t ≡ a → (kind e == 5) ≡ b → is_past t w e ≡ (a && not b && true)
+      past_by : (t : ℕ) (a b : Bool) → nat_le e.calls t ≡ a → (kind e == FAULT_KIND) ≡ b → is_past t w e ≡ (a && not b && true)
       past_by t a b p q =
-          ap (λ x. x && not (kind e == 5) && is_none w.fault) p ∙ ap (λ x. a && not x && is_none w.fault) q ∙ ap (λ x. a && not b && x) calm
+          ap (λ x. x && not (kind e == FAULT_KIND) && is_none w.fault) p ∙ ap (λ x. a && not x && is_none w.fault) q ∙ ap (λ x. a && not b && x) calm
 
       abbrev Gives : ℕ → List Snapshot → Bool → Type 0
       Gives t found past = Either past (found ≡ ((after h.remote w e).store).snapshots) ((found ≡ (w.store).snapshots) ⊎ (found ≡ (one_more h.remote w e).snapshots))
@@ -131,7 +132,7 @@ module _ {D E C : Type 0} (d : Ghosts D) (clock : clocks.Ghosts C) (told : Tells
       either t c le is (inr stands) = given t c (one_more h.remote w e).snapshots false le stands is (inr refl)
 
       since : (t : ℕ) (c : Files) → d.calls (old.parts).disk ≤ t → d.images (new.parts).disk t c → Found t c
-      since t c le image = by_kind (kind e == 5) refl
+      since t c le image = by_kind (kind e == FAULT_KIND) refl
         where
           one_of : Stands c (w.store).snapshots ⊎ Stands c (one_more h.remote w e).snapshots
           one_of = its.each now t c le image
@@ -140,7 +141,7 @@ module _ {D E C : Type 0} (d : Ghosts D) (clock : clocks.Ghosts C) (told : Tells
           late true = refl
           late false = refl
 
-          by_time : (kind e == 5) ≡ false → (a : Bool) → nat_le e.calls t ≡ a → Found t c
+          by_time : (kind e == FAULT_KIND) ≡ false → (a : Bool) → nat_le e.calls t ≡ a → Found t c
           by_time calm true past =
               let last = (told (new.parts).disk t c image).1 in
               let low : e.calls ≤ t = leb-true e.calls t past in
@@ -149,7 +150,7 @@ module _ {D E C : Type 0} (d : Ghosts D) (clock : clocks.Ghosts C) (told : Tells
               (ap (λ (x : Store). x.snapshots) (after_is h.remote w e calm))
           by_time calm false past = either t c le (past_by t false false past calm) one_of
 
-          by_kind : (b : Bool) → (kind e == 5) ≡ b → Found t c
+          by_kind : (b : Bool) → (kind e == FAULT_KIND) ≡ b → Found t c
           by_kind true hurt = either t c le (past_by t (nat_le e.calls t) true refl hurt ∙ late (nat_le e.calls t)) one_of
           by_kind false calm = by_time calm (nat_le e.calls t) refl
 
@@ -174,7 +175,7 @@ module _ {D E C : Type 0} (d : Ghosts D) (clock : clocks.Ghosts C) (told : Tells
     none_there : w.fault ≡ None
     none_there = sym s.fault ∙ none
 
-    unhurt : (kind e == 5) ≡ false → new.fault ≡ None
+    unhurt : (kind e == FAULT_KIND) ≡ false → new.fault ≡ None
     unhurt calm = fault ∙ ap (λ b. if b then first_fault (length (old.journal).entries.items) old.fault else old.fault) calm ∙ none
 
     facts : IsCalm d old new h.remote w act answer
@@ -189,14 +190,14 @@ module _ {D E C : Type 0} (d : Ghosts D) (clock : clocks.Ghosts C) (told : Tells
       right = right.says;
       unhurt = λ calm is. not_faulted d old new act answer cause (unhurt calm) is;
       whole = λ calm. ((so.files (sym so.fault ∙ unhurt calm)).snapshots).chunks;
-      due = λ is. keeps.due none is w.store holds;
+      passed_its_tests = λ is. keeps.passed_its_tests none is w.store holds;
     }
       where
         holds : Holds d old.parts w.store
         holds = record { honest = s.honest; shows = s.shows; files = s.files none_there }
 
-    led : Leads d (old.parts).disk (new.parts).disk ((kind e == 5) ≡ false) (w.store).snapshots (one_more h.remote w e).snapshots
-    led = subst (λ (x : Store). Leads d (old.parts).disk (new.parts).disk ((kind e == 5) ≡ false) (w.store).snapshots x.snapshots) (sym (one_is h.remote w e))
+    led : Leads d (old.parts).disk (new.parts).disk ((kind e == FAULT_KIND) ≡ false) (w.store).snapshots (one_more h.remote w e).snapshots
+    led = subst (λ (x : Store). Leads d (old.parts).disk (new.parts).disk ((kind e == FAULT_KIND) ≡ false) (w.store).snapshots x.snapshots) (sym (one_is h.remote w e))
         (leads d told old new h.remote w answer act facts)
 
 -- By this the core stands for a history with the act's event more.

@@ -5,6 +5,7 @@ use Rattle.std.proofs.lemmas.List.Elements.{filter-append}
 use Rattle.disk_trait.specs.Disk.{Rose}
 use Rattle.disk_trait.specs.declared.disk.Disk.{Ghosts}
 use Rattle.store_types.specs.declared.order.Entry.{Entry}
+use Rattle.store_types.specs.declared.order.TheConstants.{REMOTE_FAULT_KIND}
 use Rattle.store_files.specs.Archive.{Snapshot}
 use Rattle.store_model.specs.Stands.{StandsFor as Stands}
 use Rattle.snapshot_files.proofs.OnlyReading.{same_then}
@@ -15,20 +16,20 @@ use Rattle.core_state.specs.Remotes.{IsRead, RemoteServes, RemoteStays, ShowsRem
 
 failed_more : (xs : List Entry) (x : Entry) → failed_reads (xs ++ x ∷ []) ≡ failed_reads xs + failed_reads (x ∷ [])
 failed_more xs x =
-    ap length (filter-append (λ (y : Entry). y.kind == 7) xs (x ∷ []))
-    ∙ length-append (filter (λ (y : Entry). y.kind == 7) xs) (filter (λ (y : Entry). y.kind == 7) (x ∷ []))
+    ap length (filter-append (λ (y : Entry). y.kind == REMOTE_FAULT_KIND) xs (x ∷ []))
+    ∙ length-append (filter (λ (y : Entry). y.kind == REMOTE_FAULT_KIND) xs) (filter (λ (y : Entry). y.kind == REMOTE_FAULT_KIND) (x ∷ []))
 
-other_read : (x : Entry) → (x.kind ≡ 7 → ⊥) → failed_reads (x ∷ []) ≡ 0
-other_read x other = by_test (x.kind == 7) refl
+other_read : (x : Entry) → (x.kind ≡ REMOTE_FAULT_KIND → ⊥) → failed_reads (x ∷ []) ≡ 0
+other_read x other = by_test (x.kind == REMOTE_FAULT_KIND) refl
   where
-    by_test : (b : Bool) → (x.kind == 7) ≡ b → failed_reads (x ∷ []) ≡ 0
+    by_test : (b : Bool) → (x.kind == REMOTE_FAULT_KIND) ≡ b → failed_reads (x ∷ []) ≡ 0
     by_test true e = absurd (other (eqb-true x.kind 7 e))
     by_test false e = ap (λ b. length (if b then x ∷ [] else [])) e
 
 failed_once : (x : Entry) → failed_reads (x ∷ []) ≤ 1
-failed_once x = by_test (x.kind == 7) refl
+failed_once x = by_test (x.kind == REMOTE_FAULT_KIND) refl
   where
-    by_test : (b : Bool) → (x.kind == 7) ≡ b → failed_reads (x ∷ []) ≤ 1
+    by_test : (b : Bool) → (x.kind == REMOTE_FAULT_KIND) ≡ b → failed_reads (x ∷ []) ≤ 1
     by_test true e = let is : failed_reads (x ∷ []) ≡ 1 = ap (λ b. length (if b then x ∷ [] else [])) e in omega arith
     by_test false e = let is : failed_reads (x ∷ []) ≡ 0 = ap (λ b. length (if b then x ∷ [] else [])) e in omega arith
 
@@ -94,7 +95,7 @@ module _ {E : Type 0} (e : Ghosts E) where
     }
 
     -- with one entry more, of no failed read
-    pub serves_other : (old new : Core D E C) (x : Entry) → (new.journal).entries.items ≡ (old.journal).entries.items ++ x ∷ [] → (x.kind ≡ 7 → ⊥)
+    pub serves_other : (old new : Core D E C) (x : Entry) → (new.journal).entries.items ≡ (old.journal).entries.items ++ x ∷ [] → (x.kind ≡ REMOTE_FAULT_KIND → ⊥)
         → RemoteStays e old.remote new.remote → RemoteServes e old new
     serves_other old new x more other stays = record {
       stays = stays;
@@ -123,6 +124,6 @@ module _ {E : Type 0} (e : Ghosts E) where
     }
 
     -- the remote was let alone
-    pub serves_alone : (old new : Core D E C) (x : Entry) → (new.journal).entries.items ≡ (old.journal).entries.items ++ x ∷ [] → (x.kind ≡ 7 → ⊥)
+    pub serves_alone : (old new : Core D E C) (x : Entry) → (new.journal).entries.items ≡ (old.journal).entries.items ++ x ∷ [] → (x.kind ≡ REMOTE_FAULT_KIND → ⊥)
         → new.remote ≡ old.remote → RemoteServes e old new
     serves_alone old new x more other same = serves_other old new x more other (subst (RemoteStays e old.remote) (sym same) (stays_same old.remote))

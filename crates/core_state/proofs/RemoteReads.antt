@@ -5,17 +5,21 @@ use Rattle.disk_trait.specs.Disk.{Rose}
 use Rattle.disk_trait.specs.declared.disk.Disk.{Ghosts}
 use Rattle.port_traits.specs.declared.clock.Clock as clocks
 use Rattle.store_types.specs.declared.refusal.Refusal.TheVariants as refusals
+use Rattle.store_types.specs.declared.order.TheConstants.{COMMAND_KIND, FAULT_KIND, REMOTE_FAULT_KIND}
 use Rattle.wire_commands.specs.declared.reply.Reply.{Reply}
 use Rattle.wire_commands.specs.declared.reply.Reply.TheVariants as replies
 use Rattle.wire_commands.specs.HasText.{ReplyHasText}
+use Rattle.store_model.specs.Store.{Store}
 use Rattle.store_history.specs.declared.act.Act.{Act}
-use Rattle.store_history.specs.declared.act.Act.TheVariants.{Blob, Chunk, End, JobGroup, Plain, ReadChunk, ReadFile, RemoteChunk, RemoteFile, RemoteList, Short, Start, Step}
+use Rattle.store_history.specs.declared.act.Act.TheVariants.{End, RemoteChunk, RemoteFile, RemoteList, Short, Start, Step}
 use Rattle.store_history.specs.declared.act.Answer.{Answer}
-use Rattle.store_history.specs.Acts.{IsWellFormed, class_of, ending, reaching, starting, sweeping}
+use Rattle.store_history.specs.declared.act.Family.TheVariants.{Reaches}
+use Rattle.store_history.specs.Acts.{IsWellFormed, class_of, ending, family_of, is_reaching, reaching, starting, sweeping}
 use Rattle.store_history.specs.History.{act_outcome, kind_of, moved}
-use Rattle.store_history.specs.LastTouches.{SameTouches, touched_by}
+use Rattle.store_history.specs.LastTouches.{LastTouches, SameTouches, touched_by}
 use Rattle.store_history.specs.Legal.{Right}
 use Rattle.store_history.specs.Remote.{ReadsIn, may_read}
+use Rattle.store_history.proofs.Families.{by_remote}
 use Rattle.core_state.specs.declared.entering.Admitted.TheVariants.{Answered}
 use Rattle.core_state.specs.declared.kept.Listed.{Listed}
 use Rattle.core_state.specs.declared.kept.Session.{Session}
@@ -31,7 +35,7 @@ use Rattle.core_state.specs.Changes.{IsFirm, after, by_reply, stays}
 use Rattle.core_state.specs.Closing.{closes, closes_by, is_closing}
 use Rattle.core_state.specs.Collectors.{collector_by, open_in, shown_collecting}
 use Rattle.core_state.specs.Commands.{change_at, ends_session, is_remotes, leaves_writer}
-use Rattle.core_state.specs.Due.{IsDue}
+use Rattle.core_state.specs.PassedTests.{PassesItsTests}
 use Rattle.core_state.specs.Entering.{held_by}
 use Rattle.core_state.specs.History.{History, StandsFor, event_of, then_event, world}
 use Rattle.core_state.specs.Remotes.{RemoteServes, RemoteStays, SettlesRead, ShowsRemote, faults_of, kind_by, reads_remote, reply_by}
@@ -62,67 +66,38 @@ true_false e = cc
 
 -- ---- what these acts are
 
-pub remote_class : (act : Act) → is_remotes act ≡ true → class_of act ≡ reaching
-remote_class (RemoteList c) is = refl
-remote_class (RemoteFile snapshot name offset) is = refl
-remote_class (RemoteChunk digest) is = refl
-remote_class act is = absurd (false_true is)
+pub remote_class : (act : Act) → family_of act ≡ Reaches → class_of act ≡ reaching
+remote_class = by_remote (λ act. class_of act ≡ reaching) (λ c. refl) (λ snapshot name offset. refl) (λ digest. refl)
 
-remote_other : (act : Act) → is_remotes act ≡ true → IsNoEnd act
-remote_other (RemoteList c) is = record { end = λ e. cc; sweep = λ e. cc; step = λ e. cc; no = refl }
-remote_other (RemoteFile snapshot name offset) is = record { end = λ e. cc; sweep = λ e. cc; step = λ e. cc; no = refl }
-remote_other (RemoteChunk digest) is = record { end = λ e. cc; sweep = λ e. cc; step = λ e. cc; no = refl }
-remote_other act is = absurd (false_true is)
+remote_other : (act : Act) → family_of act ≡ Reaches → IsNoEnd act
+remote_other = by_remote IsNoEnd (λ c. record { end = λ e. cc; sweep = λ e. cc; step = λ e. cc; no = refl })
+    (λ snapshot name offset. record { end = λ e. cc; sweep = λ e. cc; step = λ e. cc; no = refl }) (λ digest. record { end = λ e. cc; sweep = λ e. cc; step = λ e. cc; no = refl })
 
-remote_change : {D : Type 0} (parts : Parts D) (lane : ℕ) (act : Act) → is_remotes act ≡ true → change_at parts lane act ≡ stays
-remote_change parts lane (RemoteList c) is = refl
-remote_change parts lane (RemoteFile snapshot name offset) is = refl
-remote_change parts lane (RemoteChunk digest) is = refl
-remote_change parts lane act is = absurd (false_true is)
+remote_change : {D : Type 0} (parts : Parts D) (lane : ℕ) (act : Act) → family_of act ≡ Reaches → change_at parts lane act ≡ stays
+remote_change parts lane = by_remote (λ act. change_at parts lane act ≡ stays) (λ c. refl) (λ snapshot name offset. refl) (λ digest. refl)
 
-remote_lists : (act : Act) → is_remotes act ≡ true → (reply : Option Reply) (place : ℕ) (session : Session) (catalogue : List Listed) → listed_by act reply place session catalogue ≡ catalogue
-remote_lists (RemoteList c) is reply place session catalogue = refl
-remote_lists (RemoteFile snapshot name offset) is reply place session catalogue = refl
-remote_lists (RemoteChunk digest) is reply place session catalogue = refl
-remote_lists act is reply place session catalogue = absurd (false_true is)
+remote_lists : (reply : Option Reply) (place : ℕ) (session : Session) (catalogue : List Listed) (act : Act) → family_of act ≡ Reaches → listed_by act reply place session catalogue ≡ catalogue
+remote_lists reply place session catalogue = by_remote (λ act. listed_by act reply place session catalogue ≡ catalogue) (λ c. refl) (λ snapshot name offset. refl) (λ digest. refl)
 
-remote_closes : (act : Act) → is_remotes act ≡ true → (x : Session) → closes act x ≡ false
-remote_closes (RemoteList c) is x = refl
-remote_closes (RemoteFile snapshot name offset) is x = refl
-remote_closes (RemoteChunk digest) is x = refl
-remote_closes act is x = absurd (false_true is)
+remote_closes : (x : Session) (act : Act) → family_of act ≡ Reaches → closes act x ≡ false
+remote_closes x = by_remote (λ act. closes act x ≡ false) (λ c. refl) (λ snapshot name offset. refl) (λ digest. refl)
 
-remote_ends : (act : Act) → is_remotes act ≡ true → ends_session act ≡ true → ⊥
-remote_ends (RemoteList c) is ends = false_true ends
-remote_ends (RemoteFile snapshot name offset) is ends = false_true ends
-remote_ends (RemoteChunk digest) is ends = false_true ends
-remote_ends act is ends = false_true is
+remote_ends : (act : Act) → family_of act ≡ Reaches → ends_session act ≡ true → ⊥
+remote_ends = by_remote (λ act. ends_session act ≡ true → ⊥) (λ c. false_true) (λ snapshot name offset. false_true) (λ digest. false_true)
 
-remote_writes : (act : Act) → is_remotes act ≡ true → leaves_writer act ≡ true → ⊥
-remote_writes (RemoteList c) is writes = false_true writes
-remote_writes (RemoteFile snapshot name offset) is writes = false_true writes
-remote_writes (RemoteChunk digest) is writes = false_true writes
-remote_writes act is writes = false_true is
+remote_writes : (act : Act) → family_of act ≡ Reaches → leaves_writer act ≡ true → ⊥
+remote_writes = by_remote (λ act. leaves_writer act ≡ true → ⊥) (λ c. false_true) (λ snapshot name offset. false_true) (λ digest. false_true)
 
-remote_touches : (act : Act) → is_remotes act ≡ true → (reply : Option Reply) (when : ℕ) (t : _) → SameTouches t (touched_by act reply when t)
-remote_touches (RemoteList c) is reply when t = same_touches t
-remote_touches (RemoteFile snapshot name offset) is reply when t = same_touches t
-remote_touches (RemoteChunk digest) is reply when t = same_touches t
-remote_touches act is reply when t = absurd (false_true is)
+remote_touches : (reply : Option Reply) (when : ℕ) (t : LastTouches) (act : Act) → family_of act ≡ Reaches → SameTouches t (touched_by act reply when t)
+remote_touches reply when t = by_remote (λ act. SameTouches t (touched_by act reply when t)) (λ c. same_touches t) (λ snapshot name offset. same_touches t) (λ digest. same_touches t)
 
-remote_due : (act : Act) → is_remotes act ≡ true → (s : _) (lane : ℕ) → IsDue act s lane
-remote_due (RemoteList c) is s lane = tt
-remote_due (RemoteFile snapshot name offset) is s lane = tt
-remote_due (RemoteChunk digest) is s lane = tt
-remote_due act is s lane = absurd (false_true is)
+remote_passes : (s : Store) (lane : ℕ) (act : Act) → family_of act ≡ Reaches → PassesItsTests act s lane
+remote_passes s lane = by_remote (λ act. PassesItsTests act s lane) (λ c. tt) (λ snapshot name offset. tt) (λ digest. tt)
 
 -- they do nothing to the plain store
-remote_moves : (h : History) (k m : ℕ) (act : Act) → is_remotes act ≡ true → (moves h k m act 0).store ≡ (world h).store
+remote_moves : (h : History) (k m : ℕ) (act : Act) → family_of act ≡ Reaches → (moves h k m act 0).store ≡ (world h).store
 unfolding moved act_outcome
-remote_moves h k m (RemoteList c) is = refl
-remote_moves h k m (RemoteFile snapshot name offset) is = refl
-remote_moves h k m (RemoteChunk digest) is = refl
-remote_moves h k m act is = absurd (false_true is)
+remote_moves h k m = by_remote (λ act. (moves h k m act 0).store ≡ (world h).store) (λ c. refl) (λ snapshot name offset. refl) (λ digest. refl)
 
 no_reach_end : reaching ≡ ending → ⊥
 no_reach_end e = cc
@@ -139,7 +114,7 @@ stays_by (Some (replies.Refused refusals.DiskFault)) = refl
 stays_by (Some (replies.Refused refusal)) = refl
 stays_by reply = refl
 
-module _ {D E C : Type 0} (d : Ghosts D) (old new : Core D E C) (act : Act) (remotes : is_remotes act ≡ true) (answer : Answer) where
+module _ {D E C : Type 0} (d : Ghosts D) (old new : Core D E C) (act : Act) (remotes : family_of act ≡ Reaches) (answer : Answer) where
   pub remote_caused : ReachHasCause d old new act answer → IsCaused d old new act answer
   remote_caused cause = subst (λ c. ClassHasCause d c old new act answer) (sym (remote_class act remotes)) cause
 
@@ -170,19 +145,19 @@ kind_calm (Err stops.NoMemory) = (λ e. absurd (omega (arith, e)), λ e. absurd 
 kind_calm (Err stops.Failed) = (λ e. absurd (omega (arith, e)), λ e. absurd (omega (arith, e)))
 
 -- such an act has one of two kinds, where it read nothing
-pub unread_kind : (act : Act) (answer : Answer) → is_remotes act ≡ true → reads_remote act answer ≡ false → ((answer.entry).kind ≡ 0) ⊎ ((answer.entry).kind ≡ 5)
+pub unread_kind : (act : Act) (answer : Answer) → family_of act ≡ Reaches → reads_remote act answer ≡ false → ((answer.entry).kind ≡ COMMAND_KIND) ⊎ ((answer.entry).kind ≡ FAULT_KIND)
 unread_kind act answer remotes unread =
-    by_kind ((answer.entry).kind == 0) ((answer.entry).kind == 5) refl refl (ap (λ b. b && not ((answer.entry).kind == 0 || (answer.entry).kind == 5)) (sym remotes) ∙ unread)
+    by_kind ((answer.entry).kind == COMMAND_KIND) ((answer.entry).kind == FAULT_KIND) refl refl (ap (λ f. is_reaching f && not ((answer.entry).kind == COMMAND_KIND || (answer.entry).kind == FAULT_KIND)) (sym remotes) ∙ unread)
   where
-    by_kind : (a b : Bool) → ((answer.entry).kind == 0) ≡ a → ((answer.entry).kind == 5) ≡ b → not ((answer.entry).kind == 0 || (answer.entry).kind == 5) ≡ false
-        → ((answer.entry).kind ≡ 0) ⊎ ((answer.entry).kind ≡ 5)
+    by_kind : (a b : Bool) → ((answer.entry).kind == COMMAND_KIND) ≡ a → ((answer.entry).kind == FAULT_KIND) ≡ b → not ((answer.entry).kind == COMMAND_KIND || (answer.entry).kind == FAULT_KIND) ≡ false
+        → ((answer.entry).kind ≡ COMMAND_KIND) ⊎ ((answer.entry).kind ≡ FAULT_KIND)
     by_kind true b zero five is = inl (eqb-true (answer.entry).kind 0 zero)
     by_kind false true zero five is = inr (eqb-true (answer.entry).kind 5 five)
-    by_kind false false zero five is = absurd (true_false (sym (ap (λ x. not (x || (answer.entry).kind == 5)) zero ∙ ap not five) ∙ is))
+    by_kind false false zero five is = absurd (true_false (sym (ap (λ x. not (x || (answer.entry).kind == FAULT_KIND)) zero ∙ ap not five) ∙ is))
 
 -- and no other act reads it
 pub others_unread : (act : Act) (answer : Answer) → is_remotes act ≡ false → reads_remote act answer ≡ false
-others_unread act answer alone = ap (λ b. b && not ((answer.entry).kind == 0 || (answer.entry).kind == 5)) alone
+others_unread act answer alone = ap (λ b. b && not ((answer.entry).kind == COMMAND_KIND || (answer.entry).kind == FAULT_KIND)) alone
 
 fit_text : (act : Act) (ended : Result Reply RemoteStop) → GivesFit act ended → ReplyHasText (reply_by ended)
 fit_text act (Ok reply) fit = fit.1
@@ -190,7 +165,7 @@ fit_text act (Err (stops.Refused refusal)) fit = fit.1
 fit_text act (Err stops.NoMemory) fit = no_memory_has_text
 fit_text act (Err stops.Failed) fit = remote_fault_has_text
 
-module _ {D E C : Type 0} (d : Ghosts D) (e : Ghosts E) (clock : clocks.Ghosts C) (old mid new : Core D E C) (k m : ℕ) (act : Act) (remotes : is_remotes act ≡ true)
+module _ {D E C : Type 0} (d : Ghosts D) (e : Ghosts E) (clock : clocks.Ghosts C) (old mid new : Core D E C) (k m : ℕ) (act : Act) (remotes : family_of act ≡ Reaches)
     (remote : Option E) (ended : Result Reply RemoteStop) (answer : Answer) (lt : k < 64) (formed : IsWellFormed act)
     (ready : IsReady clock.readings old mid k m) (filled : is_closing old k act ≡ false → (3 ≤ held_by mid.journal k) × (0 < (mid.journal).spare))
     (settles : SettlesRead d (record mid { remote = remote }) new k m ended answer) (unread : kind_by ended ≡ 0 → remote ≡ mid.remote) where
@@ -216,7 +191,7 @@ module _ {D E C : Type 0} (d : Ghosts D) (e : Ghosts E) (clock : clocks.Ghosts C
   other = remote_other act remotes
 
   not_closing : is_closing old k act ≡ false
-  not_closing = ap (λ f. closes_by f act (session_at old.parts k)) ready.no_fault ∙ remote_closes act remotes (session_at old.parts k)
+  not_closing = ap (λ f. closes_by f act (session_at old.parts k)) ready.no_fault ∙ remote_closes (session_at old.parts k) act remotes
 
   change : change_at old.parts k act ≡ stays
   change = remote_change old.parts k act remotes
@@ -230,29 +205,29 @@ module _ {D E C : Type 0} (d : Ghosts D) (e : Ghosts E) (clock : clocks.Ghosts C
   -- it read nothing only where its tests refused it
   pub refused : reads_remote act answer ≡ false → n ≡ 0
   refused alone =
-      ⊎_elim (λ (zero : (answer.entry).kind ≡ 0). sym kind_is ∙ zero) (λ (five : (answer.entry).kind ≡ 5). absurd ((kind_calm ended).1 (sym kind_is ∙ five)))
+      ⊎_elim (λ (zero : (answer.entry).kind ≡ COMMAND_KIND). sym kind_is ∙ zero) (λ (five : (answer.entry).kind ≡ FAULT_KIND). absurd ((kind_calm ended).1 (sym kind_is ∙ five)))
       (unread_kind act answer remotes alone)
 
   pub read_keeps : ActKeeps d old new k act answer
   read_keeps =
       let same = ap (λ p. p.disk) parts in record {
         unchanged = subst (λ r. IfSome r (Unchanged d old.parts new.parts)) (sym settles.reply_is) (same_unchanged d old.parts new.parts (reply_by ended) parts);
-        quiet = λ _. same;
+        no_disk_call = λ _. same;
         reads = λ _ h. ap d.content same;
         content = λ _ _ _ h. ap d.content same ∙ ap (λ x. after x (d.content (old.parts).disk)) (sym none);
         crash = λ _. inl same;
-        due = λ _ _ s h. remote_due act remotes s k;
+        passed_its_tests = λ _ _ s h. remote_passes s k act remotes;
         firm = λ _ _. subst (IsFirm d (old.parts).disk (new.parts).disk) (sym change) tt;
-        listed = ap (λ p. p.catalogue.items) parts ∙ sym (remote_lists act remotes answer.reply answer.place (session_at old.parts k) (old.parts).catalogue.items);
+        listed = ap (λ p. p.catalogue.items) parts ∙ sym (remote_lists answer.reply answer.place (session_at old.parts k) (old.parts).catalogue.items act remotes);
         admin = λ _. (ap (λ p. p.sessions.items) parts, ap (λ p. p.locks) parts);
         ended = λ ends. absurd (remote_ends act remotes ends);
         halted = where_none _ _ ready.no_fault;
         writes = λ writes. absurd (remote_writes act remotes writes);
         remote = λ alone. settles.remote ∙ unread (refused alone) ∙ b.remote;
-        upkeep = λ _. entered_touches d old mid acted new k m n act (Some (reply_by ended)) answer b.upkeep (remote_touches act remotes (Some (reply_by ended)) m (touches_kept mid.upkeep)) settles;
+        upkeep = λ _. entered_touches d old mid acted new k m n act (Some (reply_by ended)) answer b.upkeep (remote_touches (Some (reply_by ended)) m (touches_kept mid.upkeep) act remotes) settles;
         collector = λ _. collector;
         stepped = λ is. absurd (other.step is);
-        memory = λ closing. absurd (closes_none old.fault act (session_at old.parts k) (remote_closes act remotes (session_at old.parts k)) closing);
+        memory = λ closing. absurd (closes_none old.fault act (session_at old.parts k) (remote_closes (session_at old.parts k) act remotes) closing);
         reserve = no_end_keeps old new k act answer other.end other.sweep
             (entered_keeps d clock.readings old mid acted new k m n (Some (reply_by ended)) (is_closing old k act) answer ready refl (filled not_closing) settles);
       }
@@ -384,7 +359,7 @@ module _ {D E C : Type 0} (d : Ghosts D) (e : Ghosts E) (clock : clocks.Ghosts C
 
 -- an act that let the remote alone, and was entered as no failed read
 pub beside : {D E C : Type 0} (d : Ghosts D) (e : Ghosts E) (clock : clocks.Ghosts C) (old new : Core D E C) (lane : ℕ) (act : Act) (answer : Answer)
-    → ActApplies d clock old new lane act answer → new.remote ≡ old.remote → ((answer.entry).kind ≡ 7 → ⊥) → CoreApplies d e clock old new lane act answer
+    → ActApplies d clock old new lane act answer → new.remote ≡ old.remote → ((answer.entry).kind ≡ REMOTE_FAULT_KIND → ⊥) → CoreApplies d e clock old new lane act answer
 beside d e clock old new lane act answer applies alone other = record {
   history = λ h s shown kept clear. applies.history h s kept clear;
   records = applies.records;
@@ -398,32 +373,26 @@ beside d e clock old new lane act answer applies alone other = record {
 }
 
 -- no other act is entered so
-no_seven : {D E C : Type 0} (d : Ghosts D) (old new : Core D E C) (act : Act) (answer : Answer) → HasCause d old new act answer → (answer.entry).kind ≡ 7 → ⊥
+no_seven : {D E C : Type 0} (d : Ghosts D) (old new : Core D E C) (act : Act) (answer : Answer) → HasCause d old new act answer → (answer.entry).kind ≡ REMOTE_FAULT_KIND → ⊥
 no_seven d old new act answer (done before zero reply told may) seven = omega (arith, zero, seven)
 no_seven d old new act answer (short two told) seven = omega (arith, two, seven)
 no_seven d old new act answer (failed before five told fault rose) seven = omega (arith, five, seven)
 no_seven d old new act answer (halted place before five told) seven = omega (arith, five, seven)
 
-end_no_seven : {D E C : Type 0} (d : Ghosts D) (old new : Core D E C) (answer : Answer) → EndHasCause d old new answer → (answer.entry).kind ≡ 7 → ⊥
+end_no_seven : {D E C : Type 0} (d : Ghosts D) (old new : Core D E C) (answer : Answer) → EndHasCause d old new answer → (answer.entry).kind ≡ REMOTE_FAULT_KIND → ⊥
 end_no_seven d old new answer (has_ended six told) seven = omega (arith, six, seven)
 end_no_seven d old new answer (end_failed before five told fault rose) seven = omega (arith, five, seven)
 
-start_no_seven : {D E C : Type 0} (d : Ghosts D) (old new : Core D E C) (act : Act) (answer : Answer) → StartHasCause d old new act answer → (answer.entry).kind ≡ 7 → ⊥
+start_no_seven : {D E C : Type 0} (d : Ghosts D) (old new : Core D E C) (act : Act) (answer : Answer) → StartHasCause d old new act answer → (answer.entry).kind ≡ REMOTE_FAULT_KIND → ⊥
 start_no_seven d old new act answer (start_opens before three told) seven = omega (arith, three, seven)
 start_no_seven d old new act answer (start_as_any cause) seven = no_seven d old new act answer cause seven
 
-step_no_seven : {D E C : Type 0} (d : Ghosts D) (old new : Core D E C) (act : Act) (answer : Answer) → StepHasCause d old new act answer → (answer.entry).kind ≡ 7 → ⊥
+step_no_seven : {D E C : Type 0} (d : Ghosts D) (old new : Core D E C) (act : Act) (answer : Answer) → StepHasCause d old new act answer → (answer.entry).kind ≡ REMOTE_FAULT_KIND → ⊥
 step_no_seven d old new act answer (step_passes before one told) seven = omega (arith, one, seven)
 step_no_seven d old new act answer (step_ends before four reply told may) seven = omega (arith, four, seven)
 step_no_seven d old new act answer (step_as_any cause) seven = no_seven d old new act answer cause seven
 
-other_kind : {D E C : Type 0} (d : Ghosts D) (old new : Core D E C) (act : Act) (answer : Answer) → is_remotes act ≡ false → IsCaused d old new act answer → (answer.entry).kind ≡ 7 → ⊥
-other_kind d old new (Plain c) answer is cause = no_seven d old new (Plain c) answer cause
-other_kind d old new (JobGroup c) answer is cause = no_seven d old new (JobGroup c) answer cause
-other_kind d old new (Blob name checked) answer is cause = no_seven d old new (Blob name checked) answer cause
-other_kind d old new (Chunk digest checked) answer is cause = no_seven d old new (Chunk digest checked) answer cause
-other_kind d old new (ReadFile name offset) answer is cause = no_seven d old new (ReadFile name offset) answer cause
-other_kind d old new (ReadChunk name entry) answer is cause = no_seven d old new (ReadChunk name entry) answer cause
+other_kind : {D E C : Type 0} (d : Ghosts D) (old new : Core D E C) (act : Act) (answer : Answer) → is_remotes act ≡ false → IsCaused d old new act answer → (answer.entry).kind ≡ REMOTE_FAULT_KIND → ⊥
 other_kind d old new (RemoteList c) answer is cause = absurd (true_false is)
 other_kind d old new (RemoteFile snapshot name offset) answer is cause = absurd (true_false is)
 other_kind d old new (RemoteChunk digest) answer is cause = absurd (true_false is)
@@ -431,6 +400,7 @@ other_kind d old new Start answer is cause = start_no_seven d old new Start answ
 other_kind d old new Step answer is cause = step_no_seven d old new Step answer cause
 other_kind d old new Short answer is cause = λ seven. let two = cause.0 in omega (arith, two, seven)
 other_kind d old new End answer is cause = end_no_seven d old new answer cause
+other_kind d old new act answer is cause = no_seven d old new act answer cause
 
 -- an act that reads no remote
 pub applies_beside : {D E C : Type 0} (d : Ghosts D) (e : Ghosts E) (clock : clocks.Ghosts C) (old new : Core D E C) (lane : ℕ) (act : Act) (answer : Answer) → is_remotes act ≡ false
@@ -440,10 +410,10 @@ applies_beside d e clock old new lane act answer alone applies keeps =
 
 -- ---- refused before it is read
 
-module _ {D E C : Type 0} (d : Ghosts D) (e : Ghosts E) (clock : clocks.Ghosts C) (old new : Core D E C) (lane : ℕ) (act : Act) (remotes : is_remotes act ≡ true) (answer : Answer)
+module _ {D E C : Type 0} (d : Ghosts D) (e : Ghosts E) (clock : clocks.Ghosts C) (old new : Core D E C) (lane : ℕ) (act : Act) (remotes : family_of act ≡ Reaches) (answer : Answer)
     (refuses : Refuses d clock.readings old new lane answer) where
   goes : is_closing old lane act ≡ true → IsNotShort (Answered answer)
-  goes closing = absurd (closes_none old.fault act (session_at old.parts lane) (remote_closes act remotes (session_at old.parts lane)) closing)
+  goes closing = absurd (closes_none old.fault act (session_at old.parts lane) (remote_closes (session_at old.parts lane) act remotes) closing)
 
   pub unread_keeps : ActKeeps d old new lane act answer
   unread_keeps = refused_kept d clock old new lane act answer (remote_other act remotes) refuses goes

@@ -1,5 +1,5 @@
 -- What a FORGET that is not refused takes away: a finished snapshot's manifest, and only then its other files.
-use Rattle.std.proofs.Common.{◌≡◌, ℕ, Bool, true, false, not, ◌||◌, get_or, map, List, Option, Some, None, Result, Ok, Err, refl, ap, ◌∙◌}
+use Rattle.std.proofs.Common.{◌≡◌, ℕ, Bool, true, false, not, ◌||◌, get_or, map, List, Some, Ok, Err, refl, ap, ◌∙◌}
 use Rattle.std.proofs.lemmas.List.Elements.{All-filter, All-map}
 use Rattle.std.specs.Prelude.{IsTrue}
 use Rattle.std.specs.List.{All, filter}
@@ -8,17 +8,18 @@ use Rattle.std.specs.Result.{result_ok}
 use Rattle.std.specs.Str.{bytes_eq}
 use Rattle.store_types.specs.declared.names.SnapshotKey.{SnapshotKey}
 use Rattle.store_types.specs.declared.refusal.Refusal.{Refusal}
-use Rattle.store_types.specs.declared.refusal.Refusal.TheVariants.{BadName, NoSnapshot, SnapshotBusy}
-use Rattle.store_types.specs.Chain.Refusing.{◌>>=◌, or_else, if_none}
 use Rattle.store_types.specs.FileNames.{is_blob_name, is_dynamic_name, is_file_name, is_fixed_name, is_index_name, manifest_name}
 use Rattle.store_types.specs.Names.{key_of, same_key}
 use Rattle.store_types.proofs.OrderLaws.{same_keys}
 use Rattle.store_files.specs.Archive.{Content, Layout, Snapshot, archive, blob, dynamic, fixed}
 use Rattle.store_files.specs.Folder.{file_path, manifest_path}
+use Rattle.wire_commands.specs.declared.command.Command.TheVariants.{Forget}
 use Rattle.wire_commands.specs.declared.reply.Reply.TheVariants.{Done}
-use Rattle.store_model.specs.AdminSteps.{forget, want_free}
+use Rattle.store_model.specs.AdminSteps.{forget}
+use Rattle.store_model.specs.Steps.{outcome}
+use Rattle.store_model.proofs.Done.{done}
 use Rattle.store_model.specs.Stands.{IsSnapshot, names_content}
-use Rattle.store_model.specs.Store.{Store, Outcome, session, want_idle, snapshot_named, snapshot_holder, without_snapshot}
+use Rattle.store_model.specs.Store.{Store, Outcome, snapshot_named, without_snapshot}
 use Rattle.core_state.specs.declared.kept.Listed.{Listed}
 use Rattle.core_state.specs.declared.kept.StoredFile.{StoredFile}
 use Rattle.core_state.specs.Changes.{forgets, forgotten, names_beside}
@@ -38,42 +39,13 @@ pub data ForgetIs (s : Store) (lane : ℕ) (text : List ℕ) : Type 0 where
   fails : (r : Refusal) → forget s lane text ≡ Err r → ForgetIs s lane text
   gives : (key : SnapshotKey) (x : Snapshot) → key_of text ≡ Some key → snapshot_named key s.snapshots ≡ Some x → forget s lane text ≡ Ok (forgot s key, Done) → ForgetIs s lane text
 
-module _ (s : Store) (lane : ℕ) (text : List ℕ) where
-  abbrev freed : SnapshotKey → Option ℕ → Outcome
-  freed key holder = if_none SnapshotBusy holder >>= λ _. Ok (forgot s key, Done)
-
-  abbrev found : SnapshotKey → Option Snapshot → Outcome
-  found key o = (or_else NoSnapshot o >>= λ _. if_none SnapshotBusy (snapshot_holder s key)) >>= λ _. Ok (forgot s key, Done)
-
-  abbrev named : Option SnapshotKey → Outcome
-  named o = or_else BadName o >>= λ key. found key (snapshot_named key s.snapshots)
-
-  abbrev idle : Result (Unit {0}) Refusal → Outcome
-  idle r = r >>= λ _. named (key_of text)
-
-  step_is : forget s lane text ≡ idle (want_idle (session s lane))
-  unfolding forget want_free
-  step_is = refl
-
-  pub forget_is : ForgetIs s lane text
-  forget_is = by_session (want_idle (session s lane)) refl
-    where
-      by_holder : want_idle (session s lane) ≡ Ok tt → (key : SnapshotKey) → key_of text ≡ Some key → (x : Snapshot) → snapshot_named key s.snapshots ≡ Some x
-          → (o : Option ℕ) → snapshot_holder s key ≡ o → ForgetIs s lane text
-      by_holder at key is x there None free = gives key x is there (step_is ∙ ap idle at ∙ ap named is ∙ ap (found key) there ∙ ap (freed key) free)
-      by_holder at key is x there (Some k) held = fails (SnapshotBusy k) (step_is ∙ ap idle at ∙ ap named is ∙ ap (found key) there ∙ ap (freed key) held)
-
-      by_snapshot : want_idle (session s lane) ≡ Ok tt → (key : SnapshotKey) → key_of text ≡ Some key → (o : Option Snapshot) → snapshot_named key s.snapshots ≡ o → ForgetIs s lane text
-      by_snapshot at key is None absent = fails NoSnapshot (step_is ∙ ap idle at ∙ ap named is ∙ ap (found key) absent)
-      by_snapshot at key is (Some x) there = by_holder at key is x there (snapshot_holder s key) refl
-
-      by_name : want_idle (session s lane) ≡ Ok tt → (o : Option SnapshotKey) → key_of text ≡ o → ForgetIs s lane text
-      by_name at None is = fails BadName (step_is ∙ ap idle at ∙ ap named is)
-      by_name at (Some key) is = by_snapshot at key is (snapshot_named key s.snapshots) refl
-
-      by_session : (r : Result (Unit {0}) Refusal) → want_idle (session s lane) ≡ r → ForgetIs s lane text
-      by_session (Ok u) at = by_name at (key_of text) refl
-      by_session (Err r) at = fails r (step_is ∙ ap idle at)
+pub forget_is : (s : Store) (lane : ℕ) (text : List ℕ) → ForgetIs s lane text
+unfolding outcome
+forget_is s lane text = by_outcome (forget s lane text) refl
+  where
+    by_outcome : (o : Outcome) → forget s lane text ≡ o → ForgetIs s lane text
+    by_outcome (Ok after) e = let d = done s lane 0 (Forget text) after e in gives d.0 d.1 d.3 d.4 (e ∙ ap (λ x. Ok x) d.6)
+    by_outcome (Err r) e = fails r e
 
 -- ---- and what it takes away
 

@@ -7,6 +7,7 @@ use Rattle.disk_trait.specs.declared.disk.DiskError.{DiskError}
 use Rattle.disk_trait.specs.declared.disk.DiskError.TheVariants.{NoMemory as DiskMemory, Failed as DiskFailed}
 use Rattle.wire_commands.specs.declared.command.Command.TheVariants as commands
 use Rattle.store_types.specs.declared.refusal.Refusal.TheVariants.{DiskFault}
+use Rattle.store_types.specs.declared.order.TheConstants.{MEMORY_KIND}
 use Rattle.wire_commands.specs.declared.reply.Reply.{Reply}
 use Rattle.wire_commands.specs.declared.reply.Reply.TheVariants.{Refused}
 use Rattle.store_history.specs.declared.act.Act.{Act}
@@ -81,40 +82,7 @@ closing_two : (fault : Option ℕ) (act : Act) (x : Session) → closes_by fault
 closing_two (Some n) act x h = absurd (true_false (sym h))
 closing_two None (acts.Plain commands.Abort) x h = writer_two x h
 closing_two None (acts.Plain commands.CloseReader) x h = reader_two x h
-closing_two None (acts.Plain (commands.OpenWriter snapshot)) x h = absurd (true_false (sym h))
-closing_two None (acts.Plain (commands.Previous file offset)) x h = absurd (true_false (sym h))
-closing_two None (acts.Plain (commands.NewFixed file size chunk_size)) x h = absurd (true_false (sym h))
-closing_two None (acts.Plain (commands.NewDynamic file)) x h = absurd (true_false (sym h))
-closing_two None (acts.Plain (commands.Chunk digest blob)) x h = absurd (true_false (sym h))
-closing_two None (acts.Plain (commands.Append number entries)) x h = absurd (true_false (sym h))
-closing_two None (acts.Plain (commands.CloseIndex number count size csum)) x h = absurd (true_false (sym h))
-closing_two None (acts.Plain (commands.Blob file blob)) x h = absurd (true_false (sym h))
-closing_two None (acts.Plain commands.Finish) x h = absurd (true_false (sym h))
-closing_two None (acts.Plain (commands.OpenReader snapshot)) x h = absurd (true_false (sym h))
-closing_two None (acts.Plain (commands.Download file offset)) x h = absurd (true_false (sym h))
-closing_two None (acts.Plain (commands.GetChunk digest)) x h = absurd (true_false (sym h))
-closing_two None (acts.Plain (commands.Range file offset len)) x h = absurd (true_false (sym h))
-closing_two None (acts.Plain (commands.List after)) x h = absurd (true_false (sym h))
-closing_two None (acts.Plain (commands.Files snapshot)) x h = absurd (true_false (sym h))
-closing_two None (acts.Plain (commands.Forget snapshot)) x h = absurd (true_false (sym h))
-closing_two None (acts.Plain (commands.Prune group keep dry)) x h = absurd (true_false (sym h))
-closing_two None (acts.Plain (commands.Group group)) x h = absurd (true_false (sym h))
-closing_two None (acts.Plain (commands.Verify snapshot)) x h = absurd (true_false (sym h))
-closing_two None (acts.Plain (commands.Sync group)) x h = absurd (true_false (sym h))
-closing_two None (acts.Plain commands.Gc) x h = absurd (true_false (sym h))
-closing_two None (acts.Plain commands.Bye) x h = absurd (true_false (sym h))
-closing_two None (acts.JobGroup command) x h = absurd (true_false (sym h))
-closing_two None (acts.Blob name checked) x h = absurd (true_false (sym h))
-closing_two None (acts.Chunk digest checked) x h = absurd (true_false (sym h))
-closing_two None (acts.ReadFile name offset) x h = absurd (true_false (sym h))
-closing_two None (acts.ReadChunk name entry) x h = absurd (true_false (sym h))
-closing_two None (acts.RemoteList command) x h = absurd (true_false (sym h))
-closing_two None (acts.RemoteFile snapshot name offset) x h = absurd (true_false (sym h))
-closing_two None (acts.RemoteChunk digest) x h = absurd (true_false (sym h))
-closing_two None acts.Start x h = absurd (true_false (sym h))
-closing_two None acts.Step x h = absurd (true_false (sym h))
-closing_two None acts.Short x h = absurd (true_false (sym h))
-closing_two None acts.End x h = absurd (true_false (sym h))
+closing_two None act x h = absurd (true_false (sym h))
 
 closes_true : (fault : Option ℕ) (act : Act) (x : Session) → closes_by fault act x ≡ true → closes act x ≡ true
 closes_true None act x h = h
@@ -162,7 +130,7 @@ by_spare old new mid lane closing false c answer more others whole spare keeps i
 -- want of memory: an entry of the reserve, of which nothing was put there before, is the last
 by_want : {D E C : Type 0} (old new : Core D E C) (mid : Journal) (lane : ℕ) (closing b : Bool) (answer : Answer)
     → held_by old.journal lane ≤ held_by mid lane → FillsFirst old.journal mid lane → OthersHold old.journal mid lane
-    → ends_by new lane ≡ ends_by old lane → KeepsSpare old.journal new.journal lane → (closing ≡ true → (answer.entry).kind ≡ 2 → ⊥) → (answer.entry).kind ≡ 2 → answer.last ≡ b → Enters mid new.journal lane b
+    → ends_by new lane ≡ ends_by old lane → KeepsSpare old.journal new.journal lane → (closing ≡ true → (answer.entry).kind ≡ MEMORY_KIND → ⊥) → (answer.entry).kind ≡ MEMORY_KIND → answer.last ≡ b → Enters mid new.journal lane b
     → KeepsReserve old new lane closing answer
 by_want old new mid lane closing true answer more filled others ends keeps unless two is e = record {
   one = one_by old.journal mid new.journal lane true more e;
@@ -194,13 +162,13 @@ and_two true = refl
 and_two false = refl
 
 pub short_keeps : {D E C : Type 0} (d : Ghosts D) (readings : C → Option Readings) (old new : Core D E C) (lane : ℕ) (closing : Bool) (answer : Answer)
-    → IsShort d readings old new lane answer → (closing ≡ true → (answer.entry).kind ≡ 2 → ⊥) → KeepsReserve old new lane closing answer
+    → IsShort d readings old new lane answer → (closing ≡ true → (answer.entry).kind ≡ MEMORY_KIND → ⊥) → KeepsReserve old new lane closing answer
 short_keeps d readings old new lane closing answer is unless = let b = is.begun in let e = is.entered in
     by_want old new (is.between).journal lane closing e.is_held answer b.more b.filled b.others
     (ends_same old new lane (e.parts ∙ b.parts) (e.fault ∙ b.fault)) (spare_by old.journal (is.between).journal new.journal lane e.is_held b.none_lost b.whole e.room) unless (ap (λ x. x.kind) e.entry) (e.last_held ∙ and_two e.is_held) e.room
 
 pub refused_keeps : {D E C : Type 0} (d : Ghosts D) (readings : C → Option Readings) (old new : Core D E C) (lane : ℕ) (closing : Bool) (answer : Answer)
-    → Refuses d readings old new lane answer → (closing ≡ true → (answer.entry).kind ≡ 2 → ⊥) → KeepsReserve old new lane closing answer
+    → Refuses d readings old new lane answer → (closing ≡ true → (answer.entry).kind ≡ MEMORY_KIND → ⊥) → KeepsReserve old new lane closing answer
 refused_keeps d readings old new lane closing answer (short is) unless = short_keeps d readings old new lane closing answer is unless
 refused_keeps d readings old new lane closing answer (halted is) unless = let b = is.begun in let e = is.entered in
     by_spare old new (is.between).journal lane closing e.is_held (5 == 2) answer b.more b.others is.whole is.spare
@@ -235,7 +203,7 @@ entered_keeps d readings old mid acted new lane moment n reply closing answer re
 
 -- what the lane's end may take after its session has ended
 closed_one : {D E C : Type 0} (d : Ghosts D) (acted new : Core D E C) (lane moment : ℕ) (result : Result Reply DiskError) (answer : Answer)
-    → Settles d acted new lane moment result answer → HasClosed acted.parts lane result → (ends_by new lane ≡ 1) × ((answer.entry).kind ≡ 2 → ⊥)
+    → Settles d acted new lane moment result answer → HasClosed acted.parts lane result → (ends_by new lane ≡ 1) × ((answer.entry).kind ≡ MEMORY_KIND → ⊥)
 closed_one d acted new lane moment (Ok reply) answer e closed =
     (ends_idle new.fault (session_at new.parts lane) (ap (λ p. slice_index_or p.sessions.items lane Idle) e.parts ∙ closed), λ is. let zero = sym (ap (λ x. x.kind) e.entry) ∙ is in absurd (omega (arith, zero)))
 closed_one d acted new lane moment (Err DiskMemory) answer e closed = absurd closed
@@ -245,7 +213,7 @@ closed_one d acted new lane moment (Err DiskFailed) answer e closed =
 -- its entry may be one of the reserve, which isn't the last
 by_closing : {D E C : Type 0} (old new : Core D E C) (mid : Journal) (lane n : ℕ) (b : Bool) (answer : Answer)
     → held_by old.journal lane ≤ held_by mid lane → OthersHold old.journal mid lane → ends_by old lane ≡ 2 → ends_by new lane ≡ 1
-    → KeepsSpare old.journal new.journal lane → ((answer.entry).kind ≡ 2 → ⊥) → (answer.entry).kind ≡ n → answer.last ≡ b && (n == 2) → Enters mid new.journal lane b
+    → KeepsSpare old.journal new.journal lane → ((answer.entry).kind ≡ MEMORY_KIND → ⊥) → (answer.entry).kind ≡ n → answer.last ≡ b && (n == 2) → Enters mid new.journal lane b
     → KeepsReserve old new lane true answer
 by_closing old new mid lane n b answer more others before after keeps other kind is e = let one = one_by old.journal mid new.journal lane b more e in record {
   one = one;
@@ -278,7 +246,7 @@ done_keeps d readings old mid acted new lane moment act result answer ready same
 
 -- an act that ends a session is never answered by want of memory
 pub closing_kind : {D E C : Type 0} (d : Ghosts D) (acted new : Core D E C) (lane moment : ℕ) (result : Result Reply DiskError) (answer : Answer)
-    → HasClosed acted.parts lane result → Settles d acted new lane moment result answer → (answer.entry).kind ≡ 2 → ⊥
+    → HasClosed acted.parts lane result → Settles d acted new lane moment result answer → (answer.entry).kind ≡ MEMORY_KIND → ⊥
 closing_kind d acted new lane moment result answer closed e = (closed_one d acted new lane moment result answer e closed).1
 
 -- ---- a lane's end
@@ -352,16 +320,6 @@ step_keeps_cut d old acted new lane moment n reply answer same other cut e =
 -- ---- any act
 
 pub no_end_keeps : {D E C : Type 0} (old new : Core D E C) (lane : ℕ) (act : Act) (answer : Answer) → (class_of act ≡ ending → ⊥) → (class_of act ≡ sweeping → ⊥) → KeepsReserve old new lane (is_closing old lane act) answer → Keeps act old new lane answer
-no_end_keeps old new lane (acts.Plain command) answer other no_step h = h
-no_end_keeps old new lane (acts.JobGroup command) answer other no_step h = h
-no_end_keeps old new lane (acts.Blob name checked) answer other no_step h = h
-no_end_keeps old new lane (acts.Chunk digest checked) answer other no_step h = h
-no_end_keeps old new lane (acts.ReadFile name offset) answer other no_step h = h
-no_end_keeps old new lane (acts.ReadChunk name entry) answer other no_step h = h
-no_end_keeps old new lane (acts.RemoteList command) answer other no_step h = h
-no_end_keeps old new lane (acts.RemoteFile snapshot name offset) answer other no_step h = h
-no_end_keeps old new lane (acts.RemoteChunk digest) answer other no_step h = h
-no_end_keeps old new lane acts.Start answer other no_step h = h
 no_end_keeps old new lane acts.Step answer other no_step h = absurd (no_step refl)
-no_end_keeps old new lane acts.Short answer other no_step h = h
 no_end_keeps old new lane acts.End answer other no_step h = absurd (other refl)
+no_end_keeps old new lane act answer other no_step h = h

@@ -4,6 +4,7 @@ use Rattle.std.specs.Prelude.{IsErrOf, OnOk}
 use Rattle.std.specs.FinMap.{get}
 use Rattle.std.specs.Option.{IsSome}
 use Rattle.std.proofs.lemmas.Bool.{cases_lt, le-leb}
+use Rattle.store_types.specs.declared.order.TheConstants.{FAULT_KIND}
 use Rattle.disk_trait.specs.Disk.{Serves}
 use Rattle.disk_trait.specs.Effects.{DiskWantKeeps}
 use Rattle.disk_trait.specs.Files.{Files}
@@ -55,7 +56,7 @@ reopens_later R w (e ∷ es) t u found legal low le reopens =
     let first : e.calls ≤ t = omega (arith, up, low) in
     let second : e.calls ≤ u = omega (arith, first, le) in
     let same : nat_le e.calls t ≡ nat_le e.calls u = le-leb e.calls t first ∙ sym (le-leb e.calls u second) in
-    subst (λ b. Either (b && not (kind e == 5) && is_none w.fault) (Reopens R (after R w e) es u found) ((found ≡ (w.store).snapshots) ⊎ (found ≡ (one_more R w e).snapshots))) same
+    subst (λ b. Either (b && not (kind e == FAULT_KIND) && is_none w.fault) (Reopens R (after R w e) es u found) ((found ≡ (w.store).snapshots) ⊎ (found ≡ (one_more R w e).snapshots))) same
     (either_maps (is_past t w e) (Reopens R (after R w e) es t found) (Reopens R (after R w e) es u found) ((found ≡ (w.store).snapshots) ⊎ (found ≡ (one_more R w e).snapshots))
     (reopens_later R (after R w e) es t u found legal.1 low le) reopens)
 

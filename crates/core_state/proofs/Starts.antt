@@ -7,6 +7,7 @@ use Rattle.disk_trait.specs.declared.disk.DiskError.TheVariants as disks
 use Rattle.port_traits.specs.declared.clock.Clock as clocks
 use Rattle.store_types.specs.declared.refusal.Refusal.{Refusal}
 use Rattle.store_types.specs.declared.refusal.Refusal.TheVariants.{DiskFault}
+use Rattle.store_types.specs.declared.order.TheConstants.{START_KIND}
 use Rattle.wire_commands.specs.declared.reply.Reply.{Reply}
 use Rattle.wire_commands.specs.declared.reply.Reply.TheVariants.{Refused}
 use Rattle.wire_commands.specs.HasText.{ReplyHasText}
@@ -61,7 +62,7 @@ module _ {D E C : Type 0} (d : Ghosts D) (clock : clocks.Ghosts C) (old mid new 
   parts : new.parts ≡ old.parts
   parts = entered.parts ∙ (ready.begun).parts
 
-  kind_is : (answer.entry).kind ≡ 3
+  kind_is : (answer.entry).kind ≡ START_KIND
   kind_is = ap (λ x. x.kind) entered.entry
 
   pub start_opened_keeps : ActKeeps d old new k Start answer
@@ -69,11 +70,11 @@ module _ {D E C : Type 0} (d : Ghosts D) (clock : clocks.Ghosts C) (old mid new 
       let same = ap (λ p. p.disk) parts in
       let none : by_reply (change_at old.parts k Start) answer.reply ≡ stays = ap (by_reply (change_at old.parts k Start)) entered.reply_is in record {
         unchanged = untold_unchanged d old.parts new.parts answer.reply entered.reply_is;
-        quiet = λ _. same;
+        no_disk_call = λ _. same;
         reads = λ _ h. ap d.content same;
         content = λ _ _ _ h. ap d.content same ∙ ap (λ x. after x (d.content (old.parts).disk)) (sym none);
         crash = λ _. inl same;
-        due = λ _ _ s h. tt;
+        passed_its_tests = λ _ _ s h. tt;
         firm = λ _ _. tt;
         listed = ap (λ p. p.catalogue.items) parts;
         admin = λ _. (ap (λ p. p.sessions.items) parts, ap (λ p. p.locks) parts);
@@ -142,11 +143,11 @@ module _ {D E C : Type 0} (d : Ghosts D) (clock : clocks.Ghosts C) (old mid new 
       let same = ap (λ p. p.disk) kept in
       let none : by_reply (change_at old.parts k act) answer.reply ≡ stays = ap (by_reply (change_at old.parts k act)) reply_is ∙ stays_refused (change_at old.parts k act) refusal fine in record {
         unchanged = subst (λ r. IfSome r (Unchanged d old.parts new.parts)) (sym reply_is) (same_unchanged d old.parts new.parts (Refused refusal) kept);
-        quiet = λ _. same;
+        no_disk_call = λ _. same;
         reads = λ _ h. ap d.content same;
         content = λ _ _ _ h. ap d.content same ∙ ap (λ x. after x (d.content (old.parts).disk)) (sym none);
         crash = λ _. inl same;
-        due = λ _ said. absurd (fine (refusal_same refusal DiskFault (sym reply_is ∙ said)));
+        passed_its_tests = λ _ said. absurd (fine (refusal_same refusal DiskFault (sym reply_is ∙ said)));
         firm = λ _. undone answer refusal reply_is;
         listed = ap (λ p. p.catalogue.items) kept ∙ sym (ap (λ r. listed_by act r answer.place (session_at old.parts k) (old.parts).catalogue.items) reply_is
             ∙ unlisted act refusal answer.place (session_at old.parts k) (old.parts).catalogue.items);

@@ -80,7 +80,7 @@ module _ (k : ℕ) where
   shown_on None = refl
   shown_on (Some v) = by_test (v.lane == k)
     where
-      by_test : (b : Bool) → cond b (Some (ended_if v.is_short)) None ≡ option_map ended_if (cond b (Some v.is_short) None)
+      by_test : (b : Bool) → cond b (Some (ended_if v.is_out_of_memory)) None ≡ option_map ended_if (cond b (Some v.is_out_of_memory) None)
       by_test true = refl
       by_test false = refl
 

@@ -1,5 +1,6 @@
 -- Each image stands for what the history gives by then, with one act more of a collector after its start.
 use Rattle.std.proofs.Common.{◌≡◌, ◌==◌, ℕ, false, None, IfSome, refl, sym, ap, subst, ◌∙◌}
+use Rattle.store_types.specs.declared.order.TheConstants.{FAULT_KIND}
 use Rattle.disk_trait.specs.Files.{Files}
 use Rattle.disk_trait.specs.declared.disk.Disk.{Ghosts}
 use Rattle.port_traits.specs.declared.clock.Clock as clocks
@@ -39,5 +40,5 @@ module _ {D E C : Type 0} (d : Ghosts D) (clock : clocks.Ghosts C) (told : Tells
       → (begin : ℕ) → Recovers d begin old h → Recovers d begin new (then_event h (event_of Step answer (d.calls (new.parts).disk)))
   recovers_step s halts change crash spares begin recovers =
       recovers_here d clock told old new Step answer h s halts change crash
-      (λ none. leads_same d told (old.parts).disk (new.parts).disk ((kind e == 5) ≡ false) ((world h).store).snapshots (one_more h.remote (world h) e).snapshots change crash same (spares none))
+      (λ none. leads_same d told (old.parts).disk (new.parts).disk ((kind e == FAULT_KIND) ≡ false) ((world h).store).snapshots (one_more h.remote (world h) e).snapshots change crash same (spares none))
       begin recovers

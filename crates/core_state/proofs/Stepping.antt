@@ -1,6 +1,7 @@
 -- The records of an act of a collector after its start, by what it was entered on.
 use Rattle.disk_trait.specs.declared.disk.Disk.{Ghosts}
 use Rattle.std.proofs.Common.{◌≡◌, ◌==◌, ℕ, true, false, if◌then◌else◌, is_some, IfSome, Option, None, inl, inr, refl, sym, ap, subst, ◌∙◌, arith}
+use Rattle.store_types.specs.declared.order.TheConstants.{FAULT_KIND}
 use Rattle.port_traits.specs.declared.clock.Clock as clocks
 use Rattle.wire_commands.specs.declared.reply.Reply.{Reply}
 use Rattle.wire_commands.specs.HasText.{ReplyHasText}
@@ -30,7 +31,7 @@ false_true e = cc
 
 -- the core once a fault has closed the lane's collector
 abbrev pub faulted_closed : {D E C : Type 0} → ℕ → ℕ → Core D E C → Core D E C
-faulted_closed lane kind core = record core { collector = if kind == 5 then closed_on lane core.collector else core.collector }
+faulted_closed lane kind core = record core { collector = if kind == FAULT_KIND then closed_on lane core.collector else core.collector }
 
 module _ {D E C : Type 0} (d : Ghosts D) (acted between new : Core D E C) (lane k m n : ℕ) (reply : Option Reply) (answer : Answer) (e : IsEntered d acted between k m n reply answer)
     (closes : new ≡ faulted_closed lane (answer.entry).kind between) where
@@ -93,11 +94,11 @@ module _ {D E C : Type 0} (d : Ghosts D) (clock : clocks.Ghosts C) (old acted ne
   pub step_keeps : IfSome reply (Unchanged d old.parts acted.parts) → StepLeaves d old new k answer → StepKeeps old new k answer → ActKeeps d old new k Step answer
   step_keeps unchanged leaves reserve = record {
     unchanged = subst (λ p. IfSome answer.reply (Unchanged d old.parts p)) (sym (is.entered).parts) (subst (λ r. IfSome r (Unchanged d old.parts acted.parts)) (sym (is.entered).reply_is) unchanged);
-    quiet = λ quiet. absurd (false_true quiet);
+    no_disk_call = λ no_disk_call. absurd (false_true no_disk_call);
     reads = λ only. absurd (false_true only);
     content = λ no. absurd (false_true (sym no));
     crash = λ no. absurd (false_true (sym no));
-    due = λ _ _ s h. tt;
+    passed_its_tests = λ _ _ s h. tt;
     firm = λ _ _. tt;
     listed = listed;
     admin = λ _. (ap (λ p. p.sessions.items) (is.entered).parts ∙ (is.kept).sessions, ap (λ p. p.locks) (is.entered).parts ∙ (is.kept).locks);

@@ -7,13 +7,14 @@ use Rattle.disk_trait.specs.declared.disk.DiskError.{DiskError}
 use Rattle.disk_trait.specs.declared.disk.DiskError.TheVariants.{NoMemory as DiskMemory, Failed as DiskFailed}
 use Rattle.store_types.specs.declared.refusal.Refusal.{Refusal}
 use Rattle.store_types.specs.declared.refusal.Refusal.TheVariants.{BadRange, Unreadable, NoMemory, DiskFault, Halted}
+use Rattle.store_types.specs.declared.order.TheConstants.{COMMAND_KIND, MEMORY_KIND, FAULT_KIND}
 use Rattle.wire_commands.specs.declared.reply.Reply.{Reply}
 use Rattle.wire_commands.specs.declared.reply.Reply.TheVariants.{Part, Refused}
 use Rattle.store_history.specs.declared.act.Answer.{Answer}
 use Rattle.snapshot_files.specs.Parts.{IsPartOf}
 use Rattle.core_state.specs.declared.parts.Parts.{Parts}
 use Rattle.core_state.specs.declared.state.Core.{Core}
-use Rattle.core_state.specs.Begins.{Refuses, short as is_short, halted as is_halted, IsReady}
+use Rattle.core_state.specs.Begins.{Refuses, short as is_out_of_memory, halted as is_halted, IsReady}
 use Rattle.core_state.specs.Settles.{Settles, kind_by, reply_by}
 use Rattle.core_state.specs.Unchanged.{is_uncalled}
 use Rattle.core_state.specs.Unreadables.{Asked, part_read, TellsUnreadable}
@@ -78,7 +79,7 @@ module _ {D : Type 0} (d : Ghosts D) (disk : D) where
   }
 
   -- it was not done
-  pub tells_stopped : (asked : Option Asked) (kind : ℕ) (reply : Option Reply) → ((name : List ℕ) → reply ≡ Some (Refused (Unreadable name)) → ⊥) → (kind ≡ 0 → ⊥)
+  pub tells_stopped : (asked : Option Asked) (kind : ℕ) (reply : Option Reply) → ((name : List ℕ) → reply ≡ Some (Refused (Unreadable name)) → ⊥) → (kind ≡ COMMAND_KIND → ⊥)
       → TellsUnreadable d disk asked kind reply
   tells_stopped asked kind reply other is = record {
     named = λ name e. absurd (other name e);
@@ -125,11 +126,11 @@ module _ {D : Type 0} (d : Ghosts D) (disk : D) where
 -- an act that is refused before it is done
 pub tells_refused : {D E C : Type 0} (d : Ghosts D) (readings : C → Option Readings) (old new : Core D E C) (lane : ℕ) (disk : D) (asked : Option Asked) (answer : Answer)
     → Refuses d readings old new lane answer → TellsUnreadable d disk asked (answer.entry).kind answer.reply
-tells_refused d readings old new lane disk asked answer (is_short is) =
-    let kind : (answer.entry).kind ≡ 2 = ap (λ x. x.kind) (is.entered).entry in
+tells_refused d readings old new lane disk asked answer (is_out_of_memory is) =
+    let kind : (answer.entry).kind ≡ MEMORY_KIND = ap (λ x. x.kind) (is.entered).entry in
     tells_stopped d disk asked _ answer.reply (λ name e. apart_memory name (sym (is.entered).reply_is ∙ e)) (λ k. absurd (omega (arith, k, kind)))
 tells_refused d readings old new lane disk asked answer (is_halted is) =
-    let kind : (answer.entry).kind ≡ 5 = ap (λ x. x.kind) (is.entered).entry in
+    let kind : (answer.entry).kind ≡ FAULT_KIND = ap (λ x. x.kind) (is.entered).entry in
     tells_stopped d disk asked _ answer.reply (λ name e. apart_halted is.first name (sym (is.entered).reply_is ∙ e)) (λ k. absurd (omega (arith, k, kind)))
 
 -- an act that was done, as its command tells

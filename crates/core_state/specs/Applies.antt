@@ -4,6 +4,7 @@ use Rattle.disk_trait.specs.Effects.{SameContent}
 use Rattle.disk_trait.specs.declared.disk.Disk.{Ghosts}
 use Rattle.port_traits.specs.declared.clock.Clock as clocks
 use Rattle.store_types.specs.declared.refusal.Refusal.TheVariants.{DiskFault}
+use Rattle.store_types.specs.declared.order.TheConstants.{MEMORY_KIND}
 use Rattle.wire_commands.specs.declared.reply.Reply.TheVariants.{Refused}
 use Rattle.store_history.specs.declared.act.Act.{Act}
 use Rattle.store_history.specs.declared.act.Act.TheVariants.{Chunk, Step}
@@ -16,8 +17,8 @@ use Rattle.core_state.specs.Catalogue.{Lists}
 use Rattle.core_state.specs.Changes.{IsFirm, LeavesChange, after, by_reply}
 use Rattle.core_state.specs.Closing.{is_closing, is_writer}
 use Rattle.core_state.specs.Collectors.{collector_by}
-use Rattle.core_state.specs.Commands.{IsNoRefusal, change_at, ends_session, is_collectors, is_quiet, is_step, is_still, leaves_writer, reads_only}
-use Rattle.core_state.specs.Due.{DueAt}
+use Rattle.core_state.specs.Commands.{IsNoRefusal, change_at, ends_session, is_collectors, calls_no_disk, is_step, is_still, leaves_writer, reads_only}
+use Rattle.core_state.specs.PassedTests.{PassedItsTestsAt}
 use Rattle.core_state.specs.History.{History, IsClear, StandsFor, then_event, event_of}
 use Rattle.core_state.specs.KeepsTouches.{KeepsTouches}
 use Rattle.core_state.specs.Passes.{StepLeaves}
@@ -82,7 +83,7 @@ pub record CoreApplies {D E C : Type 0} (d : Ghosts D) (e : Ghosts E) (clock : c
 pub record ActKeeps {D E C : Type 0} (d : Ghosts D) (old new : Core D E C) (lane : ℕ) (act : Act) (answer : Answer) : Type 0 where
   -- a refused act has changed nothing
   pub unchanged : IfSome answer.reply (Unchanged d old.parts new.parts)
-  pub quiet : is_quiet act ≡ true → (new.parts).disk ≡ (old.parts).disk
+  pub no_disk_call : calls_no_disk act ≡ true → (new.parts).disk ≡ (old.parts).disk
   -- an honest disk reads as before, whatever it held, in any case
   pub reads : reads_only act ≡ true → SameContent d (old.parts).disk (new.parts).disk
   -- Unless it failed in this act or before, an honest disk reads then as the act's change makes it of what it read before, whatever that
@@ -91,7 +92,7 @@ pub record ActKeeps {D E C : Type 0} (d : Ghosts D) (old new : Core D E C) (lane
       → d.content (new.parts).disk ≡ after (by_reply (change_at old.parts lane act) answer.reply) (d.content (old.parts).disk)
   pub crash : is_step act ≡ false → LeavesChange d (old.parts).disk (new.parts).disk (by_reply (change_at old.parts lane act) answer.reply)
   -- where the disk failed in it, a FINISH or a FORGET had passed its tests, and a CHUNK was to put a piece's blob
-  pub due : DueAt d old lane act answer
+  pub passed_its_tests : PassedItsTestsAt d old lane act answer
   pub firm : old.fault ≡ None → IsDone answer → IsFirm d (old.parts).disk (new.parts).disk (change_at old.parts lane act)
   pub listed : Lists old new lane act answer
   -- the acts on the store as a whole, the reads of a VERIFY, and the collector's acts leave sessions and locks as they are
@@ -111,5 +112,5 @@ pub record ActKeeps {D E C : Type 0} (d : Ghosts D) (old new : Core D E C) (lane
   -- what a mark, a visit or the end of a collector leaves of disk, book and collector
   pub stepped : is_step act ≡ true → StepLeaves d old new lane answer
   -- an ABORT or a CLOSE_READER that ends a session wants no memory
-  pub memory : is_closing old lane act ≡ true → (answer.entry).kind ≡ 2 → ⊥
+  pub memory : is_closing old lane act ≡ true → (answer.entry).kind ≡ MEMORY_KIND → ⊥
   pub reserve : Keeps act old new lane answer

@@ -4,6 +4,7 @@ use Rattle.std.specs.Prelude.{◌≡◌, ◌≤◌, ◌<◌, ℕ, false, length,
 use Rattle.port_traits.specs.Readings.{Readings}
 use Rattle.store_types.specs.Times.{last_moment}
 use Rattle.store_types.specs.declared.refusal.Refusal.TheVariants.{NoMemory, Halted}
+use Rattle.store_types.specs.declared.order.TheConstants.{MEMORY_KIND}
 use Rattle.wire_commands.specs.declared.reply.Reply.TheVariants.{Refused}
 use Rattle.wire_commands.specs.HasText.{ReplyHasText}
 use Rattle.store_history.specs.declared.act.Act.{Act}
@@ -95,7 +96,7 @@ Begins d readings old new lane (Answered answer) = Refuses d readings old new la
 -- where the act may be done, the lane's reserve is whole and there is a spare entry
 abbrev pub IsFilled : Journal → ℕ → Admitted → Type 0
 IsFilled j lane (At at) = (3 ≤ held_by j lane) × (0 < j.spare)
-IsFilled j lane (Answered answer) = ((answer.entry).kind ≡ 2 → ⊥) → 3 ≤ held_by j lane
+IsFilled j lane (Answered answer) = ((answer.entry).kind ≡ MEMORY_KIND → ⊥) → 3 ≤ held_by j lane
 
 -- so it is for an act that ends no session
 abbrev pub FillsUp : {D E C : Type 0} → Core D E C → Core D E C → ℕ → Act → Admitted → Type 0
@@ -104,7 +105,7 @@ FillsUp old new lane act admitted = is_closing old lane act ≡ false → IsFill
 -- it is not answered by want of memory
 abbrev pub IsNotShort : Admitted → Type 0
 IsNotShort (At at) = Unit {0}
-IsNotShort (Answered answer) = (answer.entry).kind ≡ 2 → ⊥
+IsNotShort (Answered answer) = (answer.entry).kind ≡ MEMORY_KIND → ⊥
 
 -- what is answered has a spelling
 abbrev pub AdmittedHasText : Admitted → Type 0

@@ -2,6 +2,7 @@
 use Rattle.std.specs.Prelude.{ℕ, ◌+◌, Bool, true, false, ◌&&◌, ◌||◌, ◌==◌, if◌then◌else◌, Option, Some, None, option_map, is_some}
 use Rattle.store_types.specs.declared.refusal.Refusal.{Refusal}
 use Rattle.store_types.specs.declared.refusal.Refusal.TheVariants as refusals
+use Rattle.store_types.specs.declared.order.TheConstants.{MEMORY_KIND, STOP_KIND, END_KIND}
 use Rattle.store_model.specs.Lanes.{Collecting}
 use Rattle.gc_plan.specs.Plan.{left_of}
 use Rattle.core_state.specs.declared.collector.Collector.{Collector}
@@ -33,7 +34,7 @@ ended_if true = Some NoMemory
 
 abbrev pub shown_collecting : Option Collecting → Option OpenOn
 shown_collecting None = None
-shown_collecting (Some c) = Some (record { lane = c.lane; ended = ended_if c.is_short })
+shown_collecting (Some c) = Some (record { lane = c.lane; ended = ended_if c.is_out_of_memory })
 
 -- the open collector is this lane's
 abbrev pub is_on : ℕ → Option Collector → Bool
@@ -66,8 +67,8 @@ closed_on lane c = if is_on lane c then None else c
 -- The collector after an entry of the lane of this kind: want of memory ends the lane's early, and its end and the lane's end close it.
 abbrev pub collector_by : ℕ → ℕ → Option Collector → Option Collector
 collector_by kind lane c =
-    if kind == 2 then cut_on lane c else
-    if (kind == 4) || (kind == 6) then closed_on lane c else
+    if kind == MEMORY_KIND then cut_on lane c else
+    if (kind == STOP_KIND) || (kind == END_KIND) then closed_on lane c else
     c
 
 -- ---- its acts to come

@@ -9,10 +9,11 @@ use Rattle.wire_commands.specs.HasText.{ReplyHasText}
 use Rattle.wire_commands.specs.declared.reply.Reply.{Reply}
 use Rattle.wire_commands.specs.declared.reply.Reply.TheVariants.{Refused}
 use Rattle.wire_commands.specs.declared.command.Command.{Command}
-use Rattle.wire_commands.specs.declared.command.Command.TheVariants.{OpenWriter, NewFixed, NewDynamic, Append, CloseIndex, OpenReader, CloseReader, List as ListAll, Files as FilesOf, Forget, Group, Finish, Abort}
+use Rattle.wire_commands.specs.declared.command.Command.TheVariants.{OpenWriter, NewFixed, NewDynamic, Append, CloseIndex, OpenReader, CloseReader, List as ListAll, Forget, Group, Finish, Abort}
 use Rattle.store_model.specs.Store.{Store}
 use Rattle.store_history.specs.declared.act.Act.{Act}
 use Rattle.store_history.specs.declared.act.Act.TheVariants.{Plain, Blob, Chunk, JobGroup, ReadFile, ReadChunk, RemoteList, RemoteFile, RemoteChunk, Start, Step, Short, End}
+use Rattle.store_history.specs.Acts.{family_of, is_collecting, is_managing, is_reaching}
 use Rattle.store_history.specs.History.{World, act_outcome}
 use Rattle.core_state.specs.declared.entering.Place.{Place}
 use Rattle.core_state.specs.declared.kept.Session.TheVariants.{Idle}
@@ -23,7 +24,7 @@ use Rattle.core_state.specs.Catalogue.{listed_by}
 use Rattle.core_state.specs.Changes.{Change, IsFirm, LeavesChange, after, by_stop, change_of}
 use Rattle.core_state.specs.Chunks.{Adds, IsSafe}
 use Rattle.core_state.specs.Closing.{HasClosed, closes, is_writer}
-use Rattle.core_state.specs.Due.{IsDue}
+use Rattle.core_state.specs.PassedTests.{PassesItsTests}
 use Rattle.core_state.specs.Holds.{Acts, Holds}
 use Rattle.core_state.specs.Replies.{may_answer}
 use Rattle.core_state.specs.Settles.{reply_by}
@@ -32,22 +33,22 @@ use Rattle.core_state.specs.Unchanged.{Unchanged}
 use Rattle.core_state.specs.Wanted.{session_at}
 
 -- the acts that make no call of the disk
-abbrev pub is_quiet : Act → Bool
-is_quiet (Plain (OpenWriter snapshot)) = true
-is_quiet (Plain (NewFixed file size chunk_size)) = true
-is_quiet (Plain (NewDynamic file)) = true
-is_quiet (Plain (Append number entries)) = true
-is_quiet (Plain (OpenReader snapshot)) = true
-is_quiet (Plain CloseReader) = true
-is_quiet (Plain (ListAll rest)) = true
-is_quiet (Plain (Group group)) = true
-is_quiet (JobGroup command) = true
-is_quiet (RemoteList command) = true
-is_quiet (RemoteFile snapshot name offset) = true
-is_quiet (RemoteChunk digest) = true
-is_quiet Start = true
-is_quiet Short = true
-is_quiet _ = false
+abbrev pub calls_no_disk : Act → Bool
+calls_no_disk (Plain (OpenWriter snapshot)) = true
+calls_no_disk (Plain (NewFixed file size chunk_size)) = true
+calls_no_disk (Plain (NewDynamic file)) = true
+calls_no_disk (Plain (Append number entries)) = true
+calls_no_disk (Plain (OpenReader snapshot)) = true
+calls_no_disk (Plain CloseReader) = true
+calls_no_disk (Plain (ListAll rest)) = true
+calls_no_disk (Plain (Group group)) = true
+calls_no_disk (JobGroup command) = true
+calls_no_disk (RemoteList command) = true
+calls_no_disk (RemoteFile snapshot name offset) = true
+calls_no_disk (RemoteChunk digest) = true
+calls_no_disk Start = true
+calls_no_disk Short = true
+calls_no_disk _ = false
 
 -- the acts that change nothing on the disk
 abbrev pub reads_only : Act → Bool
@@ -63,12 +64,7 @@ reads_only _ = true
 
 -- the acts on the store as a whole, which leave sessions and locks as they are
 abbrev pub is_admins : Act → Bool
-is_admins (Plain (ListAll rest)) = true
-is_admins (Plain (FilesOf snapshot)) = true
-is_admins (Plain (Forget snapshot)) = true
-is_admins (Plain (Group group)) = true
-is_admins (JobGroup command) = true
-is_admins _ = false
+is_admins act = is_managing (family_of act)
 
 -- and the reads of a VERIFY do too, and those of the remote
 abbrev pub is_still : Act → Bool
@@ -81,10 +77,7 @@ is_still act = is_admins act
 
 -- the acts that read the remote
 abbrev pub is_remotes : Act → Bool
-is_remotes (RemoteList command) = true
-is_remotes (RemoteFile snapshot name offset) = true
-is_remotes (RemoteChunk digest) = true
-is_remotes _ = false
+is_remotes act = is_reaching (family_of act)
 
 -- a mark, a visit, or the end of a collector
 abbrev pub is_step : Act → Bool
@@ -93,9 +86,7 @@ is_step _ = false
 
 -- the acts of a collector
 abbrev pub is_collectors : Act → Bool
-is_collectors Start = true
-is_collectors Step = true
-is_collectors _ = false
+is_collectors act = is_collecting (family_of act)
 
 -- the acts after which the lane has no session, once they are done
 abbrev pub ends_session : Act → Bool
@@ -138,7 +129,7 @@ pub record ActDoes {D : Type 0} (d : Ghosts D) (old new : Parts D) (at : Place) 
 pub record ActLeaves {D : Type 0} (d : Ghosts D) (old new : Parts D) (at : Place) (act : Act) (result : Result Reply Stop) : Type 0 where
   -- refused it has changed nothing
   pub unchanged : Unchanged d old new (reply_by (told result))
-  pub quiet : is_quiet act ≡ true → new.disk ≡ old.disk
+  pub no_disk_call : calls_no_disk act ≡ true → new.disk ≡ old.disk
   -- an honest disk reads as before, whatever it held, in any case
   pub reads : reads_only act ≡ true → SameContent d old.disk new.disk
   -- Unless it failed, an honest disk reads then as the act's change makes it of what it read before, whatever that was. A refusal and
@@ -151,7 +142,7 @@ pub record ActLeaves {D : Type 0} (d : Ghosts D) (old new : Parts D) (at : Place
   -- Which chunk files there are more. It follows from `content`; that the core stands for the longer history is shown by it.
   pub adds : Adds d old new act (told result)
   -- Where the disk failed, a FINISH or a FORGET had passed its tests, and a CHUNK was to put a piece's blob.
-  pub due : IsErrOf result DiskFailed → (s : Store) → Holds d old s → IsDue act s at.lane
+  pub passed_its_tests : IsErrOf result DiskFailed → (s : Store) → Holds d old s → PassesItsTests act s at.lane
   -- an act that ends the session wants no memory
   pub closed : closes act (session_at old at.lane) ≡ true → HasClosed new at.lane (told result)
   pub ended : ends_session act ≡ true → IfOk result (λ _. session_at new at.lane ≡ Idle)

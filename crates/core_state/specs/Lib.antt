@@ -29,9 +29,9 @@ pub mod Unreadables
 pub mod Stops
 pub mod Remotes
 pub mod Wanted
-pub mod Due
+pub mod PassedTests
 pub mod Commands
-pub mod ByKept
+pub mod FromState
 pub mod Passes
 pub mod Applies
 pub mod Recovers

@@ -3,6 +3,7 @@ use Rattle.disk_trait.specs.declared.disk.Disk.{Ghosts}
 use Rattle.std.specs.Prelude.{◌≡◌, ◌≤◌, ◌<◌, ◌⊎◌, ℕ, Bool, true, false, ◌||◌, ◌==◌, if◌then◌else◌, List, [], ◌∷◌, length, Option, None, Some}
 use Rattle.store_types.specs.declared.names.Digest32.{Digest32}
 use Rattle.store_types.specs.declared.refusal.Refusal.TheVariants.{DiskFault}
+use Rattle.store_types.specs.declared.order.TheConstants.{COMMAND_KIND, PART_KIND, MEMORY_KIND, STOP_KIND, FAULT_KIND}
 use Rattle.store_files.specs.Book.{book_text}
 use Rattle.store_files.specs.Folder.{chunk_name}
 use Rattle.wire_commands.specs.declared.reply.Reply.TheVariants.{Refused}
@@ -38,7 +39,7 @@ SavesAt old moment change = change ≡ installs book_name (book_text (as_of mome
 -- either. Others change nothing.
 abbrev pub MayChange : {D E C : Type 0} → Core D E C → ℕ → ℕ → ℕ → Change → Type 0
 MayChange old lane moment kind change =
-    (change ≡ stays) ⊎ ((((kind ≡ 1) ⊎ (kind ≡ 5)) × Takes old lane change) ⊎ (((kind ≡ 4) ⊎ (kind ≡ 5)) × SavesAt old moment change))
+    (change ≡ stays) ⊎ ((((kind ≡ PART_KIND) ⊎ (kind ≡ FAULT_KIND)) × Takes old lane change) ⊎ (((kind ≡ STOP_KIND) ⊎ (kind ≡ FAULT_KIND)) × SavesAt old moment change))
 
 -- ---- the book
 
@@ -61,7 +62,7 @@ PassDates change old new when = (passed : LastTouches) × PassTouches change old
 
 -- a mark, a visit and want of memory leave the lane's collector open
 abbrev pub stays_open : ℕ → Bool → Bool
-stays_open kind before = if (kind == 4) || (kind == 5) then false else before
+stays_open kind before = if (kind == STOP_KIND) || (kind == FAULT_KIND) then false else before
 
 -- start, cutoff and indexes of a plan stay as they are
 pub record KeepsPlan (old new : Plan) : Type 0 where
@@ -80,21 +81,21 @@ pub record StepLeaves {D E C : Type 0} (d : Ghosts D) (old new : Core D E C) (la
   pub content : (answer.reply ≡ Some (Refused DiskFault) → ⊥) → d.honest (old.parts).disk → d.content (new.parts).disk ≡ after change (d.content (old.parts).disk)
   pub crash : LeavesChange d (old.parts).disk (new.parts).disk change
   -- an end that comes of itself saves the book, and one of a collector that was ended early only closes
-  pub saves : (answer.entry).kind ≡ 4 → is_cut lane old.collector ≡ false → SavesAt old (answer.entry).moment change
+  pub saves : (answer.entry).kind ≡ STOP_KIND → is_cut lane old.collector ≡ false → SavesAt old (answer.entry).moment change
   pub closes_only : is_cut lane old.collector ≡ true → (new.parts).disk ≡ (old.parts).disk
-  pub passes : (answer.entry).kind ≡ 1 → PassDates change (touches_kept old.upkeep) (touches_kept new.upkeep) (answer.entry).moment
+  pub passes : (answer.entry).kind ≡ PART_KIND → PassDates change (touches_kept old.upkeep) (touches_kept new.upkeep) (answer.entry).moment
   -- all others touch nothing
-  pub untouched : ((answer.entry).kind ≡ 1 → ⊥) → SameTouches (touches_kept new.upkeep) (dated (answer.entry).moment (touches_kept old.upkeep))
+  pub untouched : ((answer.entry).kind ≡ PART_KIND → ⊥) → SameTouches (touches_kept new.upkeep) (dated (answer.entry).moment (touches_kept old.upkeep))
   -- no chunk is touched after the last moment
   pub early : NoneAfter (old.upkeep).book old.last → NoneAfter (new.upkeep).book new.last
   -- it is refused only where the lane's collector is not open
-  pub refused : (answer.entry).kind ≡ 0 → is_on lane old.collector ≡ false
+  pub refused : (answer.entry).kind ≡ COMMAND_KIND → is_on lane old.collector ≡ false
   pub open_on : is_on lane new.collector ≡ stays_open (answer.entry).kind (is_on lane old.collector)
-  pub closed : is_on lane old.collector ≡ true → ((answer.entry).kind ≡ 4) ⊎ ((answer.entry).kind ≡ 5) → new.collector ≡ None
-  pub same : is_on lane old.collector ≡ true → ((answer.entry).kind ≡ 1) ⊎ ((answer.entry).kind ≡ 2) → KeepsPlanOf old.collector new.collector
+  pub closed : is_on lane old.collector ≡ true → ((answer.entry).kind ≡ STOP_KIND) ⊎ ((answer.entry).kind ≡ FAULT_KIND) → new.collector ≡ None
+  pub same : is_on lane old.collector ≡ true → ((answer.entry).kind ≡ PART_KIND) ⊎ ((answer.entry).kind ≡ MEMORY_KIND) → KeepsPlanOf old.collector new.collector
   -- another lane's stays as it is
   pub others : is_on lane old.collector ≡ false → new.collector ≡ old.collector
   -- want of memory ends it early
-  pub cut : is_on lane old.collector ≡ true → (answer.entry).kind ≡ 2 → is_cut lane new.collector ≡ true
+  pub cut : is_on lane old.collector ≡ true → (answer.entry).kind ≡ MEMORY_KIND → is_cut lane new.collector ≡ true
   -- a mark, a visit and a want of memory leave less to do
-  pub further : is_on lane old.collector ≡ true → ((answer.entry).kind ≡ 1) ⊎ ((answer.entry).kind ≡ 2) → steps_left new.collector < steps_left old.collector
+  pub further : is_on lane old.collector ≡ true → ((answer.entry).kind ≡ PART_KIND) ⊎ ((answer.entry).kind ≡ MEMORY_KIND) → steps_left new.collector < steps_left old.collector

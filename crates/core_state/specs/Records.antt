@@ -4,6 +4,7 @@ use Rattle.std.specs.Prelude.{◌≡◌, ◌≤◌, ◌+◌, ◌⊎◌, ℕ, tru
 use Rattle.port_traits.specs.Readings.{Readings}
 use Rattle.store_types.specs.Times.{last_moment}
 use Rattle.store_types.specs.declared.refusal.Refusal.TheVariants.{NoMemory, RemoteFault}
+use Rattle.store_types.specs.declared.order.TheConstants.{MEMORY_KIND}
 use Rattle.wire_commands.specs.declared.reply.Reply.{Reply}
 use Rattle.wire_commands.specs.declared.reply.Reply.TheVariants.{Refused}
 use Rattle.wire_commands.specs.HasText.{ReplyHasText}
@@ -68,7 +69,7 @@ pub record IsKept (place : ℕ) (fault : Option ℕ) (before : ℕ) (e : Event) 
   pub tells : FitsReply fault e.act (kind_of (kind e)) (reply e)
   pub place_is : (e.answer).place ≡ place
   -- an entry of the reserve is one of want of memory
-  pub last : (e.answer).last ≡ true → kind e ≡ 2
+  pub last : (e.answer).last ≡ true → kind e ≡ MEMORY_KIND
   -- moments never fall
   pub risen : before ≤ moment e
   pub in_time : moment e ≤ last_moment

@@ -4,6 +4,7 @@ use Rattle.disk_trait.specs.Effects.{LeavesSame, SameContent}
 use Rattle.disk_trait.specs.declared.disk.Disk.{Ghosts}
 use Rattle.store_types.specs.declared.order.Entry.{Entry}
 use Rattle.store_types.specs.declared.refusal.Refusal.TheVariants as refusals
+use Rattle.store_types.specs.declared.order.TheConstants.{COMMAND_KIND, FAULT_KIND, REMOTE_FAULT_KIND}
 use Rattle.store_files.specs.Archive.{Snapshot}
 use Rattle.store_model.specs.Stands.{StandsFor as Stands}
 use Rattle.wire_commands.specs.declared.reply.Reply.{Reply}
@@ -27,7 +28,7 @@ ShowsRemote e _ _ = ⊥
 
 -- The act may have read it: not where its tests refused it, which has kind 0, nor for an earlier fault of the disk, which has kind 5.
 abbrev pub reads_remote : Act → Answer → Bool
-reads_remote act answer = is_remotes act && not ((answer.entry).kind == 0 || (answer.entry).kind == 5)
+reads_remote act answer = is_remotes act && not ((answer.entry).kind == COMMAND_KIND || (answer.entry).kind == FAULT_KIND)
 
 -- none of these acts reads it
 abbrev pub ReadNoRemote : List Event → Type 0
@@ -59,7 +60,7 @@ faults_of e (Some remote) = e.faults remote
 
 -- how many entries of an order are reads of the remote that failed
 abbrev pub failed_reads : List Entry → ℕ
-failed_reads order = length (filter (λ x. x.kind == 7) order)
+failed_reads order = length (filter (λ x. x.kind == REMOTE_FAULT_KIND) order)
 
 -- As many of these are entered at most as the remote's count of faults rose by, while it is below its greatest value.
 pub record RemoteServes {D E C : Type 0} (e : Ghosts E) (old new : Core D E C) : Type 0 where

@@ -1,5 +1,6 @@
 -- What an act leaves of a lane's reserve.
 use Rattle.std.specs.Prelude.{◌≡◌, ◌≤◌, ◌<◌, ◌+◌, ◌↔◌, ◌⊎◌, ℕ, Bool, true, false}
+use Rattle.store_types.specs.declared.order.TheConstants.{MEMORY_KIND, FAULT_KIND, END_KIND}
 use Rattle.store_history.specs.declared.act.Act.{Act}
 use Rattle.store_history.specs.declared.act.Answer.{Answer}
 use Rattle.store_history.specs.Acts.{Class, sweeping, ending, class_of}
@@ -36,8 +37,8 @@ pub record KeepsReserve {D E C : Type 0} (old new : Core D E C) (lane : ℕ) (cl
   pub one : held_by old.journal lane ≤ held_by new.journal lane + 1
   pub kept : answer.last ≡ false → Reserved old lane → Reserved new lane
   pub left : Reserved old lane → CanEnd new lane
-  pub spent : (answer.last ≡ true) ↔ (((answer.entry).kind ≡ 2) × (held_by new.journal lane + 1 ≡ held_by old.journal lane))
-  pub filled : closing ≡ false → ((answer.entry).kind ≡ 2 → ⊥) → 3 ≤ held_by new.journal lane
+  pub spent : (answer.last ≡ true) ↔ (((answer.entry).kind ≡ MEMORY_KIND) × (held_by new.journal lane + 1 ≡ held_by old.journal lane))
+  pub filled : closing ≡ false → ((answer.entry).kind ≡ MEMORY_KIND → ⊥) → 3 ≤ held_by new.journal lane
   pub closed : closing ≡ true → CanEnd old lane → CanEnd new lane
   pub spare : KeepsSpare old.journal new.journal lane
   pub others : OthersHold old.journal new.journal lane
@@ -46,8 +47,8 @@ pub record KeepsReserve {D E C : Type 0} (old new : Core D E C) (lane : ℕ) (cl
 -- when it comes again. Without a session it meets none.
 pub record EndKeeps {D E C : Type 0} (old new : Core D E C) (lane : ℕ) (answer : Answer) : Type 0 where
   pub one : held_by old.journal lane ≤ held_by new.journal lane + 1
-  pub left : CanEnd old lane → (answer.entry).kind ≡ 5 → CanEnd new lane
-  pub idle : session_at old.parts lane ≡ Idle → (answer.entry).kind ≡ 6
+  pub left : CanEnd old lane → (answer.entry).kind ≡ FAULT_KIND → CanEnd new lane
+  pub idle : session_at old.parts lane ≡ Idle → (answer.entry).kind ≡ END_KIND
   pub spare : KeepsSpare old.journal new.journal lane
   pub others : OthersHold old.journal new.journal lane
 
@@ -55,9 +56,9 @@ pub record EndKeeps {D E C : Type 0} (old new : Core D E C) (lane : ℕ) (answer
 -- collector that was ended early, it fills the reserve up, or is want of memory; such an end is none.
 pub record StepKeeps {D E C : Type 0} (old new : Core D E C) (lane : ℕ) (answer : Answer) : Type 0 where
   pub one : held_by old.journal lane ≤ held_by new.journal lane + 1
-  pub spent : (answer.last ≡ true) ↔ (((answer.entry).kind ≡ 2) × (held_by new.journal lane + 1 ≡ held_by old.journal lane))
-  pub filled : is_cut lane old.collector ≡ false → ((answer.entry).kind ≡ 2 → ⊥) → 3 ≤ held_by new.journal lane
-  pub ends : is_cut lane old.collector ≡ true → (answer.entry).kind ≡ 2 → ⊥
+  pub spent : (answer.last ≡ true) ↔ (((answer.entry).kind ≡ MEMORY_KIND) × (held_by new.journal lane + 1 ≡ held_by old.journal lane))
+  pub filled : is_cut lane old.collector ≡ false → ((answer.entry).kind ≡ MEMORY_KIND → ⊥) → 3 ≤ held_by new.journal lane
+  pub ends : is_cut lane old.collector ≡ true → (answer.entry).kind ≡ MEMORY_KIND → ⊥
   pub spare : KeepsSpare old.journal new.journal lane
   pub others : OthersHold old.journal new.journal lane
 

@@ -2,6 +2,7 @@
 use Rattle.disk_trait.specs.declared.disk.Disk.{Ghosts}
 use Rattle.std.specs.Prelude.{◌≡◌, ℕ, Bool, ◌&&◌, ◌==◌, [], ◌∷◌, ◌++◌, length, Option, Some, Result, Ok, Err}
 use Rattle.store_types.specs.declared.refusal.Refusal.TheVariants as refusals
+use Rattle.store_types.specs.declared.order.TheConstants.{MEMORY_KIND}
 use Rattle.wire_commands.specs.declared.reply.Reply.{Reply}
 use Rattle.wire_commands.specs.declared.reply.Reply.TheVariants.{Refused}
 use Rattle.disk_trait.specs.declared.disk.DiskError.{DiskError}
@@ -31,7 +32,7 @@ pub record IsEntered {D E C : Type 0} (d : Ghosts D) (old new : Core D E C) (lan
   pub place : answer.place ≡ length (old.journal).entries.items
   pub is_held : Bool
   pub room : Enters old.journal new.journal lane is_held
-  pub last_held : answer.last ≡ is_held && (kind == 2)
+  pub last_held : answer.last ≡ is_held && (kind == MEMORY_KIND)
 
 abbrev pub kind_by : Result Reply DiskError → ℕ
 kind_by (Ok reply) = 0

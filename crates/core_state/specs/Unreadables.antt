@@ -7,6 +7,7 @@ use Rattle.store_types.specs.Chain.Refusing.{◌>>=◌, or_else}
 use Rattle.store_types.specs.FileNames.{is_fixed_name, is_dynamic_name}
 use Rattle.store_types.specs.declared.refusal.Refusal.{Refusal}
 use Rattle.store_types.specs.declared.refusal.Refusal.TheVariants.{Unreadable}
+use Rattle.store_types.specs.declared.order.TheConstants.{COMMAND_KIND}
 use Rattle.wire_commands.specs.declared.reply.Reply.{Reply}
 use Rattle.wire_commands.specs.declared.reply.Reply.TheVariants.{Done, Refused}
 use Rattle.store_history.specs.declared.act.Answer.{Answer}
@@ -64,7 +65,7 @@ part_read m a = read_so a.way m a.path
 pub record TellsUnreadable {D : Type 0} (d : Ghosts D) (disk : D) (asked : Option Asked) (kind : ℕ) (reply : Option Reply) : Type 0 where
   pub named : (name : List ℕ) → reply ≡ Some (Refused (Unreadable name)) → option_map (λ a. a.path) asked ≡ Some name
   pub cause : (name : List ℕ) (a : Asked) → reply ≡ Some (Refused (Unreadable name)) → asked ≡ Some a → d.honest disk → part_read (d.content disk) a ≡ Err (Unreadable name)
-  pub missing : (name : List ℕ) (a : Asked) → kind ≡ 0 → asked ≡ Some a → d.honest disk → part_read (d.content disk) a ≡ Err (Unreadable name) → reply ≡ Some (Refused (Unreadable name))
+  pub missing : (name : List ℕ) (a : Asked) → kind ≡ COMMAND_KIND → asked ≡ Some a → d.honest disk → part_read (d.content disk) a ≡ Err (Unreadable name) → reply ≡ Some (Refused (Unreadable name))
 
 -- the file that an act asks for by its lane's session and the catalogue is told so, by how its command ended
 abbrev pub ActUnreadable : {D : Type 0} → Ghosts D → (Session → List Listed → Option Asked) → Parts D → Place → Result Reply Stop → Type 0

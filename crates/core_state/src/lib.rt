@@ -26,5 +26,5 @@ pub use parts::Parts;
 pub use saving::BOOK_NAME;
 pub use state::{Core, CoreParts};
 pub use stop::{RemoteStop, Stop};
-pub use store_history::{Act, Answer};
+pub use store_history::{Act, Answer, Family};
 pub use upkeep::{Upkeep, touch_each};

@@ -1,6 +1,7 @@
 //! Which lane's collector is open, and what the entries of the order make of it.
 
 ghost use Rattle.std.specs.Prelude.{◌≡◌, ◌==◌, ◌||◌, option_map};
+ghost use Rattle.store_types.specs.declared.order.TheConstants.{END_KIND as ending, STOP_KIND as stopping};
 ghost use Rattle.core_state.specs.Collectors.{collector_by, is_cut, is_on, with_cut};
 
 use crate::collector::Collector;
@@ -19,7 +20,7 @@ pub fn is_on(collector: &Option<Collector>, lane: u32) -> bool
 
 /// An entry of this kind is the end of a collector, or of a lane.
 fn ends(kind: u8) -> bool
-    ensures { result ≡ ((kind == 4) || (kind == 6)) }
+    ensures { result ≡ ((kind == stopping) || (kind == ending)) }
 {
     kind == STOP_KIND || kind == END_KIND
 }

@@ -38,7 +38,7 @@ use Rattle.core_state.specs.declared.parts.Parts.{Parts}
 use Rattle.core_state.specs.Chunks.{HasChunk, MayStand, AddsChunks}
 use Rattle.core_state.specs.Holds.{HasUploads, Holds, IsOnDisk, Shows}
 use Rattle.core_state.specs.Changes.{change_of, chunk_put, stores}
-use Rattle.core_state.specs.Due.{IsDue}
+use Rattle.core_state.specs.PassedTests.{PassesItsTests}
 use Rattle.core_state.specs.Wanted.{session_at, want_writer}
 use Rattle.core_state.specs.declared.kept.Listed.{Listed}
 use Rattle.core_state.specs.declared.kept.Session.TheVariants.{Idle}
@@ -183,12 +183,12 @@ puts_blob d old new digest bytes result serves crash stored none = record {
 }
 
 -- what is put is a piece's blob
-pub chunk_due : (digest : Digest32) (checked : Result (List ℕ) Refusal) (bytes : List ℕ) → AreBytes bytes → checked ≡ Ok bytes → IsCheckedChunk digest checked
-    → (s : Store) (lane : ℕ) → IsDue (Chunk digest checked) s lane
-chunk_due digest checked bytes are was h s lane =
+pub chunk_passes : (digest : Digest32) (checked : Result (List ℕ) Refusal) (bytes : List ℕ) → AreBytes bytes → checked ≡ Ok bytes → IsCheckedChunk digest checked
+    → (s : Store) (lane : ℕ) → PassesItsTests (Chunk digest checked) s lane
+chunk_passes digest checked bytes are was h s lane =
     let ok : IsCheckedChunk digest (Ok bytes) = subst (IsCheckedChunk digest) was h in
     let (p, is) = read digest bytes ok in
-    subst (λ k. IsDue (Chunk digest k) s lane) (sym was) (chunk_of digest bytes p (sent digest bytes p are ok is))
+    subst (λ k. PassesItsTests (Chunk digest k) s lane) (sym was) (chunk_of digest bytes p (sent digest bytes p are ok is))
 
 module _ {D : Type 0} (g : Ghosts D) where
   -- what the plain store has afterwards

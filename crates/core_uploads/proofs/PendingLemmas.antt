@@ -29,8 +29,8 @@ use Rattle.core_state.specs.declared.stop.Stop.TheVariants.{Refused, NoMemory, D
 use Rattle.core_state.specs.Catalogue.{listed_by}
 use Rattle.core_state.specs.Changes.{Change, IsFirm, LeavesChange, after, by_writer, file_put, stays, installs}
 use Rattle.core_state.specs.Closing.{closes, is_writer}
-use Rattle.core_state.specs.Commands.{ActDoes, ActLeaves, change_at, ends_session, is_still, is_quiet, reads_only}
-use Rattle.core_state.specs.Due.{IsDue}
+use Rattle.core_state.specs.Commands.{ActDoes, ActLeaves, change_at, ends_session, is_still, calls_no_disk, reads_only}
+use Rattle.core_state.specs.PassedTests.{PassesItsTests}
 use Rattle.core_state.specs.Holds.{Holds, IsOnDisk, Shows}
 use Rattle.core_state.specs.Named.{is_named}
 use Rattle.core_state.specs.Replies.{may_answer}
@@ -169,10 +169,10 @@ module _ {D : Type 0} (d : Ghosts D) (old new : Parts D) (at : Place) (act : Act
       unput_does = failed_does d old new at act done e result stopped failed puts.serves puts.same kept_so
 
       pub unput_leaves : change_at old at.lane act ≡ by_writer (session_at old at.lane) changes → reads_only act ≡ false → closes act (session_at old at.lane) ≡ false
-          → ((s : Store) → Holds d old s → IsDue act s at.lane) → ActLeaves d old new at act result
-      unput_leaves is called closing_not due =
+          → ((s : Store) → Holds d old s → PassesItsTests act s at.lane) → ActLeaves d old new at act result
+      unput_leaves is called closing_not passed_its_tests =
           failed_leaves d old new at act done e result stopped failed puts.same puts.unmoved (subst (LeavesChange d old.disk new.disk) (sym (puts_change is)) puts.crash) kept_so called
-          (λ short closing. false_true (sym closing_not ∙ closing)) due
+          (λ short closing. false_true (sym closing_not ∙ closing)) passed_its_tests
 
     module _ (put : d.honest old.disk → d.content new.disk ≡ with_put n.file n.text (d.content old.disk)) (kept_is : left ≡ with_pending n.file mid) where
       reached : (s : Store) → Holds d old s → (after_it : Store) × (act_does s at.lane at.moment act ≡ Ok (after_it, Done)) × Shows new after_it × IsOnDisk (d.content new.disk) after_it
@@ -198,7 +198,7 @@ module _ {D : Type 0} (d : Ghosts D) (old new : Parts D) (at : Place) (act : Act
       pub put_does : may_answer act Done ≡ true → ActDoes d old new at act (Ok Done)
       put_does answers = writes_does d old new at act Done _ puts.serves done_has_text answers tt (λ safe s h. reached s h)
 
-      pub put_leaves : change_at old at.lane act ≡ by_writer (session_at old at.lane) changes → is_quiet act ≡ false → listed_by act (Some Done) at.number (session_at old at.lane) old.catalogue.items ≡ old.catalogue.items
+      pub put_leaves : change_at old at.lane act ≡ by_writer (session_at old at.lane) changes → calls_no_disk act ≡ false → listed_by act (Some Done) at.number (session_at old at.lane) old.catalogue.items ≡ old.catalogue.items
           → is_still act ≡ false → ends_session act ≡ false → ActLeaves d old new at act (Ok Done)
       put_leaves is called listed other goes_on =
           writes_leaves d old new at act Done tt called

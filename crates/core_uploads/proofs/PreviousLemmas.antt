@@ -135,13 +135,13 @@ module _ (s : Store) (lane : ℕ) (name : List ℕ) (offset : ℕ) where
           let here : path_in key name catalogue ≡ Some path = ap (path_of_kept name) kept_at ∙ path_at ∙ ap (λ q. Some q) (ok_path p path e) in
           record { key = key; base = at; there = is_there name catalogue s.snapshots key path is here }
 
-      by_kept : (key : SnapshotKey) (o : Option Kept) → w.base ≡ Some key → kept_named key catalogue ≡ o → (or_else NoSnapshot o >>= λ k. or_else NoFile (path_named name k.files)) ≡ Ok path → HasBase w path
-      by_kept key None at kept_at e = cc
-      by_kept key (Some k) at kept_at e = by_path key k (path_named name k.files) at kept_at refl e
+      from_state : (key : SnapshotKey) (o : Option Kept) → w.base ≡ Some key → kept_named key catalogue ≡ o → (or_else NoSnapshot o >>= λ k. or_else NoFile (path_named name k.files)) ≡ Ok path → HasBase w path
+      from_state key None at kept_at e = cc
+      from_state key (Some k) at kept_at e = by_path key k (path_named name k.files) at kept_at refl e
 
       by_base : (o : Option SnapshotKey) → w.base ≡ o → (or_else NoSnapshot (kept_by o catalogue) >>= λ k. or_else NoFile (path_named name k.files)) ≡ Ok path → HasBase w path
       by_base None at e = cc
-      by_base (Some key) at e = by_kept key (kept_named key catalogue) at refl e
+      by_base (Some key) at e = from_state key (kept_named key catalogue) at refl e
 
   err_same : {A B : Type 0} (p q : Refusal) → ◌≡◌ {A = Result A Refusal} (Err p) (Err q) → ◌≡◌ {A = Result B Refusal} (Err p) (Err q)
   err_same {B = B} p q e = let same : p ≡ q = cc in ap (λ x. let r : Result B Refusal = Err x in r) same
@@ -160,15 +160,15 @@ module _ (s : Store) (lane : ℕ) (name : List ℕ) (offset : ℕ) where
           sym (ap (λ o. file_named name (elim o [ None ↦ [] | Some x ↦ x.files ])) plain_at) ∙ not_there name catalogue s.snapshots key is none in
           ap (file_then w) missing ∙ err_same {A = List ℕ} {B = Store × Reply} NoFile r e
 
-      by_kept : (key : SnapshotKey) (o : Option Kept) → kept_named key catalogue ≡ o → (or_else NoSnapshot o >>= λ k. or_else NoFile (path_named name k.files)) ≡ Err r → base_then w (snapshot_named key s.snapshots) ≡ Err r
-      by_kept key None kept_at e = ap (base_then w) (not_kept catalogue s.snapshots key is kept_at) ∙ err_same {A = List ℕ} {B = Store × Reply} NoSnapshot r e
-      by_kept key (Some k) kept_at e =
+      from_state : (key : SnapshotKey) (o : Option Kept) → kept_named key catalogue ≡ o → (or_else NoSnapshot o >>= λ k. or_else NoFile (path_named name k.files)) ≡ Err r → base_then w (snapshot_named key s.snapshots) ≡ Err r
+      from_state key None kept_at e = ap (base_then w) (not_kept catalogue s.snapshots key is kept_at) ∙ err_same {A = List ℕ} {B = Store × Reply} NoSnapshot r e
+      from_state key (Some k) kept_at e =
           let x = mapped shown_snapshot (snapshot_named key s.snapshots) k (sym (kept_is catalogue s.snapshots key is) ∙ kept_at) in
           ap (base_then w) x.1 ∙ by_file key k x.0 (path_named name k.files) kept_at x.1 refl e
 
       by_base : (o : Option SnapshotKey) → (or_else NoSnapshot (kept_by o catalogue) >>= λ k. or_else NoFile (path_named name k.files)) ≡ Err r → base_then w (elim o [ None ↦ None | Some key ↦ snapshot_named key s.snapshots ]) ≡ Err r
       by_base None e = err_same {A = List ℕ} {B = Store × Reply} NoSnapshot r e
-      by_base (Some key) e = by_kept key (kept_named key catalogue) refl e
+      by_base (Some key) e = from_state key (kept_named key catalogue) refl e
 
   -- ---- what is read
 
@@ -407,15 +407,15 @@ name_apart name e = cc
 module _ (base : Option SnapshotKey) (name : List ℕ) (catalogue : List Listed) (r : Refusal) where
   either_is : base_file base name catalogue ≡ Err r → (r ≡ NoSnapshot) ⊎ (r ≡ NoFile)
   unfolding base_file
-  either_is is = by_kept (kept_by base catalogue) is
+  either_is is = from_state (kept_by base catalogue) is
     where
       by_path : (o : Option (List ℕ)) → or_else NoFile o ≡ Err r → (r ≡ NoSnapshot) ⊎ (r ≡ NoFile)
       by_path None e = inr cc
       by_path (Some p) e = cc
 
-      by_kept : (o : Option Kept) → (or_else NoSnapshot o >>= λ k. or_else NoFile (path_named name k.files)) ≡ Err r → (r ≡ NoSnapshot) ⊎ (r ≡ NoFile)
-      by_kept None e = inl cc
-      by_kept (Some k) e = by_path (path_named name k.files) e
+      from_state : (o : Option Kept) → (or_else NoSnapshot o >>= λ k. or_else NoFile (path_named name k.files)) ≡ Err r → (r ≡ NoSnapshot) ⊎ (r ≡ NoFile)
+      from_state None e = inl cc
+      from_state (Some k) e = by_path (path_named name k.files) e
 
   pub base_apart : base_file base name catalogue ≡ Err r → (told : List ℕ) → Some (replies.Refused r) ≡ Some (replies.Refused (Unreadable told)) → ⊥
   base_apart is told e = ⊎_elim (λ a. snapshot_no told (sym (ap (λ x. Some (replies.Refused x)) a) ∙ e)) (λ b. file_no told (sym (ap (λ x. Some (replies.Refused x)) b) ∙ e)) (either_is is)
@@ -425,10 +425,6 @@ module _ (base : Option SnapshotKey) (name : List ℕ) (catalogue : List Listed)
 
       file_no : (told : List ℕ) → Some (replies.Refused NoFile) ≡ Some (replies.Refused (Unreadable told)) → ⊥
       file_no told e = cc
-
-  -- it comes without a call of the disk
-  pub base_uncalled : base_file base name catalogue ≡ Err r → is_uncalled r ≡ true
-  base_uncalled is = ⊎_elim (λ a. ap is_uncalled a) (λ b. ap is_uncalled b) (either_is is)
 
 -- ---- what is answered
 
@@ -469,10 +465,6 @@ reads_as d old new failed by why x = record {
   crash = x.crash;
   same = x.same;
 }
-
--- what a read did, as of its stop
-pub reads_to : {D : Type 0} (d : Ghosts D) (old new : D) (read : Result Given ReadError) (e : ReadError) → read ≡ Err e → OnlyReads d old new (IsErrOf read errors.Failed) → OnlyReads d old new (IsErrOf {T = Given} (Err (stop_by_read e)) DiskFailed)
-reads_to d old new read e was x = reads_as d old new _ _ (λ f. was ∙ ap (λ y. Err y) (read_failed e f)) x
 
 -- and of one without a fault
 pub reads_short : {D : Type 0} (d : Ghosts D) (old new : D) (failed : Type 0) → OnlyReads d old new failed → OnlyReads d old new (IsErrOf {T = Given} (Err NoMemory) DiskFailed)

@@ -31,7 +31,8 @@ fn wrong_digest(found: Digest32) -> Refusal
     Refusal::WrongDigest { found }
 }
 
-/// The refusal of an upload, as its check was: each number by itself, since its type says that it fits its field.
+/// The refusal that the check of an upload gave, unchanged. It is put together anew from its fields: that each number can be
+/// encoded (`text`) is told by its type there.
 fn refused(digest: &Digest32, refusal: Refusal) -> Refusal
     requires { IsCheckedChunk digest.now (Err refusal) }
     ensures value { result ≡ refusal }

@@ -46,7 +46,8 @@ pub fn bad_blob(cause: BadBlob) -> Refusal
     }
 }
 
-/// The refusal of an upload, as its check was: each number by itself, since its type says that it fits its field.
+/// The refusal that the check of an upload gave, unchanged. It is put together anew from its fields: that each number can be
+/// encoded (`text`) is told by its type there.
 fn refused(refusal: Refusal) -> Refusal
     requires { IsChecked (Err refusal) }
     ensures value { result ≡ refusal }

@@ -167,7 +167,7 @@ module _ {D : Type 0} (d : Ghosts D) where
       by_end : ActLeaves d old new at acts.End (Ok Done) → ActLeaves d old new at (acts.Plain Abort) (Ok Done)
       by_end ends = record {
         unchanged = tt;
-        quiet = λ e. cc;
+        no_disk_call = λ e. cc;
         reads = λ e. cc;
         content = ends.content;
         crash = ends.crash;
@@ -175,7 +175,7 @@ module _ {D : Type 0} (d : Ghosts D) where
         listed = ends.listed;
         admin = λ e. cc;
         adds = ends.adds;
-        due = λ failed s h. tt;
+        passed_its_tests = λ failed s h. tt;
         closed = λ _. ends.ended refl;
         ended = λ _. ends.ended refl;
         writes = λ writes. cc;
@@ -204,7 +204,7 @@ module _ {D : Type 0} (d : Ghosts D) where
       by_end (Ok reply) is ends = absurd is
       by_end (Err x) is ends = subst (λ y. ActLeaves d old new at (acts.Plain Abort) (Err y)) (sym is) (record {
         unchanged = ends.unchanged;
-        quiet = λ e. cc;
+        no_disk_call = λ e. cc;
         reads = λ e. cc;
         content = ends.content;
         crash = ends.crash;
@@ -212,7 +212,7 @@ module _ {D : Type 0} (d : Ghosts D) where
         listed = ends.listed;
         admin = λ e. cc;
         adds = ends.adds;
-        due = λ failed s h. tt;
+        passed_its_tests = λ failed s h. tt;
         closed = λ _. tt;
         ended = λ _. tt;
         writes = λ _. tt;

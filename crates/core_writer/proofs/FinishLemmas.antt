@@ -145,9 +145,6 @@ finish_has_text (ManifestMismatch file field) is fits = mismatch_has_text file f
 finish_has_text _ is fits = cc
 
 -- what the check tells of a writer that the session shows
-pub told_ok : {A : Type 0} (step : Result Manifest Refusal) (told : Result A Refusal) (view : A → Manifest) (m : A) → MatchResult told (λ m. step ≡ Ok (view m)) (λ r. step ≡ Err r) → told ≡ Ok m → step ≡ Ok (view m)
-told_ok step told view m h is = subst (λ t. MatchResult t (λ m. step ≡ Ok (view m)) (λ r. step ≡ Err r)) is h
-
 pub told_err : {A : Type 0} (step : Result Manifest Refusal) (told : Result A Refusal) (view : A → Manifest) (r : Refusal) → MatchResult told (λ m. step ≡ Ok (view m)) (λ r. step ≡ Err r) → told ≡ Err r → step ≡ Err r
 told_err step told view r h is = subst (λ t. MatchResult t (λ m. step ≡ Ok (view m)) (λ r. step ≡ Err r)) is h
 

@@ -15,7 +15,7 @@ use Rattle.core_state.specs.declared.stop.Stop.TheVariants.{Refused, NoMemory, D
 use Rattle.core_state.specs.Replies.{reply_told}
 use Rattle.core_state.specs.Stops.{told}
 use Rattle.core_state.specs.Wanted.{want_idle}
-use Rattle.core_state.proofs.ByKept.{Stops, stopped}
+use Rattle.core_state.proofs.FromState.{Stops, stopped}
 use Rattle.core_writer.specs.declared.opening.Beginning.{Beginning}
 use Rattle.core_writer.specs.AnsweredBy.{tells_base, writer_told}
 use Rattle.core_writer.specs.Opened.{TellsBase, base_for}

@@ -1,23 +1,24 @@
 //! A writer's act, and a lane's end.
 
-ghost use Rattle.std.specs.Prelude.{◌<◌, ◌≤◌};
+ghost use Rattle.std.specs.Prelude.{◌≡◌, ◌<◌, ◌≤◌};
 ghost use Rattle.store_types.specs.Times.{last_moment};
 ghost use Rattle.store_history.specs.declared.act.Act.TheVariants.{End};
+ghost use Rattle.store_history.specs.Acts.{IsWellFormed, family_of};
 ghost use Rattle.core_state.specs.Applies.{ActApplies, ActKeeps};
 ghost use Rattle.core_state.specs.Commands.{ActDoes, ActLeaves};
 ghost use Rattle.core_state.specs.Reserved.{HasRoom};
 ghost use Rattle.core_state.specs.Unreadables.{ActUnreadable, CoreUnreadable};
 ghost use Rattle.core_writer.specs.AnsweredBy.{ActAnswersBy, CoreAnswersBy};
 ghost use Rattle.core_writer.specs.Touching.{ActTouches};
-ghost use Rattle.core_writer.specs.WriterActs.{IsWriters, asked_of_writer};
+ghost use Rattle.core_writer.specs.WriterActs.{asked_of_writer};
 
 use crate::ending::{abort, end};
 use crate::finishing::finish;
 use crate::opening::open_writer;
 use crate::touching::{append_touched, chunk_touched};
 use core_state::{
-    Act, Admitted, Answer, Core, Parts, Place, Stop, Upkeep, begin, end_session, enter, next_place,
-    settle,
+    Act, Admitted, Answer, Core, Family, Parts, Place, Stop, Upkeep, begin, end_session, enter,
+    next_place, settle,
 };
 use core_uploads::{blob, close_index, new_dynamic, new_fixed, previous};
 use disk_trait::Disk;
@@ -35,11 +36,12 @@ fn perform<D: Disk>(
 ) -> Result<Reply, Stop>
     requires lane { at.lane < 64 }
     requires in_time { at.moment ≤ last_moment }
-    requires kind { IsWriters act }
+    requires kind { family_of act ≡ Family.Writes }
+    requires formed { IsWellFormed act }
     ensures does { ActDoes D.Disk parts.old parts.new at act result }
     ensures leaves { ActLeaves D.Disk parts.old parts.new at act result }
     ensures touches { ActTouches upkeep.old upkeep.new at act result }
-    ensures by_kept { ActAnswersBy parts.old at act result }
+    ensures from_state { ActAnswersBy parts.old at act result }
     ensures unreadable { ActUnreadable D.Disk (asked_of_writer act) parts.old at result }
 {
     match act {
@@ -89,11 +91,12 @@ pub fn writer_act<D: Disk, E, C: Clock>(
 ) -> Answer
     requires lane { lane < 64 }
     requires room { HasRoom core.old lane }
-    requires kind { IsWriters act }
+    requires kind { family_of act ≡ Family.Writes }
+    requires formed { IsWellFormed act }
     ensures applies { ActApplies D.Disk C.Clock core.old core.new lane act result }
     ensures keeps { ActKeeps D.Disk core.old core.new lane act result }
     // on any disk OPEN_WRITER answers what the core keeps
-    ensures by_kept { CoreAnswersBy core.old lane act result }
+    ensures from_state { CoreAnswersBy core.old lane act result }
     // a file of the base is unreadable exactly where it is, as far as the disk tells
     ensures unreadable { CoreUnreadable D.Disk (asked_of_writer act) core.old lane result }
 {

@@ -128,7 +128,7 @@ pub fn open_writer<D: Disk>(
     ensures does { PlainDoes D.Disk parts.old parts.new at (OpenWriter snapshot.now) result }
     ensures leaves { PlainLeaves D.Disk parts.old parts.new at (OpenWriter snapshot.now) result }
     // on any disk
-    ensures by_kept { ActAnswersBy parts.old at (Plain (OpenWriter snapshot.now)) result }
+    ensures from_state { ActAnswersBy parts.old at (Plain (OpenWriter snapshot.now)) result }
 {
     parts.idle(at.lane)?;
     let Ok(key) = SnapshotKey::parse(alloc, snapshot)? else {

@@ -1,5 +1,5 @@
 -- What an installed file leaves at each name.
-use Rattle.std.proofs.Common.{◌≡◌, ◌≢◌, inl, inr, ℕ, List, ◌+◌, length, Some, None, arith, sym, ◌∙◌, ap}
+use Rattle.std.proofs.Common.{◌≡◌, ◌≢◌, inl, inr, ℕ, List, ◌+◌, length, Some, None, arith, ◌∙◌, ap}
 use Rattle.std.specs.Prelude.{codes}
 use Rattle.std.proofs.Common.{length-append}
 use Rattle.std.specs.FinMap.{get, remove}
@@ -16,11 +16,6 @@ name_not_temporary name e =
 
 pub installed_name : (files : Files) (name bytes : List ℕ) → get (installed files name bytes) name ≡ Some bytes
 installed_name files name bytes = placed_same (remove files (temporary name)) name (Some bytes)
-
--- what was staged is renamed
-pub installed_temporary : (files : Files) (name bytes : List ℕ) → get (installed files name bytes) (temporary name) ≡ None
-installed_temporary files name bytes =
-    placed_other (remove files (temporary name)) name (Some bytes) (temporary name) (λ e. name_not_temporary name (sym e)) ∙ placed_same files (temporary name) None
 
 pub installed_other : (files : Files) (name bytes q : List ℕ) → q ≢ name → q ≢ temporary name → get (installed files name bytes) q ≡ get files q
 installed_other files name bytes q not_name not_temporary =

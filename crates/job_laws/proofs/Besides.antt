@@ -8,6 +8,7 @@ use Rattle.store_types.specs.declared.refusal.Refusal.TheVariants.{BadName, NoFi
 use Rattle.store_types.specs.Chain.Refusing.{◌>>=◌, unless, or_else}
 use Rattle.store_types.specs.FileNames.{is_index_name}
 use Rattle.store_types.specs.Names.{key_of}
+use Rattle.store_types.specs.declared.order.TheConstants.{COMMAND_KIND}
 use Rattle.store_files.specs.Archive.{Snapshot, file_named, pieces_of}
 use Rattle.wire_commands.specs.declared.command.Command.{Command}
 use Rattle.wire_commands.specs.declared.command.Command.TheVariants as commands
@@ -154,7 +155,7 @@ module _ (R : Option (List Snapshot)) where
   act_is w k m (closing report) h = refl
   act_is w k m a h = absurd h
 
-  module _ (w : World) (e : Event) (a : Asking) (begun : IsBegun (asking a)) (act : e.act ≡ act_of_step (step_of a)) (done : kind e ≡ 0) where
+  module _ (w : World) (e : Event) (a : Asking) (begun : IsBegun (asking a)) (act : e.act ≡ act_of_step (step_of a)) (done : kind e ≡ COMMAND_KIND) where
     abbrev told : Store × Reply
     told = answered w.store (step_outcome w.store (lane e) (moment e) (step_of a))
 

@@ -97,7 +97,7 @@ module _ (x : Pulling) (r : Reply) where
       → IsFineBehind x r (next_chunk c s i es)
   unfolding next_chunk
   chunks_fine c s i [] finds = appends_fine c s i i.entries
-  chunks_fine c s i (e ∷ es) finds = by_kept (size_sent s e) refl (chunks_fine c s i es)
+  chunks_fine c s i (e ∷ es) finds = from_state (size_sent s e) refl (chunks_fine c s i es)
     where
       by_size : (n : ℕ) → size_sent s e ≡ Some n → (b : Bool) → (n == blob_size i e es) ≡ b
           → (((d : Digest32) → HasOther s i es d → IsMismatch x r (Damaged d (Other d))) → IsFineBehind x r (next_chunk c s i es))
@@ -127,11 +127,11 @@ module _ (x : Pulling) (r : Reply) where
             other = λ same. true_false (sym (eq-eqb n (blob_size i e es) same) ∙ off);
           })
 
-      by_kept : (k : Option ℕ) → size_sent s e ≡ k
+      from_state : (k : Option ℕ) → size_sent s e ≡ k
           → (((d : Digest32) → HasOther s i es d → IsMismatch x r (Damaged d (Other d))) → IsFineBehind x r (next_chunk c s i es))
           → IsFineBehind x r (elim k [ None ↦ asks (reading_chunk c s i e es) | Some size ↦ if size == blob_size i e es then next_chunk c s i es else mismatched e ])
-      by_kept None kept go = tt
-      by_kept (Some n) kept go = by_size n kept (n == blob_size i e es) refl go
+      from_state None kept go = tt
+      from_state (Some n) kept go = by_size n kept (n == blob_size i e es) refl go
 
   files_fine : (c : Course) (s : Stock) → IsFineBehind x r (next_file c s)
   unfolding next_file
@@ -425,22 +425,27 @@ other_ends c s i (f ∷ before) later e n sent kept other =
     ∙ ap (λ b. if b then next_chunk c s i rest else mismatched f) (eq-eqb (blob_size i f rest) (blob_size i f rest) refl)
     ∙ other_ends c s i before later e n sent.1 kept other
 
-walk_tells : (c : Course) (s : Stock) (i : Index) (es : List AppendEntry) (r : Reply) (d : Digest32) → Fine r → HasOther s i es d → Tells (Damaged d (Other d)) (goes_on r (next_chunk c s i es))
-walk_tells c s i es (Refused y) d fine has = cc
-walk_tells c s i es r d fine has =
-    subst (Tells (Damaged d (Other d))) (sym (ap (next_chunk c s i) has.are ∙ other_ends c s i has.before has.later has.entry has.size has.sent has.kept has.other))
-    (ap (λ (x : Digest32). Damaged x (Other x)) (sym has.names))
+walk_is : (c : Course) (s : Stock) (i : Index) (es : List AppendEntry) (r : Reply) (d : Digest32) → Fine r → HasOther s i es d → goes_on r (next_chunk c s i es) ≡ asks (aborting (Damaged d (Other d)))
+walk_is c s i es (Refused y) d fine has = cc
+walk_is c s i es r d fine has =
+    ap (next_chunk c s i) has.are ∙ other_ends c s i has.before has.later has.entry has.size has.sent has.kept has.other
+    ∙ ap (λ (x : Digest32). asks (aborting (Damaged x (Other x)))) (sym has.names)
+
+-- the writer is to be ended
+pub finds_is : (x : Pulling) (r : Reply) (d : Digest32) → Fine r → FindsOther x r d → take x r ≡ asks (aborting (Damaged d (Other d)))
+unfolding take chunk_told
+finds_is (reading_chunk c s i e later) (Data blob) d fine finds = by_size (length blob == blob_size i e later) refl
+  where
+    by_size : (b : Bool) → (length blob == blob_size i e later) ≡ b
+        → (if b then asks (sending_chunk c (with_chunk e blob s) i e later blob) else mismatched e) ≡ asks (aborting (Damaged d (Other d)))
+    by_size true same = absurd (finds.1 (eqb-true (length blob) (blob_size i e later) same))
+    by_size false off = ap (λ (x : Digest32). asks (aborting (Damaged x (Other x)))) (sym finds.0)
+finds_is (opening c s i) r d fine finds = walk_is c s i i.entries r d fine finds
+finds_is (sending_chunk c s i e later blob) r d fine finds = walk_is c s i later r d fine finds
+finds_is x r d fine finds = absurd finds
 
 finds_tells : (x : Pulling) (r : Reply) (d : Digest32) → Fine r → FindsOther x r d → Tells (Damaged d (Other d)) (take x r)
-unfolding take chunk_told
-finds_tells (reading_chunk c s i e later) (Data blob) d fine finds = by_size (length blob == blob_size i e later) refl
-  where
-    by_size : (b : Bool) → (length blob == blob_size i e later) ≡ b → Tells (Damaged d (Other d)) (if b then asks (sending_chunk c (with_chunk e blob s) i e later blob) else mismatched e)
-    by_size true same = absurd (finds.1 (eqb-true (length blob) (blob_size i e later) same))
-    by_size false off = ap (λ (x : Digest32). Damaged x (Other x)) (sym finds.0)
-finds_tells (opening c s i) r d fine finds = walk_tells c s i i.entries r d fine finds
-finds_tells (sending_chunk c s i e later blob) r d fine finds = walk_tells c s i later r d fine finds
-finds_tells x r d fine finds = absurd finds
+finds_tells x r d fine finds = subst (Tells (Damaged d (Other d))) (sym (finds_is x r d fine finds)) refl
 
 either_tells : (x : Pulling) (r : Reply) (z : Refusal) → IsOpen x → (r ≡ Refused z) ⊎ IsMismatch x r z → Tells z (take x r)
 either_tells x r z h (inl is) = subst (λ y. Tells z (take x y)) (sym is) (refused_tells x z h)

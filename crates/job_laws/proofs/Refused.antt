@@ -1,5 +1,5 @@
--- Behind a refusal a SYNC ends its writer, and is over.
-use Rattle.std.proofs.Common.{◌≡◌, inl, inr, Bool, true, not, ◌&&◌, List, [], ◌∷◌, refl, sym, subst}
+-- Behind a refusal, and behind a chunk of another length, a SYNC ends its writer, and is over.
+use Rattle.std.proofs.Common.{◌≡◌, inl, inr, Bool, true, not, ◌&&◌, List, [], ◌∷◌, refl, sym, ap, subst, ◌∙◌}
 use Rattle.std.specs.Prelude.{MatchBool}
 use Rattle.std.specs.List.{fold}
 use Rattle.std.proofs.lemmas.List.Sums.{fold-append}
@@ -10,8 +10,8 @@ use Rattle.wire_commands.specs.declared.reply.Reply.{Reply}
 use Rattle.wire_commands.specs.declared.reply.Reply.TheVariants.{Refused}
 use Rattle.store_history.specs.declared.act.Act.TheVariants.{Plain}
 use Rattle.store_history.specs.Pulling.{Pulling, seeking, comparing, starting, rejecting, aborting, SyncJob, reports, asks, act_of, chunk_told, compared, file_told, manifest_told, sought, started, stops, take, take_more}
-use Rattle.job_laws.specs.Pulls.{EndsBy, EndsWriter, IsOver, IsOverOrEnding, RefusalsEndIt, is_fault, pull_after}
-use Rattle.job_laws.proofs.FirstRefusals.{Tells, ends_tell, refused_tells, tells_behind}
+use Rattle.job_laws.specs.Pulls.{EndsBy, EndsWriter, IsMismatch, IsOver, IsOverOrEnding, RefusalsEndIt, is_fault, pull_after}
+use Rattle.job_laws.proofs.FirstRefusals.{Tells, ends_tell, finds_is, refused_tells, tells_behind}
 
 -- ---- from there on
 
@@ -56,6 +56,16 @@ ends_next (rejecting path) z other = absurd (other refl)
 ends_next (aborting first) z other = absurd (other refl)
 ends_next x z other = stops_next z
 
+-- ---- where a chunk has another length
+
+other_next : (x : Pulling) (r : Reply) (z : Refusal) → IsMismatch x r z → take x r ≡ asks (aborting z)
+other_next x r z is = finds_is x r is.digest is.fine is.finds ∙ ap (λ (y : Refusal). asks (aborting y)) (sym is.is)
+
+other_stays : (pull : SyncJob) (x : Pulling) (r : Reply) (z : Refusal) (rs : List Reply) → pull ≡ asks x → IsMismatch x r z → IsOverOrEnding (fold take_more pull (r ∷ rs))
+other_stays pull x r z rs asked is =
+    at_end z (fold take_more pull (r ∷ rs))
+    (tells_behind z rs (take_more pull r) (subst (Tells z) (sym (ap (λ p. take_more p r) asked ∙ other_next x r z is)) refl))
+
 pub refusals_end : RefusalsEndIt
 refusals_end = record {
   next = λ group before x z asked other.
@@ -63,4 +73,8 @@ refusals_end = record {
       (subst (λ pull. EndsBy x z (take_more pull (Refused z))) (sym asked) (ends_next x z other));
   later = λ group before rs z.
       subst IsOverOrEnding (sym (fold-append take_more (asks (seeking group)) before (Refused z ∷ rs))) (stays (pull_after group before) z rs);
+  other = λ group before x r z asked is.
+      fold-append take_more (asks (seeking group)) before (r ∷ []) ∙ ap (λ pull. take_more pull r) asked ∙ other_next x r z is;
+  later_other = λ group before rs x r z asked is.
+      subst IsOverOrEnding (sym (fold-append take_more (asks (seeking group)) before (r ∷ rs))) (other_stays (pull_after group before) x r z rs asked is);
 }

@@ -2,6 +2,7 @@
 use Rattle.std.proofs.Common.{◌≡◌, ◌⊎◌, inl, inr, ℕ, ◌==◌, ◌||◌, Bool, true, false, cond, List, [], ◌∷◌, ◌++◌, length, Option, Some, None, refl, sym, ap, subst, ◌∙◌, arith, eq-eqb}
 use Rattle.std.specs.List.{fold}
 use Rattle.std.proofs.lemmas.List.{append_assoc, append_cancel_left, length-append}
+use Rattle.store_types.specs.declared.order.TheConstants.{COMMAND_KIND, MEMORY_KIND}
 use Rattle.store_files.specs.Archive.{Snapshot}
 use Rattle.wire_commands.specs.declared.reply.Reply.{Reply}
 use Rattle.store_model.specs.declared.ending.Ending.{Ending}
@@ -66,9 +67,9 @@ module _ (R : Option (List Snapshot)) (end : Ending) (p : Position) (a : Asking)
     says : reply v ≡ Some answer
     hears : Hears (position_after end p v) (take a answer)
 
-  stepped : (w : World) (v : Event) (vs : List Event) → IsRight R w v → kind v ≡ 0 → Does (class_of v.act) end p v vs → Stepped w v
+  stepped : (w : World) (v : Event) (vs : List Event) → IsRight R w v → kind v ≡ COMMAND_KIND → Does (class_of v.act) end p v vs → Stepped w v
   unfolding position_after
-  stepped w v vs right done does = record { act = act_is; answer = told.1; says = says; hears = subst (λ q. Hears q (take a told.1)) (sym heard_is) (heard_of (take a told.1) (((v.answer).entry).kind == 2) ((v.answer).last || p.is_spent)) }
+  stepped w v vs right done does = record { act = act_is; answer = told.1; says = says; hears = subst (λ q. Hears q (take a told.1)) (sym heard_is) (heard_of (take a told.1) (((v.answer).entry).kind == MEMORY_KIND) ((v.answer).last || p.is_spent)) }
     where
       of_kind : Right R w (lane v) (moment v) v.act (reply v) (class_of v.act) step_kind
       of_kind = subst (λ n. Right R w (lane v) (moment v) v.act (reply v) (class_of v.act) (kind_of n)) done right.says
@@ -85,7 +86,7 @@ module _ (R : Option (List Snapshot)) (end : Ending) (p : Position) (a : Asking)
       says : reply v ≡ Some told.1
       says = (subst (λ c. Right R w (lane v) (moment v) v.act (reply v) c step_kind) class_is of_kind).1
 
-      heard_is : position_after end p v ≡ at_job p left (take a told.1) (((v.answer).entry).kind == 2) ((v.answer).last || p.is_spent)
+      heard_is : position_after end p v ≡ at_job p left (take a told.1) (((v.answer).entry).kind == MEMORY_KIND) ((v.answer).last || p.is_spent)
       heard_is = ap (λ c. heard_as c end p v.answer) class_is ∙ heard_job p a left v.answer told.1 alone next says
 
 -- ---- from step to step

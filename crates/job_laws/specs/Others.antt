@@ -2,6 +2,7 @@
 use Rattle.std.specs.Prelude.{◌≡◌, ◌⊎◌, ℕ, List, [], ◌∷◌, ◌++◌, Option, Some, None, IsTrue}
 use Rattle.std.specs.List.{All, fold}
 use Rattle.store_types.specs.Names.{key_of}
+use Rattle.store_types.specs.declared.order.TheConstants.{COMMAND_KIND}
 use Rattle.store_files.specs.Archive.{Snapshot}
 use Rattle.wire_commands.specs.declared.reply.Reply.{Reply}
 use Rattle.store_model.specs.declared.step.Step.{Step}
@@ -47,7 +48,7 @@ abbrev pub StepsTo : Job → List Event → Job → Type 0
 StepsTo job [] end = job ≡ end
 StepsTo (over report) (e ∷ es) end = ⊥
 StepsTo (asking a) (e ∷ es) end =
-    (e.act ≡ act_of_step (step_of a)) × (kind e ≡ 0)
+    (e.act ≡ act_of_step (step_of a)) × (kind e ≡ COMMAND_KIND)
     × (r : Reply) × (reply e ≡ Some r) × StepsTo (take a r) es end
 
 abbrev pub world_behind : Option (List Snapshot) → Opening → List Event → World
@@ -87,7 +88,7 @@ abbrev pub TellsFirst : Ending → Position → List Event → Reply → Type 0
 TellsFirst ending p [] r = ⊥
 TellsFirst ending p (e ∷ es) r =
     let q = position_after ending p e in
-    (kind e ≡ 0) × ((q.told ≡ p.told ++ r ∷ []) ⊎ ((q.told ≡ p.told) × TellsFirst ending q es r))
+    (kind e ≡ COMMAND_KIND) × ((q.told ≡ p.told ++ r ∷ []) ⊎ ((q.told ≡ p.told) × TellsFirst ending q es r))
 
 -- the VERIFY is next on the lane, and no SYNC is open
 pub record VerifyIsNext (p : Position) (text : List ℕ) : Type 0 where

@@ -229,7 +229,8 @@ EndsBy x refusal pull =
     MatchBool (has_writer x && not (is_fault refusal)) (EndsWriter pull) (IsOver pull)
 
 -- Where a step or a read is refused a SYNC ends its writer next, if it has one and the disk did not fail; else it is over.
--- That is said of what does not itself end the writer. And behind any refusal it asks nothing but to end its writer.
+-- That is said of what does not itself end the writer. So too where a chunk has another length than its index says. Behind
+-- any refusal and such a chunk it asks nothing but to end its writer.
 pub record RefusalsEndIt : Type 0 where
   pub next :
       (group : List ℕ) (before : List Reply) (x : Pulling) (refusal : Refusal)
@@ -238,6 +239,14 @@ pub record RefusalsEndIt : Type 0 where
   pub later :
       (group : List ℕ) (before more : List Reply) (refusal : Refusal)
       → IsOverOrEnding (pull_after group (before ++ Refused refusal ∷ more))
+  pub other :
+      (group : List ℕ) (before : List Reply) (x : Pulling) (reply : Reply) (refusal : Refusal)
+      → pull_after group before ≡ asks x → IsMismatch x reply refusal
+      → pull_after group (before ++ reply ∷ []) ≡ asks (aborting refusal)
+  pub later_other :
+      (group : List ℕ) (before more : List Reply) (x : Pulling) (reply : Reply) (refusal : Refusal)
+      → pull_after group before ≡ asks x → IsMismatch x reply refusal
+      → IsOverOrEnding (pull_after group (before ++ reply ∷ more))
 
 -- ---- what is sent
 

@@ -23,7 +23,8 @@ pub fn first_refusals_are_told()
 {}
 
 /// Beside any remote, a SYNC that was refused a step or a read, other than the end of its writer, ends its writer next, where
-/// it has one, unless the disk failed; else it is over. Behind any refusal it asks nothing else.
+/// it has one, unless the disk failed; else it is over. It ends its writer next too where a chunk has another length than its
+/// index says. Behind any refusal, and such a chunk, it asks nothing else.
 pub fn refusals_end_it()
     ensures { RefusalsEndIt }
 {}

@@ -64,11 +64,6 @@ long_done v row bytes total fault is = by_test (nat_lt (size_limit row.file) tot
 
 -- a part is behind the bytes of the same file
 module _ (r after : Reading) (visit : after.visit ≡ r.visit) (row : after.row ≡ r.row) where
-  pub same_reading : after.bytes.items ≡ r.bytes.items → reading_of after ≡ reading_of r
-  same_reading bytes =
-      ap (λ (x : stages.Visit). asking (reading (shown_visit x) after.row after.bytes.items)) visit
-      ∙ ap (λ x. asking (reading (shown_visit r.visit) x after.bytes.items)) row ∙ ap (λ x. asking (reading (shown_visit r.visit) r.row x)) bytes
-
   module _ (more : List ℕ) (total : ℕ) (fits : total ≤ size_limit r.row.file) (bytes : after.bytes.items ≡ r.bytes.items ++ more) where
     goes_on : asking (reading (shown_visit r.visit) r.row (r.bytes.items ++ more)) ≡ reading_of after
     goes_on =

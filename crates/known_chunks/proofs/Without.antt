@@ -1,5 +1,5 @@
 -- Chunks that were added are taken out again.
-use Rattle.std.proofs.Common.{◌≡◌, ℕ, zero, suc, ◌+◌, ◌<◌, Bool, true, false, ◌||◌, cond, refl, sym, ap, ◌∙◌, List, [], ◌∷◌, ◌++◌, length, drop, get_or, drop-cons, add-one, Some, None, arith}
+use Rattle.std.proofs.Common.{◌≡◌, ℕ, zero, suc, ◌+◌, ◌<◌, Bool, true, false, ◌||◌, cond, refl, sym, ap, ◌∙◌, List, [], ◌∷◌, ◌++◌, length, get_or, Some, None, arith}
 use Rattle.std.specs.Prelude.{Result, Ok, Err, Option, OnOk, OnErr}
 use Rattle.std.specs.List.{list_any}
 use Rattle.std.specs.FinMap.{get, insert, remove, get-remove, get-insert, same_map, nat_cmp-IsAntisymmetric, slice_cmp-IsAntisymmetric}
@@ -70,10 +70,6 @@ module _ (m : Lengths) (d : Digest32) (none : get m d.0 ≡ None) where
   back n len ds (Err e) ok err = taken_out m n ds d (λ q. ap (λ x. cond (is_it q d) None (get x q)) err ∙ at_it q (is_it q d) refl)
 
 -- ---- one by one
-
-pub without_next : (m : Lengths) (ds : List Digest32) (i : ℕ) (d : Digest32) → i < length ds → get_or ds i d ≡ d → without m (drop i ds) ≡ without (remove m d.0) (drop (i + 1) ds)
-without_next m ds i d below at =
-    ap (without m) (drop-cons ds i d below ∙ ap (λ x. x ∷ drop (suc i) ds) at) ∙ ap (λ k. without (remove m d.0) (drop k ds)) (sym (add-one i))
 
 -- an element is the one at its place, whatever stands for none
 pub own_default : {A : Type 0} (xs : List A) (i : ℕ) (d : A) → i < length xs → get_or xs i (get_or xs i d) ≡ get_or xs i d

@@ -6,6 +6,7 @@ use Rattle.wire_commands.specs.declared.command.Command.{Command}
 use Rattle.wire_commands.specs.declared.command.Command.TheVariants as commands
 use Rattle.store_types.specs.declared.refusal.Refusal.{Refusal}
 use Rattle.store_types.specs.declared.refusal.Refusal.TheVariants.{NoMemory}
+use Rattle.store_types.specs.declared.order.TheConstants.{PART_KIND, MEMORY_KIND, FAULT_KIND}
 use Rattle.wire_commands.specs.declared.reply.Reply.{Reply}
 use Rattle.wire_commands.specs.declared.reply.Reply.TheVariants.{Refused}
 use Rattle.store_model.specs.declared.step.Step.{Step}
@@ -106,11 +107,11 @@ as_refused : (r : Reply) (refusal : Refusal) → r ≡ Refused refusal → IsRef
 as_refused r refusal is = subst IsRefused (sym is) tt
 
 -- want of memory has its kind
-pub want_kind : (a : Act) (x : Answer) (told : Told) → (a ≡ acts.Short → (x.entry).kind ≡ 2) → (x.last ≡ true → (x.entry).kind ≡ 2) → x.last ≡ told.last → IsWant a told → (x.entry).kind ≡ 2
+pub want_kind : (a : Act) (x : Answer) (told : Told) → (a ≡ acts.Short → (x.entry).kind ≡ MEMORY_KIND) → (x.last ≡ true → (x.entry).kind ≡ MEMORY_KIND) → x.last ≡ told.last → IsWant a told → (x.entry).kind ≡ MEMORY_KIND
 want_kind a x told wanting last same (inl is) = wanting is
 want_kind a x told wanting last same (inr is) = last (same ∙ is)
 
-want_reply : {D E C : Type 0} (d : Ghosts D) (old new : Core D E C) (a : Act) (x : Answer) (r : Reply) → ReachHasCause d old new a x → x.reply ≡ Some r → (x.entry).kind ≡ 2 → r ≡ Refused NoMemory
+want_reply : {D E C : Type 0} (d : Ghosts D) (old new : Core D E C) (a : Act) (x : Answer) (r : Reply) → ReachHasCause d old new a x → x.reply ≡ Some r → (x.entry).kind ≡ MEMORY_KIND → r ≡ Refused NoMemory
 want_reply d old new a x r (reach_reads before is reply told may) tells two = absurd (omega (arith, is, two))
 want_reply d old new a x r (reach_failed before is told) tells two = absurd (omega (arith, is, two))
 want_reply d old new a x r (reach_as_any (done before is reply told may)) tells two = absurd (omega (arith, is, two))
@@ -126,18 +127,18 @@ any_reply d old new a x r (failed before is told first rose) tells = inr (as_ref
 any_reply d old new a x r (halted place before is told) tells = inr (as_refused r _ (same_reply x.reply r _ tells told))
 
 -- its entry is of no read's kind
-pub any_kind : {D E C : Type 0} (d : Ghosts D) (old new : Core D E C) (a : Act) (x : Answer) → HasCause d old new a x → (x.entry).kind ≡ 1 → ⊥
+pub any_kind : {D E C : Type 0} (d : Ghosts D) (old new : Core D E C) (a : Act) (x : Answer) → HasCause d old new a x → (x.entry).kind ≡ PART_KIND → ⊥
 any_kind d old new a x (done before is reply told may) one = omega (arith, is, one)
 any_kind d old new a x (short is told) one = omega (arith, is, one)
 any_kind d old new a x (failed before is told first rose) one = omega (arith, is, one)
 any_kind d old new a x (halted place before is told) one = omega (arith, is, one)
 
-pub gave_by : {D E C : Type 0} (d : Ghosts D) (old new : Core D E C) (a : Act) (x : Answer) (r : Reply) → ReachHasCause d old new a x → x.reply ≡ Some r → (x.entry).kind ≡ 1 → IsTrue (may_give a r)
+pub gave_by : {D E C : Type 0} (d : Ghosts D) (old new : Core D E C) (a : Act) (x : Answer) (r : Reply) → ReachHasCause d old new a x → x.reply ≡ Some r → (x.entry).kind ≡ PART_KIND → IsTrue (may_give a r)
 gave_by d old new a x r (reach_reads before is reply told may) tells one = subst (λ s. IsTrue (may_give a s)) (same_reply x.reply reply r told tells) may
 gave_by d old new a x r (reach_failed before is told) tells one = absurd (omega (arith, is, one))
 gave_by d old new a x r (reach_as_any cause) tells one = absurd (any_kind d old new a x cause one)
 
-pub other_by : {D E C : Type 0} (d : Ghosts D) (old new : Core D E C) (a : Act) (x : Answer) (r : Reply) → ReachHasCause d old new a x → x.reply ≡ Some r → ((x.entry).kind ≡ 1 → ⊥)
+pub other_by : {D E C : Type 0} (d : Ghosts D) (old new : Core D E C) (a : Act) (x : Answer) (r : Reply) → ReachHasCause d old new a x → x.reply ≡ Some r → ((x.entry).kind ≡ PART_KIND → ⊥)
     → IsTrue (may_answer a r) ⊎ IsRefused r
 other_by d old new a x r (reach_reads before is reply told may) tells other = absurd (other is)
 other_by d old new a x r (reach_failed before is told) tells other = inr (as_refused r _ (same_reply x.reply r _ tells told))
@@ -148,11 +149,11 @@ pub start_any : {D E C : Type 0} (d : Ghosts D) (old new : Core D E C) (x : Answ
 start_any d old new x r (start_opens before is none) tells = absurd (none_some x.reply none (subst IsSome (sym tells) refl))
 start_any d old new x r (start_as_any cause) tells = cause
 
-pub start_gave : {D E C : Type 0} (d : Ghosts D) (old new : Core D E C) (x : Answer) (r : Reply) → StartHasCause d old new acts.Start x → x.reply ≡ Some r → (x.entry).kind ≡ 1
+pub start_gave : {D E C : Type 0} (d : Ghosts D) (old new : Core D E C) (x : Answer) (r : Reply) → StartHasCause d old new acts.Start x → x.reply ≡ Some r → (x.entry).kind ≡ PART_KIND
     → IsTrue (may_give acts.Start r)
 start_gave d old new x r cause tells one = absurd (any_kind d old new acts.Start x (start_any d old new x r cause tells) one)
 
-pub start_other : {D E C : Type 0} (d : Ghosts D) (old new : Core D E C) (x : Answer) (r : Reply) → StartHasCause d old new acts.Start x → x.reply ≡ Some r → ((x.entry).kind ≡ 1 → ⊥)
+pub start_other : {D E C : Type 0} (d : Ghosts D) (old new : Core D E C) (x : Answer) (r : Reply) → StartHasCause d old new acts.Start x → x.reply ≡ Some r → ((x.entry).kind ≡ PART_KIND → ⊥)
     → IsTrue (may_answer acts.Start r) ⊎ IsRefused r
 start_other d old new x r cause tells other = any_reply d old new acts.Start x r (start_any d old new x r cause tells) tells
 
@@ -167,7 +168,7 @@ may_reply d old new a x r (reach_as_any cause) tells = by_any (any_reply d old n
     by_any (inr refused) = inr (inr refused)
 
 pub may_tell : {D E C : Type 0} (d : Ghosts D) (old new : Core D E C) (a : Act) (x : Answer) (told : Told) → HasReply a → IsCaused d old new a x
-    → x.reply ≡ Some told.reply → (IsWant a told → (x.entry).kind ≡ 2) → MayTell a told
+    → x.reply ≡ Some told.reply → (IsWant a told → (x.entry).kind ≡ MEMORY_KIND) → MayTell a told
 may_tell d old new a x told replied cause tells two = let has = caused d a old new x replied cause in record {
   reply_is = may_reply d old new a x told.reply has tells;
   want = λ wants. want_reply d old new a x told.reply has tells (two wants);
@@ -180,7 +181,7 @@ has_first place None is = cc
 has_first place (Some first) is = cc
 
 -- it meets none again
-pub second_end : (place : ℕ) (fault : Option ℕ) (before : ℕ) (h : List Event) (v u : Event) → AreKept place fault before ((h ++ v ∷ []) ++ u ∷ []) → kind v ≡ 5 → u.act ≡ acts.End → kind u ≡ 5 → ⊥
+pub second_end : (place : ℕ) (fault : Option ℕ) (before : ℕ) (h : List Event) (v u : Event) → AreKept place fault before ((h ++ v ∷ []) ++ u ∷ []) → kind v ≡ FAULT_KIND → u.act ≡ acts.End → kind u ≡ FAULT_KIND → ⊥
 second_end place fault before [] v u kept five asks again =
     by_kind (subst (λ c. FitsKind c (fault_after place (kind v) fault) (kind u)) (ap class_of asks) ((kept.1).0).kind_is)
   where

@@ -1,6 +1,7 @@
 -- The last of a lane: its end, and the reply behind it.
 use Rattle.std.proofs.Common.{◌≡◌, ◌≢◌, ℕ, true, false, List, [], ◌∷◌, ◌++◌, length, Option, Some, None, refl, sym, ap, subst, ◌∙◌, arith, append-nil, append_assoc, option_to_list, ◌⊎◌, inl, inr}
 use Rattle.std.proofs.lemmas.List.{length-append}
+use Rattle.store_types.specs.declared.order.TheConstants.{FAULT_KIND, END_KIND}
 use Rattle.port_traits.specs.Bytes.{TakesFrom, WritesCounted}
 use Rattle.port_traits.proofs.BytesLemmas.{WritesCounted-stopped}
 use Rattle.wire_frames.specs.Frames.{frame}
@@ -392,7 +393,7 @@ pub ends_here : (before after : History → Type 0) (k : ℕ) (a : Answer) (n : 
 ends_here before after k a n entered of other told h s =
     (event_of acts.End a n ∷ [], (entered h s, record { asks = refl; lane_is = of; kind_is = six told }))
   where
-    six : EndIsTold a → (a.entry).kind ≡ 6
+    six : EndIsTold a → (a.entry).kind ≡ END_KIND
     six (inl p) = p.0
     six (inr p) = absurd (other p.0)
 
@@ -400,7 +401,7 @@ ends_here before after k a n entered of other told h s =
 pub ends_again : (before between after : History → Type 0) (k : ℕ) (a b : Answer) (m n : ℕ)
     → ((h : History) → before h → between (then_event h (event_of acts.End a m))) → ((h : History) → between h → after (then_event h (event_of acts.End b n)))
     → ((h : History) → after h → AreKept 0 None (h.opening).moment h.events)
-    → (a.entry).lane ≡ k → (b.entry).lane ≡ k → (a.entry).kind ≡ 5 → EndIsTold b → EndsLane before after k
+    → (a.entry).lane ≡ k → (b.entry).lane ≡ k → (a.entry).kind ≡ FAULT_KIND → EndIsTold b → EndsLane before after k
 ends_again before between after k a b m n first second kept of also five told h s =
     let v = event_of acts.End a m in
     let u = event_of acts.End b n in
@@ -413,6 +414,6 @@ ends_again before between after k a b m n first second kept of also five told h 
       ),
     )
   where
-    six : AreKept 0 None (h.opening).moment ((h.events ++ event_of acts.End a m ∷ []) ++ event_of acts.End b n ∷ []) → EndIsTold b → (b.entry).kind ≡ 6
+    six : AreKept 0 None (h.opening).moment ((h.events ++ event_of acts.End a m ∷ []) ++ event_of acts.End b n ∷ []) → EndIsTold b → (b.entry).kind ≡ END_KIND
     six right (inl p) = p.0
     six right (inr p) = absurd (second_end 0 None (h.opening).moment h.events (event_of acts.End a m) (event_of acts.End b n) right five refl p.0)

@@ -1,5 +1,6 @@
 -- What a command does, or a job: its acts, and where they lead.
 use Rattle.std.proofs.Common.{◌≡◌, ◌≢◌, ℕ, ◌-◌, length, Bool, true, false, not, ◌||◌, ◌==◌, List, [], ◌∷◌, ◌++◌, Option, None, Some, refl, sym, ap, subst, ◌∙◌}
+use Rattle.store_types.specs.declared.order.TheConstants.{MEMORY_KIND}
 use Rattle.wire_commands.specs.declared.command.Command.{Command}
 use Rattle.wire_commands.specs.declared.command.Command.TheVariants as commands
 use Rattle.store_model.specs.Job.{Asking}
@@ -65,7 +66,7 @@ or_false p b is = ap (λ x. b || x) is ∙ last b
 -- what is next is read of the input
 abbrev pub is_read : Next → Bool
 is_read (job_step j left) = false
-is_read (collecting is_short) = false
+is_read (collecting is_out_of_memory) = false
 is_read n = true
 
 false_true : false ≡ true → ⊥
@@ -85,10 +86,10 @@ no_stop p n is read = by_collecting p.collecting is
     by_collecting : (o : Option Bool)
         → elim o [
           | None ↦ elim p.job [ None ↦ front_next (p.size - length p.left) (front p.left) | Some j ↦ job_step j p.left ]
-          | Some is_short ↦ collecting is_short
+          | Some is_out_of_memory ↦ collecting is_out_of_memory
         ] ≡ n → job_stops p.job ≡ false
     by_collecting None is = by_job p.job is
-    by_collecting (Some is_short) is = absurd (false_true (other (collecting is_short) is))
+    by_collecting (Some is_out_of_memory) is = absurd (false_true (other (collecting is_out_of_memory) is))
 
 -- where that is next, no answer so far was the last
 pub read_on : (p : Position) (n : Next) → p.pull ≡ None → next_at p ≡ n → is_read n ≡ true → may_step p ≡ true → p.is_spent ≡ false
@@ -103,19 +104,19 @@ pub does_plain : (before after : History → Type 0) (k : ℕ) (c : Command) (ac
     → Does before after k (command_next c) told
 does_plain before after k c act told d is_act alone = let v = d.event in record {
   events = v ∷ [];
-  is_short = kind v == 2;
+  is_out_of_memory = kind v == MEMORY_KIND;
   history = d.history;
   lanes = (d.lane_is, tt);
   leads = λ p left is.
       let on = read_on p (plain c left) is.idle (is.next ∙ command_is c left alone) refl is.on in
-      subst (λ b. Leads p (v ∷ []) (answered p left told.reply (kind v == 2) b)) (or_false p (v.answer).last on ∙ d.last)
+      subst (λ b. Leads p (v ∷ []) (answered p left told.reply (kind v == MEMORY_KIND) b)) (or_false p (v.answer).last on ∙ d.last)
       (leads_command [] p p c left v told.reply refl is.idle on (is.next ∙ command_is c left alone) (d.asks ∙ is_act) d.tells);
 }
 
 pub does_job : (before after : History → Type 0) (k : ℕ) (c : Command) (j : Asking) (told : Told) → job_of c ≡ Some j → Does before after k (job_step j) told → Does before after k (command_next c) told
 does_job before after k c j told some d = record {
   events = d.events;
-  is_short = d.is_short;
+  is_out_of_memory = d.is_out_of_memory;
   history = d.history;
   lanes = d.lanes;
   leads = λ p left is. d.leads p left (subst (λ n. IsNext n p) (next_job c j left some) is);

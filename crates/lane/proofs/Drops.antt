@@ -1,5 +1,5 @@
 -- A SYNC's acts by what its job asks, and a reply for which there is no memory.
-use Rattle.std.proofs.Common.{◌≡◌, ◌<◌, inl, inr, ℕ, Bool, true, false, ◌||◌, List, [], ◌∷◌, ◌++◌, length, Option, Some, None, Result, Ok, Err, OnOk, OnErr, if◌then◌else◌, nat_le, nat_lt, refl, sym, ap, subst, ◌∙◌, arith, ◌==◌}
+use Rattle.std.proofs.Common.{◌≡◌, ◌<◌, inl, inr, ℕ, Bool, true, false, ◌||◌, List, [], ◌∷◌, ◌++◌, length, Option, Some, None, Result, Ok, Err, OnOk, OnErr, if◌then◌else◌, nat_le, nat_lt, refl, sym, ap, subst, ◌∙◌, arith}
 use Rattle.store_types.specs.declared.refusal.Refusal.TheVariants.{NoMemory}
 use Rattle.store_types.specs.declared.append.AppendEntry.{AppendEntry}
 use Rattle.store_types.specs.FileNames.{manifest_name}
@@ -21,13 +21,11 @@ use Rattle.store_history.proofs.Ending.{is_formed}
 use Rattle.store_model.specs.SizeLimits.{blob_limit, size_limit}
 use Rattle.store_history.specs.Pulling.{Course, Stock, Index, Pulling, seeking, reading_manifest, reading_file, opening, reading_chunk, sending_chunk, sending_blob, sending_manifest, aborting, SyncJob, reports, asks, act_of, rejects, index_in, is_index, index_read, blob_read, file_read, next_file, stock_of, manifest_read, manifest_part, file_part, manifest_told, file_told, chunk_told, take, take_more, blob_size, mismatched, with_chunk}
 use Rattle.core_state.specs.History.{History}
-use Rattle.pull_steps.specs.declared.ask.Ask.{Ask}
-use Rattle.pull_steps.specs.Asked.{AsksNext, IsOver, MayWant, act_of_ask, report_of}
+use Rattle.pull_steps.specs.Asked.{IsOver, MayWant, report_of}
 use Rattle.pull_steps.specs.Taken.{IsReadOf, IsReplyTo}
 use Rattle.lane.specs.declared.acts.Told.{Told}
 use Rattle.lane.specs.Acting.{Did, HasReply, MayTell}
 use Rattle.lane.specs.Pulling.{IsActOf, IsNearer, IsNextAct, IsSound, IsStopped, PullsOn, rank}
-use Rattle.lane.proofs.Acting.{replied}
 use Rattle.lane.proofs.Formed.{given, of_either}
 use Rattle.lane.proofs.Pulls.{pulls_once, pulls_then}
 
@@ -35,14 +33,6 @@ false_true : false ≡ true → ⊥
 false_true e = cc
 
 -- ---- its next act
-
-pub asks_none : (job : SyncJob) → AsksNext job None → IsNextAct job None
-asks_none (reports report) asked = tt
-asks_none (asks x) asked = absurd asked
-
-pub asks_some : (job : SyncJob) (ask : Ask) (act : Act) → AsksNext job (Some ask) → act ≡ act_of_ask ask → IsNextAct job (Some act)
-asks_some (reports report) ask act asked is = absurd asked
-asks_some (asks x) ask act asked is = inl (is ∙ asked)
 
 -- or want of memory for it
 pub asks_short : (job : SyncJob) → MayWant job → IsNextAct job (Some acts.Short)

@@ -5,6 +5,7 @@ use Rattle.std.proofs.lemmas.Bool.{eq-eqb, eqb-true}
 use Rattle.std.proofs.lemmas.List.{length-append}
 use Rattle.std.proofs.lemmas.List.Elements.{All-nil, All-cons, All-append}
 use Rattle.std.proofs.lemmas.List.Folds.{list_any-append}
+use Rattle.store_types.specs.declared.order.TheConstants.{MEMORY_KIND, FAULT_KIND}
 use Rattle.disk_trait.specs.Disk.{Rose}
 use Rattle.wire_commands.specs.declared.reply.Reply.{Reply}
 use Rattle.store_model.specs.Weave.{first_fault}
@@ -50,19 +51,19 @@ kind_is n m e = by_side (either_true (n == m) false e)
     by_side (inr x) = absurd (false_true x)
 
 -- a fault that is new is of an entry of kind 5
-new_fault : (place kind : ℕ) (before after : Option ℕ) → after ≡ fault_after place kind before → before ≡ None → IsSome after → kind ≡ 5
-new_fault place kind before after is none some = by_kind (kind == 5) refl
+new_fault : (place kind : ℕ) (before after : Option ℕ) → after ≡ fault_after place kind before → before ≡ None → IsSome after → kind ≡ FAULT_KIND
+new_fault place kind before after is none some = by_kind (kind == FAULT_KIND) refl
   where
     none_some : (o : Option ℕ) → o ≡ None → IsSome o → ⊥
     none_some None e s = cc
     none_some (Some n) e s = cc
 
-    by_kind : (b : Bool) → kind == 5 ≡ b → kind ≡ 5
+    by_kind : (b : Bool) → kind == FAULT_KIND ≡ b → kind ≡ FAULT_KIND
     by_kind true five = eqb-true kind 5 five
     by_kind false other = absurd (none_some after (is ∙ ap (λ b. if b then first_fault place before else before) other ∙ none) some)
 
 pub one_entered : {D E C : Type 0} (d : Ghosts D) (old new : Core D E C) (k : ℕ) (answer : Answer) (wanting : Type 0)
-    → IsAnswered d old new k answer → (wanting → (answer.entry).kind ≡ 2) → HasEntered d old new k wanting
+    → IsAnswered d old new k answer → (wanting → (answer.entry).kind ≡ MEMORY_KIND) → HasEntered d old new k wanting
 one_entered d old new k answer wanting is two = record {
   added = answer.entry ∷ [];
   counts = d.calls (new.parts).disk ∷ [];
@@ -73,7 +74,7 @@ one_entered d old new k answer wanting is two = record {
   count = is.count;
   fault = λ none some. is.cause (new_fault (length (old.journal).entries.items) (answer.entry).kind old.fault new.fault is.fault none some) none;
   cause = λ none five. is.cause (kind_is (answer.entry).kind 5 five) none;
-  memory = λ wants. first_true ((answer.entry).kind == 2) false (eq-eqb (answer.entry).kind 2 (two wants));
+  memory = λ wants. first_true ((answer.entry).kind == MEMORY_KIND) false (eq-eqb (answer.entry).kind 2 (two wants));
 }
 
 -- ---- none
@@ -127,8 +128,8 @@ more_entered d a b c k first second both x y of = record {
   lanes = All-append (λ e. e.lane ≡ k) x.added y.added x.lanes y.lanes;
   count = omega (arith, x.count, y.count);
   fault = λ none some. by_fault none (λ clean. y.fault clean some) (none_or_some b.fault);
-  cause = λ none five. by_kind none (either_true (has_kind 5 x.added) (has_kind 5 y.added) (sym (list_any-append (λ e. e.kind == 5) x.added y.added) ∙ five));
-  memory = λ wants. list_any-append (λ e. e.kind == 2) x.added y.added ∙ by_want (of wants);
+  cause = λ none five. by_kind none (either_true (has_kind 5 x.added) (has_kind 5 y.added) (sym (list_any-append (λ e. e.kind == FAULT_KIND) x.added y.added) ∙ five));
+  memory = λ wants. list_any-append (λ e. e.kind == MEMORY_KIND) x.added y.added ∙ by_want (of wants);
 }
   where
     by_fault : a.fault ≡ None → (b.fault ≡ None → Rose (d.faults (b.parts).disk) (d.faults (c.parts).disk)) → (b.fault ≡ None) ⊎ IsSome b.fault → Rose (d.faults (a.parts).disk) (d.faults (c.parts).disk)

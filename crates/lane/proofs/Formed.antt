@@ -116,16 +116,16 @@ append_on c s x (e ∷ es) keys few = (keys, few)
 chunk_on : (c : Course) (s : Stock) (x : Index) (es : List AppendEntry) → HasKeys c → IsFew s → length x.entries ≤ 2 ^ 20 → length es ≤ length x.entries → IsOn (next_chunk c s x es)
 unfolding next_chunk
 chunk_on c s x [] keys few most within = append_on c s x x.entries keys few
-chunk_on c s x (e ∷ es) keys few most within = by_kept (size_sent s e) (chunk_on c s x es keys few most (omega (arith, within)))
+chunk_on c s x (e ∷ es) keys few most within = from_state (size_sent s e) (chunk_on c s x es keys few most (omega (arith, within)))
   where
     by_size : (b : Bool) → IsOn (next_chunk c s x es) → IsOn (if b then next_chunk c s x es else mismatched e)
     by_size true on = on
     by_size false on = tt
 
-    by_kept : (k : Option ℕ) → IsOn (next_chunk c s x es)
+    from_state : (k : Option ℕ) → IsOn (next_chunk c s x es)
         → IsOn (elim k [ None ↦ asks (reading_chunk c s x e es) | Some size ↦ if size == blob_size x e es then next_chunk c s x es else mismatched e ])
-    by_kept None on = (keys, few, most, omega (arith, within))
-    by_kept (Some size) on = by_size (size == blob_size x e es) on
+    from_state None on = (keys, few, most, omega (arith, within))
+    from_state (Some size) on = by_size (size == blob_size x e es) on
 
 fixed_length : (size offset : ℕ) (ds : List (List ℕ)) → length (fixed_entries size offset ds) ≡ length ds
 fixed_length size offset [] = refl

@@ -85,18 +85,18 @@ append_most c s x (e ∷ es) = omega arith
 chunk_most : (c : Course) (s : Stock) (x : Index) (es : List AppendEntry) → rank (next_chunk c s x es) ≤ stock_rank c s + length x.entries + 2 * length es + 8
 unfolding next_chunk
 chunk_most c s x [] = let h = append_most c s x x.entries in omega (arith, h)
-chunk_most c s x (e ∷ es) = by_kept (size_sent s e) (chunk_most c s x es)
+chunk_most c s x (e ∷ es) = from_state (size_sent s e) (chunk_most c s x es)
   where
     by_size : (b : Bool) → rank (next_chunk c s x es) ≤ stock_rank c s + length x.entries + 2 * length es + 8
         → rank (if b then next_chunk c s x es else mismatched e) ≤ stock_rank c s + length x.entries + 2 * length (e ∷ es) + 8
     by_size true h = omega (arith, h)
     by_size false h = omega arith
 
-    by_kept : (k : Option ℕ) → rank (next_chunk c s x es) ≤ stock_rank c s + length x.entries + 2 * length es + 8
+    from_state : (k : Option ℕ) → rank (next_chunk c s x es) ≤ stock_rank c s + length x.entries + 2 * length es + 8
         → rank (elim k [ None ↦ asks (reading_chunk c s x e es) | Some size ↦ if size == blob_size x e es then next_chunk c s x es else mismatched e ])
         ≤ stock_rank c s + length x.entries + 2 * length (e ∷ es) + 8
-    by_kept None h = omega arith
-    by_kept (Some size) h = by_size (size == blob_size x e es) h
+    from_state None h = omega arith
+    from_state (Some size) h = by_size (size == blob_size x e es) h
 
 dropped_few : {A : Type 0} (n : ℕ) (xs : List A) → length (drop n xs) ≤ length xs
 dropped_few zero xs = omega arith

@@ -2,6 +2,7 @@
 use Rattle.std.proofs.Common.{◌≡◌, ◌⊎◌, inl, inr, ℕ, Bool, true, false, not, ◌||◌, ◌==◌, List, [], ◌∷◌, ◌++◌, Option, Some, None, IsTrue, if◌then◌else◌, refl, sym, ap, subst, ◌∙◌, append-nil, append_assoc}
 use Rattle.std.proofs.lemmas.Bool.{eqb-true, eqb-false}
 use Rattle.store_types.specs.declared.refusal.Refusal.TheVariants.{NoMemory}
+use Rattle.store_types.specs.declared.order.TheConstants.{PART_KIND, MEMORY_KIND}
 use Rattle.store_files.specs.Archive.{Layout, dynamic, fixed}
 use Rattle.wire_commands.specs.declared.command.Command.TheVariants as commands
 use Rattle.wire_commands.specs.declared.reply.Reply.{Reply}
@@ -36,11 +37,11 @@ false_true e = cc
 
 -- ---- a SYNC that was refused, or for which memory was wanting
 
-pub heard_refused : (p : Position) (group left : List ℕ) (a : Answer) (r : Reply) → p.pull ≡ None → next_at p ≡ sync group left → a.reply ≡ Some r → ((a.entry).kind == 1) ≡ false
-    → heard p a ≡ record p { left = left; job = None; pull = None; is_short = (a.entry).kind == 2; is_spent = a.last || p.is_spent; told = p.told ++ r ∷ [] }
+pub heard_refused : (p : Position) (group left : List ℕ) (a : Answer) (r : Reply) → p.pull ≡ None → next_at p ≡ sync group left → a.reply ≡ Some r → ((a.entry).kind == PART_KIND) ≡ false
+    → heard p a ≡ record p { left = left; job = None; pull = None; is_out_of_memory = (a.entry).kind == MEMORY_KIND; is_spent = a.last || p.is_spent; told = p.told ++ r ∷ [] }
 unfolding heard_at
 heard_refused p group left a r idle is says other =
-    let flag : Option Bool → Position → Position = λ o q. record q { is_short = wants (a.entry).kind o; is_spent = a.last || q.is_spent } in
+    let flag : Option Bool → Position → Position = λ o q. record q { is_out_of_memory = wants (a.entry).kind o; is_spent = a.last || q.is_spent } in
     heard_idle p a idle
     ∙ ap (λ x. flag p.collecting (heard_at p (a.entry).kind a.reply x)) is
     ∙ ap (λ (x : Option Reply). flag p.collecting (heard_at p (a.entry).kind x (sync group left))) says
@@ -48,31 +49,31 @@ heard_refused p group left a r idle is says other =
     ∙ ap (λ b. flag None (if b then pulls_on p p.left (sought group r) else tells p left r)) other
 
 -- the remote gave what it has of the group
-heard_keys : (p : Position) (group left : List ℕ) (a : Answer) (r : Reply) → p.pull ≡ None → next_at p ≡ sync group left → a.reply ≡ Some r → ((a.entry).kind == 1) ≡ true
-    → heard p a ≡ record (pulls_on p p.left (sought group r)) { is_short = (a.entry).kind == 2; is_spent = a.last || p.is_spent }
+heard_keys : (p : Position) (group left : List ℕ) (a : Answer) (r : Reply) → p.pull ≡ None → next_at p ≡ sync group left → a.reply ≡ Some r → ((a.entry).kind == PART_KIND) ≡ true
+    → heard p a ≡ record (pulls_on p p.left (sought group r)) { is_out_of_memory = (a.entry).kind == MEMORY_KIND; is_spent = a.last || p.is_spent }
 unfolding heard_at
 heard_keys p group left a r idle is says one =
-    let flag : Option Bool → Position → Position = λ o q. record q { is_short = wants (a.entry).kind o; is_spent = a.last || q.is_spent } in
+    let flag : Option Bool → Position → Position = λ o q. record q { is_out_of_memory = wants (a.entry).kind o; is_spent = a.last || q.is_spent } in
     heard_idle p a idle
     ∙ ap (λ x. flag p.collecting (heard_at p (a.entry).kind a.reply x)) is
     ∙ ap (λ (x : Option Reply). flag p.collecting (heard_at p (a.entry).kind x (sync group left))) says
     ∙ ap (λ (o : Option Bool). flag o (heard_at p (a.entry).kind (Some r) (sync group left))) (next_shut p (sync group left) is refl)
     ∙ ap (λ b. flag None (if b then pulls_on p p.left (sought group r) else tells p left r)) one
-    ∙ ap (λ b. record (pulls_on p p.left (sought group r)) { is_short = (a.entry).kind == 2; is_spent = a.last || b }) (pulls_on_spent p p.left (sought group r))
+    ∙ ap (λ b. record (pulls_on p p.left (sought group r)) { is_out_of_memory = (a.entry).kind == MEMORY_KIND; is_spent = a.last || b }) (pulls_on_spent p p.left (sought group r))
 
 -- ---- one that is begun
 
 heard_open : (p : Position) (x : Pulling) (a : Answer) (r : Reply) → p.pull ≡ Some x → p.collecting ≡ None → a.reply ≡ Some r
-    → heard p a ≡ record (pulls_on p (behind p x (next_at p)) (take x r)) { is_short = (a.entry).kind == 2; is_spent = a.last || p.is_spent }
+    → heard p a ≡ record (pulls_on p (behind p x (next_at p)) (take x r)) { is_out_of_memory = (a.entry).kind == MEMORY_KIND; is_spent = a.last || p.is_spent }
 unfolding heard
 heard_open p x a r begun shut says =
     ap (λ (o : Option Pulling). flagged p a (heard_by o p (a.entry).kind a.reply)) begun
     ∙ ap (λ (o : Option Reply). flagged p a (heard_by (Some x) p (a.entry).kind o)) says
-    ∙ ap (λ (o : Option Bool). let q = pulls_on p (behind p x (next_at p)) (take x r) in record q { is_short = wants (a.entry).kind o; is_spent = a.last || q.is_spent }) shut
-    ∙ ap (λ b. record (pulls_on p (behind p x (next_at p)) (take x r)) { is_short = (a.entry).kind == 2; is_spent = a.last || b }) (pulls_on_spent p (behind p x (next_at p)) (take x r))
+    ∙ ap (λ (o : Option Bool). let q = pulls_on p (behind p x (next_at p)) (take x r) in record q { is_out_of_memory = wants (a.entry).kind o; is_spent = a.last || q.is_spent }) shut
+    ∙ ap (λ b. record (pulls_on p (behind p x (next_at p)) (take x r)) { is_out_of_memory = (a.entry).kind == MEMORY_KIND; is_spent = a.last || b }) (pulls_on_spent p (behind p x (next_at p)) (take x r))
 
 abbrev pulling_at : Position → List ℕ → Pulling → Bool → Bool → Position
-pulling_at p left x s b = record p { left = left_at p left x; pull = Some x; is_short = s; is_spent = b }
+pulling_at p left x s b = record p { left = left_at p left x; pull = Some x; is_out_of_memory = s; is_spent = b }
 
 -- the input behind it, and that its command is next where it is behind this
 same_next : (p : Position) (left group : List ℕ) (remote : List (List ℕ)) (s b : Bool) → next_at (pulling_at p left (comparing group remote) s b) ≡ next_at p
@@ -94,7 +95,7 @@ stays_behind p left name x s b begun is = refl
 
 -- where it goes on from there
 open_at : (p : Position) (left : List ℕ) (x : Pulling) (s b t c : Bool) (job : SyncJob) → IsOn job
-    → IsAt p left job t c (record (pulls_on (pulling_at p left x s b) left job) { is_short = t; is_spent = c })
+    → IsAt p left job t c (record (pulls_on (pulling_at p left x s b) left job) { is_out_of_memory = t; is_spent = c })
 unfolding pulls_on
 open_at p left x s b t c (reports report) on = refl
 open_at p left x s b t c (asks (seeking group)) on = absurd on
@@ -149,11 +150,11 @@ open_follows p left name x s was v act begun shut is stops (inr want) asks_is =
 
 open_led : (p : Position) (left name : List ℕ) (x : Pulling) (s was : Bool) (v : Event) (r : Reply) → IsOpen x → p.collecting ≡ None → next_at p ≡ sync name left
     → Follows (class_of v.act) (pulling_at p left x s was) v → reply v ≡ Some r
-    → Leads (pulling_at p left x s was) (v ∷ []) (record (pulls_on (pulling_at p left x s was) left (take x r)) { is_short = kind v == 2; is_spent = (v.answer).last || was })
+    → Leads (pulling_at p left x s was) (v ∷ []) (record (pulls_on (pulling_at p left x s was) left (take x r)) { is_out_of_memory = kind v == MEMORY_KIND; is_spent = (v.answer).last || was })
 open_led p left name x s was v r begun shut is follows says =
     subst (λ q. Leads (pulling_at p left x s was) (v ∷ []) q)
     (heard_open (pulling_at p left x s was) x v.answer r refl shut says
-    ∙ ap (λ l. record (pulls_on (pulling_at p left x s was) l (take x r)) { is_short = kind v == 2; is_spent = (v.answer).last || was }) (behind_left p left name x s was begun is))
+    ∙ ap (λ l. record (pulls_on (pulling_at p left x s was) l (take x r)) { is_out_of_memory = kind v == MEMORY_KIND; is_spent = (v.answer).last || was }) (behind_left p left name x s was begun is))
     (leads_more [] (pulling_at p left x s was) (pulling_at p left x s was) v refl follows)
 
 open_is : (p q : Position) (left : List ℕ) (x : Pulling) (s was : Bool) → IsOpen x → IsAt p left (asks x) s was q → q ≡ pulling_at p left x s was
@@ -165,7 +166,7 @@ open_once : (before after : History → Type 0) (k : ℕ) (x : Pulling) (was now
     → now ≡ (told.last || was) → (was ≡ true → IsStopped (asks x)) → IsOn (take x told.reply) → PullsOn before after k (asks x) (take x told.reply) was now
 open_once before after k x was now act told begun of d also stops on = record {
   events = d.event ∷ [];
-  is_short = kind d.event == 2;
+  is_out_of_memory = kind d.event == 2;
   history = d.history;
   lanes = (d.lane_is, tt);
   leads = λ p q group left s next at. led p q group left s next (open_is p q left x s was begun at);
@@ -179,11 +180,11 @@ open_once before after k x was now act told begun of d also stops on = record {
     led p q group left s next at =
         let shut = next_shut p (sync group left) next.next refl in
         let follows = open_follows p left group x s was d.event act begun shut next.next stops of d.asks in
-        let r = record (pulls_on (pulling_at p left x s was) left (take x told.reply)) { is_short = kind d.event == 2; is_spent = now } in (
+        let r = record (pulls_on (pulling_at p left x s was) left (take x told.reply)) { is_out_of_memory = kind d.event == 2; is_spent = now } in (
           r,
           (
-            subst (λ b. Leads q (d.event ∷ []) (record (pulls_on (pulling_at p left x s was) left (take x told.reply)) { is_short = kind d.event == 2; is_spent = b })) flag
-                (subst (λ y. Leads y (d.event ∷ []) (record (pulls_on (pulling_at p left x s was) left (take x told.reply)) { is_short = kind d.event == 2; is_spent = ((d.event).answer).last || was }))
+            subst (λ b. Leads q (d.event ∷ []) (record (pulls_on (pulling_at p left x s was) left (take x told.reply)) { is_out_of_memory = kind d.event == 2; is_spent = b })) flag
+                (subst (λ y. Leads y (d.event ∷ []) (record (pulls_on (pulling_at p left x s was) left (take x told.reply)) { is_out_of_memory = kind d.event == 2; is_spent = ((d.event).answer).last || was }))
                 (sym at) (open_led p left group x s was d.event told.reply begun shut next.next follows d.tells)),
             open_at p left x s was (kind d.event == 2) now (take x told.reply) on,
           ),
@@ -217,17 +218,17 @@ first_keys group act r (inl is) may = absurd (false_true (subst (λ a. IsTrue (m
 first_keys group act r (inr is) may = absurd (false_true (subst (λ a. IsTrue (may_give a r)) is.0 may))
 
 keys_at : (p : Position) (group left : List ℕ) (r : Reply) (t c : Bool) → (remote : List (List ℕ)) × (r ≡ replies.Keys remote)
-    → IsAt p left (sought group r) t c (record (pulls_on p p.left (sought group r)) { is_short = t; is_spent = c })
+    → IsAt p left (sought group r) t c (record (pulls_on p p.left (sought group r)) { is_out_of_memory = t; is_spent = c })
 unfolding sought pulls_on
 keys_at p group left r t c (remote, is) =
-    subst (λ x. IsAt p left (sought group x) t c (record (pulls_on p p.left (sought group x)) { is_short = t; is_spent = c })) (sym is) refl
+    subst (λ x. IsAt p left (sought group x) t c (record (pulls_on p p.left (sought group x)) { is_out_of_memory = t; is_spent = c })) (sym is) refl
 
 first_once : (before after : History → Type 0) (k : ℕ) (group : List ℕ) (was now : Bool) (act : Act) (told : Told) → IsActOf (asks (seeking group)) act → Did before after k act told
     → now ≡ (told.last || was) → PullsOn before after k (asks (seeking group)) (take (seeking group) told.reply) was now
 unfolding take
 first_once before after k group was now act told of d also = record {
   events = d.event ∷ [];
-  is_short = kind d.event == 2;
+  is_out_of_memory = kind d.event == 2;
   history = d.history;
   lanes = (d.lane_is, tt);
   leads = λ p q name left s next at. led p q name left next at.0 at.1 at.2;
@@ -252,10 +253,10 @@ first_once before after k group was now act told of d also = record {
         by_kind : (b : Bool) → (kind d.event == 1) ≡ b → (r : Position) × (Leads q (d.event ∷ []) r × IsAt p left (sought group told.reply) (kind d.event == 2) now r)
         by_kind true one =
             let keys = first_keys group act told.reply of (d.gave (eqb-true (kind d.event) 1 one)) in
-            let r = record (pulls_on p p.left (sought group told.reply)) { is_short = kind d.event == 2; is_spent = now } in (
+            let r = record (pulls_on p p.left (sought group told.reply)) { is_out_of_memory = kind d.event == 2; is_spent = now } in (
               r,
               (
-                subst (λ b. Leads q (d.event ∷ []) (record (pulls_on p p.left (sought group told.reply)) { is_short = kind d.event == 2; is_spent = b })) flag
+                subst (λ b. Leads q (d.event ∷ []) (record (pulls_on p p.left (sought group told.reply)) { is_out_of_memory = kind d.event == 2; is_spent = b })) flag
                     (subst (λ y. Leads q (d.event ∷ []) y) (heard_keys p group left (d.event).answer told.reply next.idle is d.tells one) heard_led),
                 keys_at p group left told.reply (kind d.event == 2) now keys,
               ),
@@ -289,12 +290,12 @@ pub pulls_then : (before between after : History → Type 0) (k : ℕ) (a b c : 
     → PullsOn before after k a c u w
 pulls_then before between after k a b c u v w x y = record {
   events = x.events ++ y.events;
-  is_short = y.is_short;
+  is_out_of_memory = y.is_out_of_memory;
   history = λ h at. subst (λ es. after (with_events h es)) (append_assoc h.events x.events y.events) (y.history (with_events h (h.events ++ x.events)) (x.history h at));
   lanes = of_both k x.events y.events x.lanes y.lanes;
   leads = λ p q group left s next at.
       let r = x.leads p q group left s next at in
-      let t = y.leads p r.0 group left x.is_short next r.1.1 in
+      let t = y.leads p r.0 group left x.is_out_of_memory next r.1.1 in
       (t.0, (leads_then x.events y.events q r.0 t.0 r.1.0 t.1.0, t.1.1));
 }
 
@@ -302,12 +303,12 @@ pub pulled_on : (before between after : History → Type 0) (k : ℕ) (group : L
     → PullsOn between after k job new was now → HasPulled before after k group new now
 pulled_on before between after k group job new was now s x = record {
   events = s.events ++ x.events;
-  is_short = x.is_short;
+  is_out_of_memory = x.is_out_of_memory;
   history = λ h at. subst (λ es. after (with_events h es)) (append_assoc h.events s.events x.events) (x.history (with_events h (h.events ++ s.events)) (s.history h at));
   lanes = of_both k s.events x.events s.lanes x.lanes;
   leads = λ p left next.
       let q = s.leads p left next in
-      let r = x.leads p q.0 group left s.is_short next q.1.1 in
+      let r = x.leads p q.0 group left s.is_out_of_memory next q.1.1 in
       (r.0, (leads_then s.events x.events p q.0 r.0 q.1.0 r.1.0, r.1.1));
 }
 
@@ -316,7 +317,7 @@ pulled_on before between after k group job new was now s x = record {
 pub pulled_none : (before : History → Type 0) (k : ℕ) (group : List ℕ) → HasPulled before before k group (asks (seeking group)) false
 pulled_none before k group = record {
   events = [];
-  is_short = false;
+  is_out_of_memory = false;
   history = λ h at. subst (λ es. before (with_events h es)) (sym (append-nil h.events)) at;
   lanes = tt;
   leads = λ p left next. (p, (refl, (refl, refl, next.next)));
@@ -328,12 +329,12 @@ pub pulled_told : (before after : History → Type 0) (k : ℕ) (group : List �
 unfolding command_next
 pulled_told before after k group job told s is = record {
   events = s.events;
-  is_short = s.is_short;
+  is_out_of_memory = s.is_out_of_memory;
   history = s.history;
   lanes = s.lanes;
   leads = λ p left next.
       let q = s.leads p left next in
-      subst (λ y. Leads p s.events y) (subst (λ j. IsAt p left j s.is_short told.last q.0) is q.1.1) q.1.0;
+      subst (λ y. Leads p s.events y) (subst (λ j. IsAt p left j s.is_out_of_memory told.last q.0) is q.1.1) q.1.0;
 }
 
 -- memory was wanting for it from the beginning

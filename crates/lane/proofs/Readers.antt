@@ -11,6 +11,7 @@ use Rattle.wire_commands.specs.declared.rows.PruneMark.TheVariants.{Removed, Hel
 use Rattle.store_types.specs.declared.names.Keep.{Keep}
 use Rattle.store_types.specs.declared.refusal.Refusal.{Refusal}
 use Rattle.store_types.specs.declared.refusal.Refusal.TheVariants.{SnapshotBusy, NoSnapshot, NoMemory, RemoteFault, DiskFault, Halted}
+use Rattle.store_types.specs.declared.order.TheConstants.{MEMORY_KIND, FAULT_KIND}
 use Rattle.store_model.specs.Job.{Asking, grouping, forgetting, opening, listing, reading, checking, closing, aborting, step_of, Job, over, asking, closed, leaves_open}
 use Rattle.store_model.specs.Jobs.{take, take_more}
 use Rattle.store_model.specs.Weave.{first_fault}
@@ -50,22 +51,22 @@ false_true e = cc
 
 -- an act that is told no fault has an entry of no fault
 any_fine : {D E C : Type 0} (d : Ghosts D) (old new : Core D E C) (act : Act) (x : Answer) (r : Reply) → HasCause d old new act x → x.reply ≡ Some r → tells_fault r ≡ false
-    → (x.entry).kind ≡ 5 → ⊥
+    → (x.entry).kind ≡ FAULT_KIND → ⊥
 any_fine d old new act x r (done before is reply told may) tells fine five = omega (arith, is, five)
 any_fine d old new act x r (short is told) tells fine five = omega (arith, is, five)
 any_fine d old new act x r (failed before is told first rose) tells fine five = false_true (sym fine ∙ ap tells_fault (same_reply x.reply r _ tells told))
 any_fine d old new act x r (halted place before is told) tells fine five = false_true (sym fine ∙ ap tells_fault (same_reply x.reply r _ tells told))
 
 told_kind : {D E C : Type 0} (d : Ghosts D) (old new : Core D E C) (act : Act) (x : Answer) (r : Reply) → ReachHasCause d old new act x → x.reply ≡ Some r → tells_fault r ≡ false
-    → (x.entry).kind ≡ 5 → ⊥
+    → (x.entry).kind ≡ FAULT_KIND → ⊥
 told_kind d old new act x r (reach_reads before is reply told may) tells fine five = omega (arith, is, five)
 told_kind d old new act x r (reach_failed before is told) tells fine five = omega (arith, is, five)
 told_kind d old new act x r (reach_as_any cause) tells fine five = any_fine d old new act x r cause tells fine five
 
-fault_stays : (n kind : ℕ) (o : Option ℕ) → (kind ≡ 5 → ⊥) → fault_after n kind o ≡ o
-fault_stays n kind o other = by_test (kind == 5) refl
+fault_stays : (n kind : ℕ) (o : Option ℕ) → (kind ≡ FAULT_KIND → ⊥) → fault_after n kind o ≡ o
+fault_stays n kind o other = by_test (kind == FAULT_KIND) refl
   where
-    by_test : (b : Bool) → (kind == 5) ≡ b → (if b then first_fault n o else o) ≡ o
+    by_test : (b : Bool) → (kind == FAULT_KIND) ≡ b → (if b then first_fault n o else o) ≡ o
     by_test true is = absurd (other (eqb-true kind 5 is))
     by_test false is = refl
 
@@ -111,7 +112,7 @@ closes_fine None act session is = is
 closes_fine (Some first) act session is = absurd (false_true is)
 
 told_shut : {D E C : Type 0} (d : Ghosts D) (old new : Core D E C) (k : ℕ) (act : Act) (x : Answer) (r : Reply) → HasCause d old new act x → x.reply ≡ Some r
-    → ((x.entry).kind ≡ 2 → ⊥) → is_closing old k act ≡ true → leaves_open r ≡ false
+    → ((x.entry).kind ≡ MEMORY_KIND → ⊥) → is_closing old k act ≡ true → leaves_open r ≡ false
 told_shut d old new k act x r (done before is reply told may) tells other ends =
     ap leaves_open (same_reply x.reply r reply tells told)
     ∙ ends_shut act (session_at old.parts k) reply (closes_fine old.fault act (session_at old.parts k) ends) may

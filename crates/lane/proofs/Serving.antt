@@ -3,6 +3,7 @@ use Rattle.std.proofs.Common.{◌≡◌, ℕ, ◌+◌, ◌-◌, Bool, true, fals
 use Rattle.std.proofs.lemmas.Bool.{eq-eqb}
 use Rattle.std.proofs.lemmas.List.{length-append}
 use Rattle.store_types.specs.declared.refusal.Refusal.TheVariants.{NoMemory}
+use Rattle.store_types.specs.declared.order.TheConstants.{MEMORY_KIND}
 use Rattle.port_traits.specs.Bytes.{TakesFrom, WritesCounted}
 use Rattle.wire_frames.specs.Frames.{Tail, short, cut, advanced}
 use Rattle.wire_commands.specs.declared.command.Command.{Command}
@@ -50,8 +51,8 @@ use Rattle.lane.proofs.Turning.{nothing_taken, at_next, gave_more, taken_on, lea
 -- what is next on a lane that was served so far
 at_command : (stands : History → Type 0) (start : Start) (k : ℕ) (left taken : Option (List ℕ)) (tail : Tail) (size given : ℕ) (c : Command)
     → (s : HasServed stands start k left taken tail size given) → IsCommandAhead tail c
-    → IsNext (command_next c (advanced tail).bytes) (position s.input tail.bytes s.is_short s.told)
-at_command stands start k left taken tail size given c s ahead = let p = position s.input tail.bytes s.is_short s.told in record {
+    → IsNext (command_next c (advanced tail).bytes) (position s.input tail.bytes s.is_out_of_memory s.told)
+at_command stands start k left taken tail size given c s ahead = let p = position s.input tail.bytes s.is_out_of_memory s.told in record {
   on = refl;
   idle = refl;
   next = at_next stands start k left taken tail size given s ∙ ahead.next;
@@ -60,20 +61,20 @@ at_command stands start k left taken tail size given c s ahead = let p = positio
 
 -- the position behind it
 behind : List ℕ → List ℕ → List Reply → Bool → Told → Position
-behind input left before is_short told = record (position input left is_short (before ++ told.reply ∷ [])) { is_spent = told.last }
+behind input left before is_out_of_memory told = record (position input left is_out_of_memory (before ++ told.reply ∷ [])) { is_spent = told.last }
 
 led_on : (before after : History → Type 0) (start : Start) (k : ℕ) (left taken : Option (List ℕ)) (tail : Tail) (size given : ℕ) (c : Command) (told : Told)
     → (s : HasServed before start k left taken tail size given) → IsCommandAhead tail c → (d : Does before after k (command_next c) told)
-    → Leads (begin s.input) (s.events ++ d.events) (behind s.input (advanced tail).bytes s.told d.is_short told)
+    → Leads (begin s.input) (s.events ++ d.events) (behind s.input (advanced tail).bytes s.told d.is_out_of_memory told)
 unfolding behind
 led_on before after start k left taken tail size given c told s ahead d =
-    leads_then s.events d.events (begin s.input) (position s.input tail.bytes s.is_short s.told) (behind s.input (advanced tail).bytes s.told d.is_short told) s.leads
-    (d.leads (position s.input tail.bytes s.is_short s.told) (advanced tail).bytes (at_command before start k left taken tail size given c s ahead))
+    leads_then s.events d.events (begin s.input) (position s.input tail.bytes s.is_out_of_memory s.told) (behind s.input (advanced tail).bytes s.told d.is_out_of_memory told) s.leads
+    (d.leads (position s.input tail.bytes s.is_out_of_memory s.told) (advanced tail).bytes (at_command before start k left taken tail size given c s ahead))
 
-on_spent : (input left : List ℕ) (before : List Reply) (is_short : Bool) (told : Told) → told.last ≡ false
-    → behind input left before is_short told ≡ position input left is_short (before ++ told.reply ∷ [])
+on_spent : (input left : List ℕ) (before : List Reply) (is_out_of_memory : Bool) (told : Told) → told.last ≡ false
+    → behind input left before is_out_of_memory told ≡ position input left is_out_of_memory (before ++ told.reply ∷ [])
 unfolding behind
-on_spent input left before is_short told on = ap (λ b. record (position input left is_short (before ++ told.reply ∷ [])) { is_spent = b }) on
+on_spent input left before is_out_of_memory told on = ap (λ b. record (position input left is_out_of_memory (before ++ told.reply ∷ [])) { is_spent = b }) on
 
 -- it was answered, and the lane goes on
 pub command_served : (before after : History → Type 0) (start : Start) (k : ℕ) (left taken taken' : Option (List ℕ)) (tail tail' : Tail) (size size' given given' : ℕ) (c : Command) (told : Told)
@@ -83,12 +84,12 @@ pub command_served : (before after : History → Type 0) (start : Start) (k : �
 command_served before after start k left taken taken' tail tail' size size' given given' c told s ahead d g past same = record {
   events = s.events ++ d.events;
   input = s.input;
-  is_short = d.is_short;
+  is_out_of_memory = d.is_out_of_memory;
   told = s.told ++ told.reply ∷ [];
   stands_for = d.history (with_events start.history s.events) s.stands_for;
   lanes = of_both k s.events d.events s.lanes d.lanes;
-  leads = subst (λ (t : Tail). Leads (begin s.input) (s.events ++ d.events) (position s.input t.bytes d.is_short (s.told ++ told.reply ∷ []))) (sym past)
-      (subst (λ p. Leads (begin s.input) (s.events ++ d.events) p) (on_spent s.input (advanced tail).bytes s.told d.is_short told g.ended)
+  leads = subst (λ (t : Tail). Leads (begin s.input) (s.events ++ d.events) (position s.input t.bytes d.is_out_of_memory (s.told ++ told.reply ∷ []))) (sym past)
+      (subst (λ p. Leads (begin s.input) (s.events ++ d.events) p) (on_spent s.input (advanced tail).bytes s.told d.is_out_of_memory told g.ended)
       (led_on before after start k left taken tail size given c told s ahead d));
   size_is = s.size_is ∙ sym same;
   held = ap (λ (t : Tail). t.offset + length t.bytes) past ∙ ahead.rest ∙ s.held ∙ sym same;
@@ -98,7 +99,7 @@ command_served before after start k left taken taken' tail tail' size size' give
 
 -- or it is the lane's last
 ends_so : (e : Ending) (p : Position) → p.job ≡ None → IsEndedBy p.is_spent (Some e) → EndsSo e p (next_at p)
-ends_so endings.NoMemory p off by = (second_true p.is_short p.is_spent by, ap job_stops off)
+ends_so endings.NoMemory p off by = (second_true p.is_out_of_memory p.is_spent by, ap job_stops off)
 ends_so endings.SinkFault p off by = tt
 ends_so endings.Clean p off by = absurd by
 ends_so (endings.Broken place) p off by = absurd by
@@ -140,7 +141,7 @@ pub command_stops : (before after : History → Type 0) (start : Start) (k : ℕ
     → HasStopped after start k left taken' size' given' e None
 unfolding behind
 command_stops before after start k left taken taken' tail size size' given given' c told e s ahead d g same =
-    let p = behind s.input (advanced tail).bytes s.told d.is_short told in
+    let p = behind s.input (advanced tail).bytes s.told d.is_out_of_memory told in
     let calm = quiet e p start.left left s.input (s.events ++ d.events) (ended_one e told.last g.ended) s.took in
     record {
       events = s.events ++ d.events;
@@ -169,7 +170,7 @@ record IsHeardShort (p q : Position) (r : Reply) : Type 0 where
   pub idle : q.pull ≡ None
   pub shut : q.collecting ≡ None
   pub told : q.told ≡ p.told ++ r ∷ []
-  pub is_short : q.is_short ≡ true
+  pub is_out_of_memory : q.is_out_of_memory ≡ true
 
 over_told : (p : Position) (left : List ℕ) (job : Job) (r : Reply) (s b : Bool) → p.collecting ≡ None → job ≡ over r → s ≡ true → IsHeardShort p (at_job p left job s b) r
 over_told p left job r s b shut is flag =
@@ -180,19 +181,19 @@ over_told p left job r s b shut is flag =
       idle = ap (λ (q : Position). q.pull) h;
       shut = ap (λ (q : Position). q.collecting) h ∙ shut;
       told = ap (λ (q : Position). q.told) h;
-      is_short = ap (λ (q : Position). q.is_short) h ∙ flag;
+      is_out_of_memory = ap (λ (q : Position). q.is_out_of_memory) h ∙ flag;
     }
 
 -- it was heard as a reply with this left of the input
 told_short : (p q : Position) (left : List ℕ) (r : Reply) (s b : Bool) → p.collecting ≡ None → s ≡ true
-    → q ≡ record p { left = left; job = None; pull = None; is_short = s; is_spent = b; told = p.told ++ r ∷ [] } → IsHeardShort p q r
+    → q ≡ record p { left = left; job = None; pull = None; is_out_of_memory = s; is_spent = b; told = p.told ++ r ∷ [] } → IsHeardShort p q r
 told_short p q left r s b shut flag h = record {
   on = ap (λ (x : Position). x.is_over) h;
   off = ap (λ (x : Position). x.job) h;
   idle = ap (λ (x : Position). x.pull) h;
   shut = ap (λ (x : Position). x.collecting) h ∙ shut;
   told = ap (λ (x : Position). x.told) h;
-  is_short = ap (λ (x : Position). x.is_short) h ∙ flag;
+  is_out_of_memory = ap (λ (x : Position). x.is_out_of_memory) h ∙ flag;
 }
 
 -- the job that a command begins ends by want of memory
@@ -219,29 +220,29 @@ not_open b h = cc
 other_kind : (n : ℕ) → n ≡ 2 → (n == 1) ≡ false
 other_kind n two = ap (λ m. m == 1) two
 
-heard_short : (p : Position) (a : Answer) (r : Reply) → p.pull ≡ None → p.collecting ≡ None → p.job ≡ None → Goes (next_at p) → a.reply ≡ Some r → r ≡ Refused NoMemory → (a.entry).kind ≡ 2
+heard_short : (p : Position) (a : Answer) (r : Reply) → p.pull ≡ None → p.collecting ≡ None → p.job ≡ None → Goes (next_at p) → a.reply ≡ Some r → r ≡ Refused NoMemory → (a.entry).kind ≡ MEMORY_KIND
     → IsHeardShort p (heard p a) r
 heard_short p a r idle shut off goes says want two =
     by_next (next_at p) refl goes (subst FirstNext (sym (next_is p (front p.left) shut off refl)) (front_first (p.size - length p.left) (front p.left)))
   where
-    flag : ((a.entry).kind == 2) ≡ true
+    flag : ((a.entry).kind == MEMORY_KIND) ≡ true
     flag = eq-eqb (a.entry).kind 2 two
 
     by_next : (n : Next) → next_at p ≡ n → Goes n → FirstNext n → IsHeardShort p (heard p a) r
-    by_next (plain c left) is g first = told_short p (heard p a) left r ((a.entry).kind == 2) (a.last || p.is_spent) shut flag (heard_plain p c left a r idle is says)
-    by_next (sync group left) is g first = told_short p (heard p a) left r ((a.entry).kind == 2) (a.last || p.is_spent) shut flag (heard_refused p group left a r idle is says (other_kind (a.entry).kind two))
-    by_next (collect left) is g first = told_short p (heard p a) left r ((a.entry).kind == 2) (a.last || p.is_spent) shut flag (heard_gc p left a r idle is says)
+    by_next (plain c left) is g first = told_short p (heard p a) left r ((a.entry).kind == MEMORY_KIND) (a.last || p.is_spent) shut flag (heard_plain p c left a r idle is says)
+    by_next (sync group left) is g first = told_short p (heard p a) left r ((a.entry).kind == MEMORY_KIND) (a.last || p.is_spent) shut flag (heard_refused p group left a r idle is says (other_kind (a.entry).kind two))
+    by_next (collect left) is g first = told_short p (heard p a) left r ((a.entry).kind == MEMORY_KIND) (a.last || p.is_spent) shut flag (heard_gc p left a r idle is says)
     by_next (job_step j left) is g first =
         subst (λ q. IsHeardShort p q r) (sym (heard_job p j left a r idle is says))
-        (over_told p left (take j r) r ((a.entry).kind == 2) (a.last || p.is_spent) shut (ap (take j) want ∙ first ∙ ap over (sym want)) flag)
+        (over_told p left (take j r) r ((a.entry).kind == MEMORY_KIND) (a.last || p.is_spent) shut (ap (take j) want ∙ first ∙ ap over (sym want)) flag)
     by_next (broken refusal) is g first = told_short p (heard p a) [] r true true shut refl (heard_broken p refusal a r idle is says two)
     by_next (collecting b) is g first = absurd (not_open b (sym (open_is p ∙ shut) ∙ ap open_at is))
     by_next bye is g first = absurd g
     by_next end is g first = absurd g
 
-short_so : (e : Ending) (o : Option Ending) (q : Position) (is_last : Bool) → e ≡ short_ending o → IsEndedBy is_last o → q.is_short ≡ true → q.job ≡ None → EndsSo e q (next_at q)
-short_so e None q is_last is by short_is off = subst (λ x. EndsSo x q (next_at q)) (sym is) (first_true q.is_short q.is_spent short_is, ap job_stops off)
-short_so e (Some endings.NoMemory) q is_last is by short_is off = subst (λ x. EndsSo x q (next_at q)) (sym is) (first_true q.is_short q.is_spent short_is, ap job_stops off)
+short_so : (e : Ending) (o : Option Ending) (q : Position) (is_last : Bool) → e ≡ short_ending o → IsEndedBy is_last o → q.is_out_of_memory ≡ true → q.job ≡ None → EndsSo e q (next_at q)
+short_so e None q is_last is by short_is off = subst (λ x. EndsSo x q (next_at q)) (sym is) (first_true q.is_out_of_memory q.is_spent short_is, ap job_stops off)
+short_so e (Some endings.NoMemory) q is_last is by short_is off = subst (λ x. EndsSo x q (next_at q)) (sym is) (first_true q.is_out_of_memory q.is_spent short_is, ap job_stops off)
 short_so e (Some endings.SinkFault) q is_last is by short_is off = subst (λ x. EndsSo x q (next_at q)) (sym is) tt
 short_so e (Some endings.Clean) q is_last is by short_is off = absurd by
 short_so e (Some (endings.Broken place)) q is_last is by short_is off = absurd by
@@ -263,7 +264,7 @@ short_stops before after start k left left' taken taken' tail size size' given g
     let g = answers.gives in
     let r = (answers.told).reply in
     let input = s.input ++ piece in
-    let p = position input (tail.bytes ++ piece) s.is_short s.told in
+    let p = position input (tail.bytes ++ piece) s.is_out_of_memory s.told in
     let v = d.event in
     let q = heard p v.answer in
     let all = taken_on start.left left left' s.input piece s.took took in
@@ -277,7 +278,7 @@ short_stops before after start k left left' taken taken' tail size size' given g
       stands_for = d.history (with_events start.history s.events) s.stands_for;
       lanes = of_more k s.events v s.lanes d.lane_is;
       runs = λ f vs told runs. subst (λ es. Runs f (begin input) es told) (sym (append_assoc s.events (v ∷ []) vs))
-          (leads_runs f s.events (v ∷ vs) (begin input) p told refl (leads_further s.input tail.bytes piece s.is_short s.told s.events s.leads)
+          (leads_runs f s.events (v ∷ vs) (begin input) p told refl (leads_further s.input tail.bytes piece s.is_out_of_memory s.told s.events s.leads)
           (short_runs f p v vs told refl refl refl refl refl wants d.asks runs));
       on = h.on;
       off = h.off;
@@ -288,7 +289,7 @@ short_stops before after start k left left' taken taken' tail size size' given g
       gave = subst (λ ts. WritesCounted start.taken taken' 0 given' (text ts) (gave_all e)) (sym h.told)
           (subst (λ b. WritesCounted start.taken taken' 0 given' (text (s.told ++ r ∷ [])) b) (sym one.1)
           (gave_more start.taken taken taken' given given' s.told r (went_on answers.stop) s.gave g.gave));
-      so = short_so e answers.stop q (answers.told).last answers.ending_is g.ended h.is_short h.off;
+      so = short_so e answers.stop q (answers.told).last answers.ending_is g.ended h.is_out_of_memory h.off;
       says = calm.says;
       read_out = calm.out;
     }

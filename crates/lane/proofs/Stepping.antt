@@ -1,6 +1,7 @@
 -- What a job's steps do, one after another, and where it ends.
 use Rattle.std.proofs.Common.{◌≡◌, ◌<◌, inl, inr, ℕ, Bool, true, false, not, ◌-◌, ◌||◌, ◌==◌, List, [], ◌∷◌, ◌++◌, length, Option, Some, None, Result, Ok, Err, OnOk, OnErr, IsSome, IfSome, IsNone, refl, sym, ap, subst, ◌∙◌, append-nil, append_assoc}
 use Rattle.store_types.specs.declared.refusal.Refusal.TheVariants.{NoMemory}
+use Rattle.store_types.specs.declared.order.TheConstants.{MEMORY_KIND}
 use Rattle.wire_commands.specs.Inputs.{front}
 use Rattle.wire_commands.specs.declared.command.Command.{Command}
 use Rattle.wire_commands.specs.declared.command.Command.TheVariants as commands
@@ -133,16 +134,16 @@ step_on p j left idle is goes on =
     by_collecting : (o : Option Bool)
         → elim o [
           | None ↦ elim p.job [ None ↦ front_next (p.size - length p.left) (front p.left) | Some i ↦ job_step i p.left ]
-          | Some is_short ↦ collecting is_short
+          | Some is_out_of_memory ↦ collecting is_out_of_memory
         ] ≡ job_step j left → job_stops p.job ≡ false
     by_collecting None is = by_job p.job is
-    by_collecting (Some is_short) is = absurd (collects_no_step is_short j left is)
+    by_collecting (Some is_out_of_memory) is = absurd (collects_no_step is_out_of_memory j left is)
 
 step_led : (p : Position) (j : Asking) (left : List ℕ) (v : Event) (r : Reply) (act : Act) → IsNext (job_step j left) p → IsActOf (asking j) act → v.act ≡ act → reply v ≡ Some r
-    → Leads p (v ∷ []) (at_job p left (take j r) (kind v == 2) ((v.answer).last || p.is_spent))
+    → Leads p (v ∷ []) (at_job p left (take j r) (kind v == MEMORY_KIND) ((v.answer).last || p.is_spent))
 step_led p j left v r act at of asks says = by_act of
   where
-    by_act : IsActOf (asking j) act → Leads p (v ∷ []) (at_job p left (take j r) (kind v == 2) ((v.answer).last || p.is_spent))
+    by_act : IsActOf (asking j) act → Leads p (v ∷ []) (at_job p left (take j r) (kind v == MEMORY_KIND) ((v.answer).last || p.is_spent))
     by_act (inl is) = leads_job [] p p j left v r refl at.idle at.on at.next (asks ∙ is) says
     by_act (inr is) = leads_job_short [] p p j left v r refl at.idle (step_on p j left at.idle at.next is.1 at.on) at.next (at.wants tt is.1) (asks ∙ is.0) says
 
@@ -156,7 +157,7 @@ stepped_once : (before after : History → Type 0) (k : ℕ) (j : Asking) (new :
     → new ≡ take j told.reply → now ≡ (told.last || was) → (now ≡ true → IsStopped new) → StepsOn before after k (asking j) new was now
 stepped_once before after k j new was now act told of d is also stops = record {
   events = d.event ∷ [];
-  is_short = kind d.event == 2;
+  is_out_of_memory = kind d.event == 2;
   history = d.history;
   lanes = (d.lane_is, tt);
   leads = λ p left i same at spent. led p left (subst (λ x. IsNext (job_step x left) p) (sym (same_asking j i same)) at) spent;
@@ -177,7 +178,7 @@ stepped_once before after k j new was now act told of d is also stops = record {
 
 -- want of memory behind a reply that was dropped
 dropped_led : (p : Position) (left : List ℕ) (v u : Event) (r : Reply) (job : Job) (s : Bool) → p.pull ≡ None → p.collecting ≡ None → GoesOn job → Leads p (v ∷ []) (at_job p left job s false)
-    → u.act ≡ acts.Short → reply u ≡ Some r → Leads p (v ∷ u ∷ []) (at_job p left (take_more job r) (kind u == 2) ((u.answer).last || false))
+    → u.act ≡ acts.Short → reply u ≡ Some r → Leads p (v ∷ u ∷ []) (at_job p left (take_more job r) (kind u == MEMORY_KIND) ((u.answer).last || false))
 dropped_led p left v u r (over x) s idle shut goes led asks says = absurd goes
 dropped_led p left v u r (asking i) s idle shut goes led asks says = leads_step_short (v ∷ []) p p i left s u r led idle shut (goes_stays i goes) asks says
 
@@ -187,7 +188,7 @@ stepped_twice : (before between after : History → Type 0) (k : ℕ) (j : Askin
     → (now ≡ true → IsStopped new) → StepsOn before after k (asking j) new false now
 stepped_twice before between after k j new now act told want of d none goes e is also stops = record {
   events = d.event ∷ e.event ∷ [];
-  is_short = kind e.event == 2;
+  is_out_of_memory = kind e.event == 2;
   history = λ h at. subst (λ es. after (with_events h es)) (append_assoc h.events (d.event ∷ []) (e.event ∷ [])) (e.history (then_event h d.event) (d.history h at));
   lanes = (d.lane_is, (e.lane_is, tt));
   leads = λ p left i same at spent. led p left (subst (λ x. IsNext (job_step x left) p) (sym (same_asking j i same)) at) spent;
@@ -293,13 +294,13 @@ pub stepped_on : (before between after : History → Type 0) (k : ℕ) (begun : 
 stepped_on before between after k begun (over r) new was now act of s x = absurd of
 stepped_on before between after k begun (asking j) new was now act of s x = record {
   events = s.events ++ x.events;
-  is_short = x.is_short;
+  is_out_of_memory = x.is_out_of_memory;
   history = λ h at. subst (λ es. after (with_events h es)) (append_assoc h.events s.events x.events) (x.history (with_events h (h.events ++ s.events)) (s.history h at));
   lanes = of_both k s.events x.events s.lanes x.lanes;
   leads = λ p left is.
       let q = s.leads p left is in
       let r = x.leads q.0 left j refl q.1.1.0 q.1.1.2 in
-      (r.0, (leads_then s.events x.events p q.0 r.0 q.1.0 r.1.0, at_from p q.0 r.0 left new x.is_short now q.1.1.1 r.1.1));
+      (r.0, (leads_then s.events x.events p q.0 r.0 q.1.0 r.1.0, at_from p q.0 r.0 left new x.is_out_of_memory now q.1.1.1 r.1.1));
 }
 
 -- ---- its beginning and its end
@@ -307,7 +308,7 @@ stepped_on before between after k begun (asking j) new was now act of s x = reco
 begins : (before : History → Type 0) (k : ℕ) (begun : Asking) → is_stopping begun ≡ false → HasStepped before before k begun (asking begun) false
 begins before k begun goes = record {
   events = [];
-  is_short = false;
+  is_out_of_memory = false;
   history = λ h at. subst (λ es. before (with_events h es)) (sym (append-nil h.events)) at;
   lanes = tt;
   leads = λ p left is. (p, (refl, (is, record { size = refl; pull = refl; collecting = refl; told = refl; is_over = refl }, step_on p begun left is.idle is.next goes is.on)));
@@ -319,11 +320,11 @@ ends : (before after : History → Type 0) (k : ℕ) (begun : Asking) (job : Job
 ends before after k begun (asking j) told s none tells = cc
 ends before after k begun (over r) told s none tells = record {
   events = s.events;
-  is_short = s.is_short;
+  is_out_of_memory = s.is_out_of_memory;
   history = s.history;
   lanes = s.lanes;
   leads = λ p left is. let q = s.leads p left is in
-      subst (λ x. Leads p s.events (answered p left x s.is_short told.last)) (sym tells) (subst (λ x. Leads p s.events x) q.1.1 q.1.0);
+      subst (λ x. Leads p s.events (answered p left x s.is_out_of_memory told.last)) (sym tells) (subst (λ x. Leads p s.events x) q.1.1 q.1.0);
 }
 
 -- memory was wanting for its beginning

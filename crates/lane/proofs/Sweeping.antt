@@ -3,6 +3,7 @@ use Rattle.disk_trait.specs.declared.disk.Disk.{Ghosts}
 use Rattle.std.specs.Prelude.{slice_index_or, IsSomeAnd, IfNone}
 use Rattle.std.proofs.Common.{◌≡◌, ◌≤◌, ◌<◌, ◌+◌, ◌⊎◌, inl, inr, ℕ, Bool, true, false, ◌&&◌, ◌||◌, ◌==◌, List, Option, Some, None, Ok, IsSome, is_some, refl, sym, ap, subst, ◌∙◌, arith}
 use Rattle.std.proofs.lemmas.Bool.{eq-eqb, eqb-true, eqb-false}
+use Rattle.store_types.specs.declared.order.TheConstants.{PART_KIND, MEMORY_KIND, START_KIND}
 use Rattle.gc_plan.specs.Plan.{left_of}
 use Rattle.wire_commands.specs.declared.reply.Reply.{Reply}
 use Rattle.store_history.specs.declared.act.Act.TheVariants as acts
@@ -54,7 +55,7 @@ on_new None parts k moment h = absurd h
 on_new (Some c) parts k moment h = eq-eqb c.lane k h.lane_is
 
 pub opens_sweep : {D E C : Type 0} (old new : Core D E C) (k : ℕ) (answer : Answer) → StartTells old new k answer → KeepsReserve old new k (is_closing old k acts.Start) answer
-    → (new.parts).sessions.items ≡ (old.parts).sessions.items → (answer.entry).kind ≡ 3 → IsSweeping new k false
+    → (new.parts).sessions.items ≡ (old.parts).sessions.items → (answer.entry).kind ≡ START_KIND → IsSweeping new k false
 opens_sweep old new k answer tells keeps same three = record {
   is_open = on_new new.collector old.parts k (answer.entry).moment (tells.opens three).1;
   idle = session_same old new k same (idle_by old.collector (session_at old.parts k) (old.parts).catalogue.items (tells.opens three).0);
@@ -70,7 +71,7 @@ cut_none (Some c) k is = ap (λ b. steps_if b (left_of c.plan)) (and_later (c.la
 
 -- the next act of one that was ended early is its end
 uncut : {D E C : Type 0} (d : Ghosts D) (old new : Core D E C) (k : ℕ) (answer : Answer) → StepLeaves d old new k answer → is_on k old.collector ≡ true
-    → ((answer.entry).kind ≡ 1) ⊎ ((answer.entry).kind ≡ 2) → is_cut k old.collector ≡ false
+    → ((answer.entry).kind ≡ PART_KIND) ⊎ ((answer.entry).kind ≡ MEMORY_KIND) → is_cut k old.collector ≡ false
 uncut d old new k answer leaves on goes = by_test (is_cut k old.collector) refl
   where
     by_test : (b : Bool) → is_cut k old.collector ≡ b → is_cut k old.collector ≡ false
@@ -80,30 +81,30 @@ uncut d old new k answer leaves on goes = by_test (is_cut k old.collector) refl
         let none = cut_none old.collector k is in
         absurd (omega (arith, less, none))
 
-still_open : (kind : ℕ) (before : Bool) → (kind ≡ 1) ⊎ (kind ≡ 2) → before ≡ true → stays_open kind before ≡ true
+still_open : (kind : ℕ) (before : Bool) → (kind ≡ PART_KIND) ⊎ (kind ≡ MEMORY_KIND) → before ≡ true → stays_open kind before ≡ true
 still_open kind before (inl one) on = ap (λ n. stays_open n before) one ∙ on
 still_open kind before (inr two) on = ap (λ n. stays_open n before) two ∙ on
 
 still_held : {D E C : Type 0} (old new : Core D E C) (k : ℕ) (answer : Answer) → StepKeeps old new k answer → is_cut k old.collector ≡ false → 3 ≤ held_by old.journal k
-    → ((answer.entry).kind ≡ 1) ⊎ ((answer.entry).kind ≡ 2) → held_open answer.last ≤ held_by new.journal k
+    → ((answer.entry).kind ≡ PART_KIND) ⊎ ((answer.entry).kind ≡ MEMORY_KIND) → held_open answer.last ≤ held_by new.journal k
 still_held old new k answer keeps whole held goes = by_last answer.last refl goes
   where
-    by_count : (b : Bool) → ((held_by new.journal k + 1) == held_by old.journal k) ≡ b → answer.last ≡ false → (answer.entry).kind ≡ 2 → 3 ≤ held_by new.journal k
+    by_count : (b : Bool) → ((held_by new.journal k + 1) == held_by old.journal k) ≡ b → answer.last ≡ false → (answer.entry).kind ≡ MEMORY_KIND → 3 ≤ held_by new.journal k
     by_count true is none two = absurd (true_false (sym ((keeps.spent).1 (two, eqb-true (held_by new.journal k + 1) (held_by old.journal k) is)) ∙ none))
     by_count false is none two =
         let ne : (held_by new.journal k + 1) ≡ held_by old.journal k → ⊥ = eqb-false (held_by new.journal k + 1) (held_by old.journal k) is in
         let one = keeps.one in
         omega (arith, one, held)
 
-    by_last : (b : Bool) → answer.last ≡ b → ((answer.entry).kind ≡ 1) ⊎ ((answer.entry).kind ≡ 2) → held_open b ≤ held_by new.journal k
+    by_last : (b : Bool) → answer.last ≡ b → ((answer.entry).kind ≡ PART_KIND) ⊎ ((answer.entry).kind ≡ MEMORY_KIND) → held_open b ≤ held_by new.journal k
     by_last true last g = let one = ((keeps.spent).0 last).1 in omega (arith, one, held)
     by_last false none (inl is) = keeps.filled whole (λ two. omega (arith, is, two))
     by_last false none (inr two) = by_count ((held_by new.journal k + 1) == held_by old.journal k) refl none two
 
 pub stays_sweeping : {D E C : Type 0} (d : Ghosts D) (old new : Core D E C) (k : ℕ) (is_last now_last : Bool) (answer : Answer) → IsSweeping old k is_last
     → StepKeeps old new k answer → StepLeaves d old new k answer → (new.parts).sessions.items ≡ (old.parts).sessions.items
-    → ((answer.entry).kind ≡ 2 → is_cut k new.collector ≡ true) → (answer.last ≡ true → (answer.entry).kind ≡ 2)
-    → ((answer.entry).kind ≡ 1) ⊎ ((answer.entry).kind ≡ 2) → now_last ≡ (answer.last || is_last) → IsSweeping new k now_last
+    → ((answer.entry).kind ≡ MEMORY_KIND → is_cut k new.collector ≡ true) → (answer.last ≡ true → (answer.entry).kind ≡ MEMORY_KIND)
+    → ((answer.entry).kind ≡ PART_KIND) ⊎ ((answer.entry).kind ≡ MEMORY_KIND) → now_last ≡ (answer.last || is_last) → IsSweeping new k now_last
 stays_sweeping d old new k true now_last answer s keeps leaves same cut want goes is =
     absurd (true_false (sym (s.cut refl) ∙ uncut d old new k answer leaves s.is_open goes))
 stays_sweeping d old new k false now_last answer s keeps leaves same cut want goes is =
@@ -152,7 +153,7 @@ some_reply (Some r) some = (r, refl)
 
 pub pass_leaves : {D E C : Type 0} (d : Ghosts D) (old new : Core D E C) (k : ℕ) (is_last now_last : Bool) (answer : Answer) → IsSweeping old k is_last
     → StepKeeps old new k answer → StepLeaves d old new k answer → (new.parts).sessions.items ≡ (old.parts).sessions.items
-    → ((answer.entry).kind ≡ 2 → is_cut k new.collector ≡ true) → (answer.last ≡ true → (answer.entry).kind ≡ 2)
+    → ((answer.entry).kind ≡ MEMORY_KIND → is_cut k new.collector ≡ true) → (answer.last ≡ true → (answer.entry).kind ≡ MEMORY_KIND)
     → IsToldBut 1 answer → now_last ≡ (answer.last || is_last) → LeavesSweep new k now_last answer.reply
 pass_leaves d old new k is_last now_last answer s keeps leaves same cut want told is = by_told told
   where
@@ -175,11 +176,11 @@ pub new_want : (a b : Bool) → b ≡ false → (a || b) ≡ true → a ≡ true
 new_want true b none is = refl
 new_want false b none is = absurd (true_false (sym is ∙ none))
 
-pub start_kind : (answer : Answer) → IsToldBut 3 answer → answer.reply ≡ None → (answer.entry).kind ≡ 3
+pub start_kind : (answer : Answer) → IsToldBut 3 answer → answer.reply ≡ None → (answer.entry).kind ≡ START_KIND
 start_kind answer (inl opened) none = opened.0
 start_kind answer (inr told) none = absurd (none_some answer.reply none told.1)
 
-pub start_last : (answer : Answer) → (answer.last ≡ true → (answer.entry).kind ≡ 2) → (answer.entry).kind ≡ 3 → answer.last ≡ false
+pub start_last : (answer : Answer) → (answer.last ≡ true → (answer.entry).kind ≡ MEMORY_KIND) → (answer.entry).kind ≡ START_KIND → answer.last ≡ false
 start_last answer want three = by_last answer.last refl
   where
     by_last : (b : Bool) → answer.last ≡ b → answer.last ≡ false
@@ -196,6 +197,6 @@ pub sweep_room : {D E C : Type 0} (core : Core D E C) (k : ℕ) (is_last : Bool)
 sweep_room core k true s = let held = s.held in inr (omega (arith, held))
 sweep_room core k false s = let held = s.held in inr (omega (arith, held))
 
-pub start_want : (told : Told) (kind : ℕ) → (told.last ≡ true → kind ≡ 2) → IsWant acts.Start told → kind ≡ 2
+pub start_want : (told : Told) (kind : ℕ) → (told.last ≡ true → kind ≡ MEMORY_KIND) → IsWant acts.Start told → kind ≡ MEMORY_KIND
 start_want told kind want (inl is) = cc
 start_want told kind want (inr is) = want is

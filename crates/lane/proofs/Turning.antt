@@ -71,7 +71,7 @@ pub starts : (stands : History → Type 0) (h : History) (k : ℕ) (left taken :
 starts stands h k left taken tail size s none tail_is size_is = record {
   events = [];
   input = [];
-  is_short = false;
+  is_out_of_memory = false;
   told = [];
   stands_for = subst (λ es. stands (with_events h es)) none s;
   lanes = tt;
@@ -87,17 +87,17 @@ starts stands h k left taken tail size s none tail_is size_is = record {
 grown_begin : (input piece : List ℕ) → grown piece (begin input) ≡ begin (input ++ piece)
 grown_begin input piece = ap (λ n. record (begin (input ++ piece)) { size = n }) (sym (length-append input piece))
 
-grown_position : (input left piece : List ℕ) (is_short : Bool) (told : List Reply)
-    → grown piece (position input left is_short told) ≡ position (input ++ piece) (left ++ piece) is_short told
-grown_position input left piece is_short told =
-    ap (λ n. record (position (input ++ piece) (left ++ piece) is_short told) { size = n }) (sym (length-append input piece))
+grown_position : (input left piece : List ℕ) (is_out_of_memory : Bool) (told : List Reply)
+    → grown piece (position input left is_out_of_memory told) ≡ position (input ++ piece) (left ++ piece) is_out_of_memory told
+grown_position input left piece is_out_of_memory told =
+    ap (λ n. record (position (input ++ piece) (left ++ piece) is_out_of_memory told) { size = n }) (sym (length-append input piece))
 
-pub leads_further : (input left piece : List ℕ) (is_short : Bool) (told : List Reply) (vs : List Event) → Leads (begin input) vs (position input left is_short told)
-    → Leads (begin (input ++ piece)) vs (position (input ++ piece) (left ++ piece) is_short told)
-leads_further input left piece is_short told vs led =
-    subst (λ p. Leads p vs (position (input ++ piece) (left ++ piece) is_short told)) (grown_begin input piece)
-    (subst (λ q. Leads (grown piece (begin input)) vs q) (grown_position input left piece is_short told)
-    (leads_grown piece vs (begin input) (position input left is_short told) led))
+pub leads_further : (input left piece : List ℕ) (is_out_of_memory : Bool) (told : List Reply) (vs : List Event) → Leads (begin input) vs (position input left is_out_of_memory told)
+    → Leads (begin (input ++ piece)) vs (position (input ++ piece) (left ++ piece) is_out_of_memory told)
+leads_further input left piece is_out_of_memory told vs led =
+    subst (λ p. Leads p vs (position (input ++ piece) (left ++ piece) is_out_of_memory told)) (grown_begin input piece)
+    (subst (λ q. Leads (grown piece (begin input)) vs q) (grown_position input left piece is_out_of_memory told)
+    (leads_grown piece vs (begin input) (position input left is_out_of_memory told) led))
 
 pub took_more : (stands : History → Type 0) (start : Start) (k : ℕ) (left left' taken : Option (List ℕ)) (old new : Input) (given : ℕ)
     → HasServed stands start k left taken old.cutter old.taken given → TakesMore left left' old new → HasServed stands start k left' taken new.cutter new.taken given
@@ -107,12 +107,12 @@ took_more stands start k left left' taken old new given s m =
     record {
       events = s.events;
       input = s.input ++ m.piece;
-      is_short = s.is_short;
+      is_out_of_memory = s.is_out_of_memory;
       told = s.told;
       stands_for = s.stands_for;
       lanes = s.lanes;
-      leads = subst (λ xs. Leads (begin (s.input ++ m.piece)) s.events (position (s.input ++ m.piece) xs s.is_short s.told)) (sym bytes)
-          (leads_further s.input (old.cutter).bytes m.piece s.is_short s.told s.events s.leads);
+      leads = subst (λ xs. Leads (begin (s.input ++ m.piece)) s.events (position (s.input ++ m.piece) xs s.is_out_of_memory s.told)) (sym bytes)
+          (leads_further s.input (old.cutter).bytes m.piece s.is_out_of_memory s.told s.events s.leads);
       size_is = omega (arith, length-append s.input m.piece, s.size_is, (m.feeds).taken);
       held = omega (arith, ap length bytes, length-append (old.cutter).bytes m.piece, offset, s.held, (m.feeds).taken);
       took = taken_on start.left left left' s.input m.piece s.took m.took;
@@ -123,7 +123,7 @@ took_more stands start k left left' taken old new given s m =
 
 here : (stands : History → Type 0) (start : Start) (k : ℕ) (left taken : Option (List ℕ)) (tail : Tail) (size given : ℕ)
     → HasServed stands start k left taken tail size given → Position
-here stands start k left taken tail size given s = position s.input tail.bytes s.is_short s.told
+here stands start k left taken tail size given s = position s.input tail.bytes s.is_out_of_memory s.told
 
 next_here : (tail : Tail) (p : Position) → p.collecting ≡ None → p.job ≡ None → p.left ≡ tail.bytes → p.size ≡ tail.offset + length tail.bytes → next_at p ≡ next_in tail
 next_here tail p shut off left size =
@@ -169,17 +169,17 @@ no_words e p h = ap (λ (q : Position). q.told) (silent e p (next_at p) h) ∙ s
 -- where it stops, as it is
 stopped : (stands : History → Type 0) (start : Start) (k : ℕ) (left left' taken : Option (List ℕ)) (tail : Tail) (size given : ℕ) (e : Ending) (words : Option Reply)
     → (s : HasServed stands start k left taken tail size given) → gave_all e ≡ true → Took e start.left left' s.input
-    → EndsSo e (position s.input tail.bytes s.is_short s.told) (next_at (position s.input tail.bytes s.is_short s.told))
-    → HasWords e (position s.input tail.bytes s.is_short s.told) words
+    → EndsSo e (position s.input tail.bytes s.is_out_of_memory s.told) (next_at (position s.input tail.bytes s.is_out_of_memory s.told))
+    → HasWords e (position s.input tail.bytes s.is_out_of_memory s.told) words
     → ReadsOut e s.input s.events [] left'
     → HasStopped stands start k left' taken size given e words
 stopped stands start k left left' taken tail size given e words s all took so says out = record {
   events = s.events;
   input = s.input;
-  last = position s.input tail.bytes s.is_short s.told;
+  last = position s.input tail.bytes s.is_out_of_memory s.told;
   stands_for = s.stands_for;
   lanes = s.lanes;
-  runs = λ f vs told. leads_runs f s.events vs (begin s.input) (position s.input tail.bytes s.is_short s.told) told refl s.leads;
+  runs = λ f vs told. leads_runs f s.events vs (begin s.input) (position s.input tail.bytes s.is_out_of_memory s.told) told refl s.leads;
   on = refl;
   off = refl;
   idle = refl;
@@ -193,9 +193,9 @@ stopped stands start k left left' taken tail size given e words s all took so sa
 }
 
 pub at_next : (stands : History → Type 0) (start : Start) (k : ℕ) (left taken : Option (List ℕ)) (tail : Tail) (size given : ℕ)
-    → (s : HasServed stands start k left taken tail size given) → next_at (position s.input tail.bytes s.is_short s.told) ≡ next_in tail
+    → (s : HasServed stands start k left taken tail size given) → next_at (position s.input tail.bytes s.is_out_of_memory s.told) ≡ next_in tail
 at_next stands start k left taken tail size given s =
-    next_here tail (position s.input tail.bytes s.is_short s.told) refl refl refl (s.size_is ∙ sym s.held)
+    next_here tail (position s.input tail.bytes s.is_out_of_memory s.told) refl refl refl (s.size_is ∙ sym s.held)
 
 bye_words : (p : Position) (n : Next) → n ≡ bye → (last_words endings.Clean p n).told ≡ p.told ++ Done ∷ []
 unfolding last_words
@@ -213,7 +213,7 @@ end_words p n is = ap (λ x. (last_words endings.Clean p x).told) is ∙ sym (ap
 pub bye_stops : (stands : History → Type 0) (start : Start) (k : ℕ) (left taken : Option (List ℕ)) (tail : Tail) (size given : ℕ)
     → HasServed stands start k left taken tail size given → IsLastAhead tail bye → HasStopped stands start k left taken size given endings.Clean (Some Done)
 bye_stops stands start k left taken tail size given s ahead =
-    let p = position s.input tail.bytes s.is_short s.told in
+    let p = position s.input tail.bytes s.is_out_of_memory s.told in
     let next = at_next stands start k left taken tail size given s ∙ ahead.next in
     stopped stands start k left left taken tail size given endings.Clean (Some Done) s refl s.took
     (subst (λ n. EndsSo endings.Clean p n) (sym next) refl)
@@ -226,7 +226,7 @@ broken_at : (stands : History → Type 0) (start : Start) (k : ℕ) (left left' 
     → (cut tail.bytes ≡ short → IfSome left' (λ xs. xs ≡ []))
     → HasStopped stands start k left' taken size given (endings.Broken place) (Some (Refused r))
 broken_at stands start k left left' taken tail size given place r s ahead at nothing seen =
-    let p = position s.input tail.bytes s.is_short s.told in
+    let p = position s.input tail.bytes s.is_out_of_memory s.told in
     let next = at_next stands start k left taken tail size given s ∙ ahead in
     let offset : place ≡ length s.input - length tail.bytes = omega (arith, at, s.size_is, s.held) in
     stopped stands start k left left' taken tail size given (endings.Broken place) (Some (Refused r)) s refl
@@ -250,7 +250,7 @@ pub end_stops : (stands : History → Type 0) (start : Start) (k : ℕ) (left le
     → HasServed stands start k left taken tail size given → tail.bytes ≡ [] → TakesFrom left left' [] → IfSome left (λ xs. xs ≡ [])
     → HasStopped stands start k left' taken size given endings.Clean None
 end_stops stands start k left left' taken tail size given s all took none =
-    let p = position s.input tail.bytes s.is_short s.told in
+    let p = position s.input tail.bytes s.is_out_of_memory s.told in
     let next = next_end p refl refl all in
     stopped stands start k left left' taken tail size given endings.Clean None s refl
     (subst (λ xs. TakesFrom start.left left' xs) (append-nil s.input) (taken_on start.left left left' s.input [] s.took took))
@@ -275,14 +275,14 @@ cut_stops stands start k left left' taken tail size given place s some part at t
 pub fault_stops : (stands : History → Type 0) (start : Start) (k : ℕ) (left left' taken : Option (List ℕ)) (tail : Tail) (size given : ℕ)
     → HasServed stands start k left taken tail size given → cut tail.bytes ≡ short → HasStopped stands start k left' taken size given endings.SourceFault None
 fault_stops stands start k left left' taken tail size given s part =
-    let p = position s.input tail.bytes s.is_short s.told in
+    let p = position s.input tail.bytes s.is_out_of_memory s.told in
     stopped stands start k left left' taken tail size given endings.SourceFault None s refl (begins start.left left s.input s.took) (refl, refl, part) (no_words endings.SourceFault p refl) tt
 
 -- the lane took as much as it may
 pub long_stops : (stands : History → Type 0) (start : Start) (k : ℕ) (left taken : Option (List ℕ)) (tail : Tail) (size given : ℕ)
     → HasServed stands start k left taken tail size given → cut tail.bytes ≡ short → HasStopped stands start k left taken size given endings.SourceTooLong None
 long_stops stands start k left taken tail size given s part =
-    let p = position s.input tail.bytes s.is_short s.told in
+    let p = position s.input tail.bytes s.is_out_of_memory s.told in
     stopped stands start k left left taken tail size given endings.SourceTooLong None s refl s.took (refl, refl, part) (no_words endings.SourceTooLong p refl) tt
 
 -- ---- the same by what a read gave

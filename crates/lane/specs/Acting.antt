@@ -6,6 +6,7 @@ use Rattle.port_traits.specs.declared.sink.Sink as sinks
 use Rattle.port_traits.specs.Bytes.{WritesCounted}
 use Rattle.wire_frames.specs.Frames.{frame}
 use Rattle.store_types.specs.declared.refusal.Refusal.TheVariants.{NoMemory, DiskFault, Halted}
+use Rattle.store_types.specs.declared.order.TheConstants.{PART_KIND, MEMORY_KIND}
 use Rattle.wire_commands.specs.declared.reply.Reply.{Reply}
 use Rattle.wire_commands.specs.declared.command.Command.TheVariants.{OpenReader}
 use Rattle.wire_commands.specs.declared.reply.Reply.TheVariants.{Done, Refused}
@@ -51,9 +52,9 @@ pub record Did (before after : History → Type 0) (k : ℕ) (act : Act) (told :
   pub lane_is : lane event ≡ k
   pub tells : reply event ≡ Some told.reply
   pub last : (event.answer).last ≡ told.last
-  pub kind_is : IsWant act told → kind event ≡ 2
-  pub gave : kind event ≡ 1 → IsTrue (may_give act told.reply)
-  pub other : (kind event ≡ 1 → ⊥) → IsTrue (may_answer act told.reply) ⊎ IsRefused told.reply
+  pub kind_is : IsWant act told → kind event ≡ MEMORY_KIND
+  pub gave : kind event ≡ PART_KIND → IsTrue (may_give act told.reply)
+  pub other : (kind event ≡ PART_KIND → ⊥) → IsTrue (may_answer act told.reply) ⊎ IsRefused told.reply
   pub history : (h : History) → before h → after (then_event h event)
 
 -- what an act may tell on any disk and any remote: what its command's tests may answer, what a read of the remote gives, or another refusal

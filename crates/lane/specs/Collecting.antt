@@ -1,5 +1,6 @@
 -- The acts of a lane's collector, one after another.
 use Rattle.std.specs.Prelude.{ℕ, ◌≡◌, ◌≤◌, ◌<◌, ◌⊎◌, ◌==◌, ◌||◌, Bool, true, false, List, ◌++◌, Option, Some, None, IsSome}
+use Rattle.store_types.specs.declared.order.TheConstants.{MEMORY_KIND}
 use Rattle.disk_trait.specs.declared.disk.Disk.{Ghosts}
 use Rattle.port_traits.specs.declared.clock.Clock as clocks
 use Rattle.wire_commands.specs.declared.reply.Reply.{Reply}
@@ -54,8 +55,8 @@ IsSet before now = (before ≡ false) × (now ≡ true)
 
 -- the reply of its end; want of memory before it is told by the end
 abbrev pub TellsEnd : Event → Option Reply → Type 0
-TellsEnd v None = ((kind v ≡ 2 → ⊥) × (reply v ≡ None)) ⊎ ((kind v ≡ 2) × IsSome (reply v))
-TellsEnd v (Some r) = ((kind v == 2) ≡ false) × (reply v ≡ Some r)
+TellsEnd v None = ((kind v ≡ MEMORY_KIND → ⊥) × (reply v ≡ None)) ⊎ ((kind v ≡ MEMORY_KIND) × IsSome (reply v))
+TellsEnd v (Some r) = ((kind v == MEMORY_KIND) ≡ false) × (reply v ≡ Some r)
 
 -- One act of the lane's collector was entered.
 pub record HasPassed (before after : History → Type 0) (k : ℕ) (is_last now_last : Bool) (outcome : Option Reply) : Type 0 where
@@ -69,25 +70,25 @@ pub record HasPassed (before after : History → Type 0) (k : ℕ) (is_last now_
 -- ---- its acts so far
 
 abbrev pub sweeping_at : Position → List ℕ → Bool → Bool → Bool → Position
-sweeping_at p left is_cut is_short is_spent =
-    record p { left = left; collecting = Some is_cut; is_short = is_short; is_spent = is_spent }
+sweeping_at p left is_cut is_out_of_memory is_spent =
+    record p { left = left; collecting = Some is_cut; is_out_of_memory = is_out_of_memory; is_spent = is_spent }
 
 -- Acts of the lane's open collector were entered, and it is still open. From where it opened they lead to there.
 pub record HasSwept (before now : History → Type 0) (k : ℕ) (is_last : Bool) : Type 0 where
   pub events : List Event
   pub is_cut : Bool
-  pub is_short : Bool
+  pub is_out_of_memory : Bool
   pub history : (h : History) → before h → now (with_events h (h.events ++ events))
   pub lanes : AreOf k events
-  pub leads : (p : Position) (left : List ℕ) → p.pull ≡ None → Leads (sweeping_at p left false false false) events (sweeping_at p left is_cut is_short is_last)
+  pub leads : (p : Position) (left : List ℕ) → p.pull ≡ None → Leads (sweeping_at p left false false false) events (sweeping_at p left is_cut is_out_of_memory is_last)
 
 -- Acts of the lane's open collector were entered, and its end was told. From where it opened they lead to behind its GC.
 pub record Sweeps (before after : History → Type 0) (k : ℕ) (told : Told) : Type 0 where
   pub events : List Event
-  pub is_short : Bool
+  pub is_out_of_memory : Bool
   pub history : (h : History) → before h → after (with_events h (h.events ++ events))
   pub lanes : AreOf k events
-  pub leads : (p : Position) (left : List ℕ) → p.collecting ≡ None → p.pull ≡ None → Leads (sweeping_at p left false false false) events (answered p left told.reply is_short told.last)
+  pub leads : (p : Position) (left : List ℕ) → p.collecting ≡ None → p.pull ≡ None → Leads (sweeping_at p left false false false) events (answered p left told.reply is_out_of_memory told.last)
 
 -- ---- of cores, from each first one and its history
 

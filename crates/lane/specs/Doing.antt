@@ -36,17 +36,17 @@ pub record IsNext (n : Next) (p : Position) : Type 0 where
 
 -- behind a command, or a whole job, that was told this
 abbrev pub answered : Position → List ℕ → Reply → Bool → Bool → Position
-answered p left r is_short is_spent =
-    record p { left = left; job = None; pull = None; is_short = is_short; is_spent = is_spent; told = p.told ++ r ∷ [] }
+answered p left r is_out_of_memory is_spent =
+    record p { left = left; job = None; pull = None; is_out_of_memory = is_out_of_memory; is_spent = is_spent; told = p.told ++ r ∷ [] }
 
 -- Acts of the lane were entered, all of a command or of the job of one. Wherever it is next on the lane, with this left behind it,
 -- they lead to where it was told.
 pub record Does (before after : History → Type 0) (k : ℕ) (n : List ℕ → Next) (told : Told) : Type 0 where
   pub events : List Event
-  pub is_short : Bool
+  pub is_out_of_memory : Bool
   pub history : (h : History) → before h → after (with_events h (h.events ++ events))
   pub lanes : AreOf k events
-  pub leads : (p : Position) (left : List ℕ) → IsNext (n left) p → Leads p events (answered p left told.reply is_short told.last)
+  pub leads : (p : Position) (left : List ℕ) → IsNext (n left) p → Leads p events (answered p left told.reply is_out_of_memory told.last)
 
 -- so a command did between two cores, from each first one and its history
 abbrev pub CoreDoes : {D E C : Type 0} → Ghosts D → Ghosts E → clocks.Ghosts C → Core D E C → Core D E C → ℕ → Command → Told → Type 0

@@ -20,18 +20,18 @@ pub record Start : Type 0 where
   pub taken : Option (List ℕ)
 
 abbrev pub position : List ℕ → List ℕ → Bool → List Reply → Position
-position input left is_short told =
-    record { size = length input; left = left; job = None; pull = None; collecting = None; is_short = is_short; is_spent = false; told = told; is_over = false }
+position input left is_out_of_memory told =
+    record { size = length input; left = left; job = None; pull = None; collecting = None; is_out_of_memory = is_out_of_memory; is_spent = false; told = told; is_over = false }
 
 -- These events led the lane to where it is. It goes on.
 pub record HasServed (stands : History → Type 0) (start : Start) (k : ℕ) (left taken : Option (List ℕ)) (tail : Tail) (size given : ℕ) : Type 0 where
   pub events : List Event
   pub input : List ℕ
-  pub is_short : Bool
+  pub is_out_of_memory : Bool
   pub told : List Reply
   pub stands_for : stands (with_events start.history events)
   pub lanes : AreOf k events
-  pub leads : Leads (begin input) events (position input tail.bytes is_short told)
+  pub leads : Leads (begin input) events (position input tail.bytes is_out_of_memory told)
   pub size_is : length input ≡ size
   pub held : tail.offset + length tail.bytes ≡ size
   pub took : TakesFrom start.left left input

@@ -40,27 +40,27 @@ left_at p left x = left
 
 -- Where it has come to on its lane, from where its command was next: this is what it asks, or its report was told.
 abbrev pub IsAt : Position → List ℕ → SyncJob → Bool → Bool → Position → Type 0
-IsAt p left (reports report) is_short is_last q = q ≡ answered p left report is_short is_last
-IsAt p left (asks (seeking group)) is_short is_last q = (q ≡ p) × (is_last ≡ false) × (next_at p ≡ sync group left)
-IsAt p left (asks x) is_short is_last q =
-    q ≡ record p { left = left_at p left x; pull = Some x; is_short = is_short; is_spent = is_last }
+IsAt p left (reports report) is_out_of_memory is_last q = q ≡ answered p left report is_out_of_memory is_last
+IsAt p left (asks (seeking group)) is_out_of_memory is_last q = (q ≡ p) × (is_last ≡ false) × (next_at p ≡ sync group left)
+IsAt p left (asks x) is_out_of_memory is_last q =
+    q ≡ record p { left = left_at p left x; pull = Some x; is_out_of_memory = is_out_of_memory; is_spent = is_last }
 
 -- Acts of the lane were entered, each for what the SYNC asked, or for want of memory behind it.
 pub record HasPulled (before now : History → Type 0) (k : ℕ) (group : List ℕ) (job : SyncJob) (is_last : Bool) : Type 0 where
   pub events : List Event
-  pub is_short : Bool
+  pub is_out_of_memory : Bool
   pub history : (h : History) → before h → now (with_events h (h.events ++ events))
   pub lanes : AreOf k events
-  pub leads : (p : Position) (left : List ℕ) → IsNext (sync group left) p → (q : Position) × (Leads p events q × IsAt p left job is_short is_last q)
+  pub leads : (p : Position) (left : List ℕ) → IsNext (sync group left) p → (q : Position) × (Leads p events q × IsAt p left job is_out_of_memory is_last q)
 
 -- The act for what it asks was entered, and where its reply was dropped, want of memory behind it.
 pub record PullsOn (before after : History → Type 0) (k : ℕ) (old new : SyncJob) (was_last is_last : Bool) : Type 0 where
   pub events : List Event
-  pub is_short : Bool
+  pub is_out_of_memory : Bool
   pub history : (h : History) → before h → after (with_events h (h.events ++ events))
   pub lanes : AreOf k events
   pub leads : (p q : Position) (group left : List ℕ) (s : Bool) → IsNext (sync group left) p → IsAt p left old s was_last q
-      → (r : Position) × (Leads q events r × IsAt p left new is_short is_last r)
+      → (r : Position) × (Leads q events r × IsAt p left new is_out_of_memory is_last r)
 
 abbrev pub CorePullsOn : {D E C : Type 0} → Ghosts D → Ghosts E → clocks.Ghosts C → Core D E C → Core D E C → ℕ → SyncJob → SyncJob → Bool → Bool → Type 0
 CorePullsOn {D} {E} {C} d e clock old new k job now was_last is_last =

@@ -44,16 +44,16 @@ pub record TellsNothing (p q : Position) : Type 0 where
 
 -- Where a job has come to on its lane, from where its command was next: its next step is next, or its report was told.
 abbrev pub IsAt : Position → List ℕ → Job → Bool → Bool → Position → Type 0
-IsAt p left (over report) is_short is_last q = q ≡ answered p left report is_short is_last
-IsAt p left (asking j) is_short is_last q = IsNext (job_step j left) q × TellsNothing p q × (q.is_spent ≡ is_last)
+IsAt p left (over report) is_out_of_memory is_last q = q ≡ answered p left report is_out_of_memory is_last
+IsAt p left (asking j) is_out_of_memory is_last q = IsNext (job_step j left) q × TellsNothing p q × (q.is_spent ≡ is_last)
 
 -- Acts of the lane were entered, each for a step of the job, or for want of memory behind it.
 pub record HasStepped (before now : History → Type 0) (k : ℕ) (begun : Asking) (job : Job) (is_last : Bool) : Type 0 where
   pub events : List Event
-  pub is_short : Bool
+  pub is_out_of_memory : Bool
   pub history : (h : History) → before h → now (with_events h (h.events ++ events))
   pub lanes : AreOf k events
-  pub leads : (p : Position) (left : List ℕ) → IsNext (job_step begun left) p → (q : Position) × (Leads p events q × IsAt p left job is_short is_last q)
+  pub leads : (p : Position) (left : List ℕ) → IsNext (job_step begun left) p → (q : Position) × (Leads p events q × IsAt p left job is_out_of_memory is_last q)
 
 -- the job has a reader
 abbrev pub has_reader : Job → Bool
@@ -102,11 +102,11 @@ pub record MayGoOn {D E C : Type 0} (core : Core D E C) (k : ℕ) (job : Job) (i
 -- where the job has come to.
 pub record StepsOn (before after : History → Type 0) (k : ℕ) (old new : Job) (was_last is_last : Bool) : Type 0 where
   pub events : List Event
-  pub is_short : Bool
+  pub is_out_of_memory : Bool
   pub history : (h : History) → before h → after (with_events h (h.events ++ events))
   pub lanes : AreOf k events
   pub leads : (p : Position) (left : List ℕ) (j : Asking) → old ≡ asking j → IsNext (job_step j left) p → p.is_spent ≡ was_last
-      → (q : Position) × (Leads p events q × IsAt p left new is_short is_last q)
+      → (q : Position) × (Leads p events q × IsAt p left new is_out_of_memory is_last q)
 
 abbrev pub CoreHasStepped : {D E C : Type 0} → Ghosts D → Ghosts E → clocks.Ghosts C → Core D E C → Core D E C → ℕ → Job → Job → Bool → Bool → Type 0
 CoreHasStepped {D} {E} {C} d e clock old new k job now was_last is_last =

@@ -22,7 +22,8 @@ use wire_commands::Reply;
 /// Does the next act of the lane's open collector. Some is what its end replies. Want of memory is no end: the act behind it is
 /// the end, which tells it.
 ///
-/// `is_last` is set where an entry of the lane's reserve held that want.
+/// `is_last` becomes true where that want was entered at a place of the lane's reserve, there being no memory for another. The lane
+/// then ends after the collection's reply.
 fn pass<D: Disk, E: Disk, C: Clock>(
     core: &mut Core<D, E, C>,
     alloc: Global,

@@ -14,6 +14,7 @@ use port_traits::{Clock, Sink};
 use shared_store::apply;
 use std::alloc::Global;
 use store_model::Ending;
+use store_types::FAULT_KIND;
 use wire_commands::Reply;
 
 /// How a lane's commands came to an end, and the reply that comes behind the lane's end.
@@ -32,7 +33,7 @@ fn end<D: Disk, E: Disk, C: Clock>(core: &mut Core<D, E, C>, alloc: Global, lane
     ensures entered { HasEntered D.Disk core.old core.new lane ⊥ }
 {
     let answer = apply(core, alloc, lane, Act::End);
-    if answer.entry.kind == 5 {
+    if answer.entry.kind == FAULT_KIND {
         let _ = apply(core, alloc, lane, Act::End);
     }
 }

@@ -55,7 +55,8 @@ fn next_act(alloc: Global, job: &Pull) -> Option<Act>
 /// Does the act for what the SYNC asks next, and gives it the reply. Where memory is wanting for this, it is entered as an act
 /// of its own, whose reply the SYNC takes.
 ///
-/// `is_last` is set where an entry of the lane's reserve held a want of memory.
+/// `is_last` becomes true where NoMemory was entered at a place of the lane's reserve, there being no memory for another. The lane
+/// then ends after the job's report.
 fn step<D: Disk, E: Disk, C: Clock>(
     core: &mut Core<D, E, C>,
     alloc: Global,

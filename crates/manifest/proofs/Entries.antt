@@ -1,5 +1,5 @@
 -- One entry is read, and its name joins those before.
-use Rattle.std.proofs.Common.{◌≡◌, ℕ, List, [], ◌∷◌, Bool, true, false, not, ◌||◌, cond, Some, None, Ok, Err, refl, sym, ap, ◌∙◌}
+use Rattle.std.proofs.Common.{◌≡◌, ℕ, List, [], ◌∷◌, Bool, true, false, not, ◌||◌, cond, Some, Ok, Err, refl, sym, ap, ◌∙◌}
 use Rattle.std.specs.Prelude.{codes}
 use Rattle.std.specs.BTreeSet.{BTreeSet, contains, Updates}
 use Rattle.std.specs.List.{list_any}
@@ -10,16 +10,10 @@ use Rattle.serde_json.specs.Data.{Data}
 use Rattle.serde_json.specs.Find.{get}
 use Rattle.store_types.specs.Names.{text_cmp}
 use Rattle.store_files.specs.Manifest.Fields.{Fact, fact_in, is_plain}
-use Rattle.store_files.specs.Manifest.{bad_file, bad_crypt, listed_twice}
+use Rattle.store_files.specs.Manifest.{listed_twice}
 use Rattle.manifest.specs.Reading.{HasNames, entry_in}
 
 module _ (before : List (List ℕ)) (d : Data) where
-  pub entry-no_file : fact_in d ≡ None → entry_in before d ≡ Err bad_file
-  entry-no_file h = rw h refl
-
-  pub entry-crypt : (f : Fact) → fact_in d ≡ Some f → is_plain (get (codes "crypt-mode") d) ≡ false → entry_in before d ≡ Err bad_crypt
-  entry-crypt f h plain = rw (h, plain) refl
-
   pub entry-twice : (f : Fact) → fact_in d ≡ Some f → is_plain (get (codes "crypt-mode") d) ≡ true → list_any (bytes_eq f.name) before ≡ true → entry_in before d ≡ Err listed_twice
   entry-twice f h plain again = rw (h, plain, again) refl
 

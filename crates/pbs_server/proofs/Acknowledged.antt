@@ -1,20 +1,19 @@
 -- A snapshot that was acknowledged is in what a crash leaves.
-use Rattle.std.proofs.Common.{◌≡◌, ◌≤◌, ◌+◌, ◌⊎◌, inl, inr, ℕ, zero, suc, Bool, true, false, not, ◌&&◌, ◌==◌, if◌then◌else◌, List, [], ◌∷◌, ◌++◌, All, take, Option, Some, IsTrue, Result, Ok, Err, is_none, refl, sym, ap, subst, ◌∙◌, arith, nat_le}
+use Rattle.std.proofs.Common.{◌≡◌, ◌≤◌, ◌+◌, ◌⊎◌, inl, inr, ℕ, zero, suc, Bool, true, false, not, ◌&&◌, ◌==◌, if◌then◌else◌, List, [], ◌∷◌, ◌++◌, All, take, Option, Some, IsTrue, Ok, Err, is_none, refl, sym, ap, subst, ◌∙◌, arith, nat_le}
 use Rattle.std.proofs.lemmas.List.Elements.{All-head, All-tail}
 use Rattle.store_types.specs.declared.refusal.Refusal.{Refusal}
 use Rattle.store_types.specs.declared.refusal.Refusal.TheVariants.{NoMemory}
-use Rattle.store_types.specs.Chain.Refusing.{◌>>=◌}
+use Rattle.store_types.specs.declared.order.TheConstants.{FAULT_KIND}
 use Rattle.store_files.specs.Archive.{Snapshot}
-use Rattle.store_files.specs.Manifest.{Manifest}
 use Rattle.wire_commands.specs.declared.command.Command.TheVariants as commands
 use Rattle.wire_commands.specs.declared.reply.Reply.{Reply}
 use Rattle.wire_commands.specs.declared.reply.Reply.TheVariants.{Done, Refused}
-use Rattle.store_model.specs.Manifests.{finish_check}
 use Rattle.store_model.specs.Stands.{keys_rise}
 use Rattle.store_model.specs.Steps.{outcome, answered}
-use Rattle.store_model.specs.Store.{none, Writer, writer, Store, Outcome, session, with_session, want_writer, insert_snapshot}
+use Rattle.store_model.specs.Store.{Writer, writer, Store, Outcome, session, insert_snapshot}
 use Rattle.store_model.specs.Weave.{fault_refusal}
-use Rattle.store_model.specs.WriterSteps.{finish, snapshot_of}
+use Rattle.store_model.proofs.Done.{done}
+use Rattle.store_model.specs.WriterSteps.{snapshot_of}
 use Rattle.store_history.specs.declared.act.Act.{Act}
 use Rattle.store_history.specs.declared.act.Act.TheVariants as acts
 use Rattle.store_history.specs.declared.act.Event.{Event}
@@ -71,7 +70,7 @@ module _ (R : Option (List Snapshot)) where
     -- what it gives where it meets no fault is what it gives as an entry of kind 0
     undisturbed_keeps : (w : World) (e : Event) → IsWellFormed e.act → Spared e → Has x w.store → Has x (one_more R w e)
     unfolding after moved
-    undisturbed_keeps w e formed spared h = by_test (kind e == 5)
+    undisturbed_keeps w e formed spared h = by_test (kind e == FAULT_KIND)
       where
         by_test : (b : Bool) → Has x (if b then (moved R w (lane e) (moment e) e.act (kind_of 0)).store else (after R w e).store)
         by_test true = moved_keeps w e (kind_of 0) formed spared h
@@ -104,7 +103,7 @@ module _ (R : Option (List Snapshot)) where
             → (b : Bool) → is_past t w e ≡ b
             → Either b (Reopens R (after R w e) es t found) ((found ≡ (w.store).snapshots) ⊎ (found ≡ (one_more R w e).snapshots)) → Stands x found
         by_test ih true past further =
-            ih (rest_spared t e es (past_by_then (nat_le e.calls t) (not (kind e == 5)) (is_none w.fault) past) spares) (after_keeps w e (legal.0).formed spared h) further
+            ih (rest_spared t e es (past_by_then (nat_le e.calls t) (not (kind e == FAULT_KIND)) (is_none w.fault) past) spares) (after_keeps w e (legal.0).formed spared h) further
         by_test ih false past (inl as_was) = subst (Stands x) (sym as_was) (named_in x w.store h)
         by_test ih false past (inr more) = subst (Stands x) (sym more) (named_in x (one_more R w e) (undisturbed_keeps w e (legal.0).formed spared h))
 
@@ -135,26 +134,24 @@ calm_by R w k m n r a asks right done =
     by_kind (suc (suc (suc (suc (suc (suc (suc zero))))))) right = absurd right
     by_kind (suc (suc (suc (suc (suc (suc (suc (suc n)))))))) right = absurd right
 
-finished : Store → ℕ → Writer → Result Manifest Refusal → Outcome
-finished s k v r = r >>= (λ m. Ok (record (with_session s k none) { snapshots = insert_snapshot (snapshot_of v) s.snapshots }, Done))
+same_writer : (v u : Writer) → writer v ≡ writer u → v ≡ u
+same_writer v u e = cc
 
-finish_is : (s : Store) (k : ℕ) (v : Writer) → session s k ≡ writer v → finish s k ≡ finished s k v (finish_check v)
-unfolding finish finished
-finish_is s k v is = ap (λ y. want_writer y >>= (λ u. finished s k u (finish_check u))) is
-
-finished_puts : (s : Store) (k : ℕ) (v : Writer) (r : Result Manifest Refusal) → (answered s (finished s k v r)).1 ≡ Done → Among (snapshot_of v) ((answered s (finished s k v r)).0).snapshots
-unfolding finished
-finished_puts s k v (Err refusal) h = cc
-finished_puts s k v (Ok m) h = among_new (snapshot_of v) s.snapshots
+-- done, the snapshot of the lane's writer is there
+finished_puts : (s : Store) (k m : ℕ) (v : Writer) → session s k ≡ writer v → (o : Outcome) → outcome s k m commands.Finish ≡ o → (answered s o).1 ≡ Done
+    → Among (snapshot_of v) ((answered s o).0).snapshots
+finished_puts s k m v is (Err refusal) e told = cc
+finished_puts s k m v is (Ok after) e told =
+    let d = done s k m commands.Finish after e in
+    subst (λ (x : Store × Reply). Among (snapshot_of v) (x.0).snapshots) (sym d.4)
+    (subst (λ u. Among (snapshot_of u) (insert_snapshot (snapshot_of d.0) s.snapshots)) (same_writer d.0 v (sym d.2 ∙ is)) (among_new (snapshot_of d.0) s.snapshots))
 
 puts_by : (R : Option (List Snapshot)) (w : World) (k m n : ℕ) (r : Option Reply) (v : Writer) → Right R w k m (acts.Plain commands.Finish) r stepping (kind_of n) → r ≡ Some Done
     → session w.store k ≡ writer v → Among (snapshot_of v) ((moved R w k m (acts.Plain commands.Finish) (kind_of n)).store).snapshots
-unfolding moved act_outcome outcome
+unfolding moved act_outcome
 puts_by R w k m zero r v right done is =
-    let o = finished w.store k v (finish_check v) in
-    let says : Some Done ≡ Some (answered w.store o).1 = sym done ∙ right.1 ∙ ap (λ y. Some (answered w.store y).1) (finish_is w.store k v is) in
-    subst (λ y. Among (snapshot_of v) ((answered w.store y).0).snapshots) (sym (finish_is w.store k v is))
-    (finished_puts w.store k v (finish_check v) (let h : (answered w.store o).1 ≡ Done = cc in h))
+    let o = outcome w.store k m commands.Finish in
+    finished_puts w.store k m v is o refl (let says : Some Done ≡ Some (answered w.store o).1 = sym done ∙ right.1 in let h : (answered w.store o).1 ≡ Done = cc in h)
 puts_by R w k m (suc zero) r v right done is = absurd right
 puts_by R w k m (suc (suc zero)) r v right done is = absurd (not_done r NoMemory done right.0)
 puts_by R w k m (suc (suc (suc zero))) r v right done is = absurd right

@@ -8,6 +8,7 @@ use Rattle.std.proofs.Common.{◌≡◌, ◌≤◌, ◌+◌, inl, inr, ℕ, Bool
 use Rattle.std.specs.Prelude.{IsErrOf, is_some}
 use Rattle.std.specs.Result.{result_err}
 use Rattle.std.specs.FinMap.{get}
+use Rattle.store_types.specs.declared.order.TheConstants.{FAULT_KIND}
 use Rattle.file_install.proofs.InstallLaws.{installed_other}
 use Rattle.store_model.specs.Weave.{first_fault}
 use Rattle.store_history.specs.declared.act.Event.{Event}
@@ -144,7 +145,7 @@ stays_some place fault (v ∷ vs) some = stays_some (place + 1) (fault_after pla
 
 pub five_fails : (place : ℕ) (fault : Option ℕ) (h : List Event) → has_kind 5 (entries h) ≡ true → IsSome (fault_in place fault h)
 five_fails place fault [] five = cc
-five_fails place fault (v ∷ vs) five = by_test (λ more. five_fails (place + 1) fault vs more) (kind v == 5) five
+five_fails place fault (v ∷ vs) five = by_test (λ more. five_fails (place + 1) fault vs more) (kind v == FAULT_KIND) five
   where
     by_test : (has_kind 5 (entries vs) ≡ true → IsSome (fault_in (place + 1) fault vs)) → (b : Bool) → b || has_kind 5 (entries vs) ≡ true
         → IsSome (fault_in (place + 1) (if b then first_fault place fault else fault) vs)

@@ -46,7 +46,7 @@ so_broken place q (plain c left) so = absurd so
 so_broken place q (job_step j left) so = absurd so
 so_broken place q (sync group left) so = absurd so
 so_broken place q (collect left) so = absurd so
-so_broken place q (collecting is_short) so = absurd so
+so_broken place q (collecting is_out_of_memory) so = absurd so
 so_broken place q bye so = absurd so
 so_broken place q end so = absurd so
 

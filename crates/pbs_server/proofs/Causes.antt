@@ -17,7 +17,7 @@ use Rattle.lane.specs.Entries.{has_kind, HasEntered}
 use Rattle.lane.proofs.Caused.{rose_later}
 use Rattle.pbs_server.specs.declared.status.Status.{Status}
 use Rattle.pbs_server.specs.declared.status.Status.TheVariants as statuses
-use Rattle.pbs_server.specs.Statuses.{status_by, status_of_ending, is_short, is_wanting, is_failed}
+use Rattle.pbs_server.specs.Statuses.{status_by, status_of_ending, is_out_of_memory, is_wanting, is_failed}
 use Rattle.pbs_server.specs.Causes.{IsOrder, SaveIsTold, HasNotFailed, ReachesNoCommand, HasCause}
 use Rattle.pbs_server.proofs.Broken.{IsBroken}
 
@@ -140,7 +140,7 @@ IsEndingOf statuses.BadFrame e = IsBroken e
 IsEndingOf statuses.SourceFault e = e ≡ endings.SourceFault
 IsEndingOf statuses.SinkFault e = e ≡ endings.SinkFault
 IsEndingOf statuses.SourceTooLong e = e ≡ endings.SourceTooLong
-IsEndingOf statuses.NoMemory e = (e ≡ endings.NoMemory) × (is_short e ≡ true)
+IsEndingOf statuses.NoMemory e = (e ≡ endings.NoMemory) × (is_out_of_memory e ≡ true)
 IsEndingOf s e = Unit {0}
 
 is_ending : (e : Ending) → IsEndingOf (status_of_ending e) e
@@ -155,7 +155,7 @@ is_ending endings.NoMemory = (refl, refl)
 ending_of_status : (e : Ending) (s : Status) → status_of_ending e ≡ s → IsEndingOf s e
 ending_of_status e s is = subst (λ t. IsEndingOf t e) is (is_ending e)
 
-short_is : (e : Ending) → is_short e ≡ true → e ≡ endings.NoMemory
+short_is : (e : Ending) → is_out_of_memory e ≡ true → e ≡ endings.NoMemory
 short_is endings.NoMemory is = refl
 short_is endings.Clean is = cc
 short_is (endings.Broken place) is = cc
@@ -163,7 +163,7 @@ short_is endings.SourceFault is = cc
 short_is endings.SinkFault is = cc
 short_is endings.SourceTooLong is = cc
 
-broken_is : (e : Ending) → IsBroken e → (is_short e ≡ false) × (status_of_ending e ≡ statuses.BadFrame)
+broken_is : (e : Ending) → IsBroken e → (is_out_of_memory e ≡ false) × (status_of_ending e ≡ statuses.BadFrame)
 broken_is (endings.Broken place) is = (refl, refl)
 broken_is endings.NoMemory is = absurd is
 broken_is endings.Clean is = absurd is
@@ -217,7 +217,7 @@ caused status order not_saved report input events disk disk' remote remote' sour
   ok = (
     λ is. let l = last statuses.Ok (λ e. cc) (λ e. cc) (λ e. cc) is in
         (ending_of_status report.ending statuses.Ok l.status, record { memory = l.memory_is; disk = l.disk_is; remote = l.reads_is; saved = saved_by not_saved l.wanting_is l.failed_is }),
-    λ is. by ∙ calm_status a b w c f g s statuses.Ok is.1.memory (ap is_short is.0) (ap is_wanting is.1.saved) is.1.disk (ap is_failed is.1.saved) is.1.remote (ap status_of_ending is.0),
+    λ is. by ∙ calm_status a b w c f g s statuses.Ok is.1.memory (ap is_out_of_memory is.0) (ap is_wanting is.1.saved) is.1.disk (ap is_failed is.1.saved) is.1.remote (ap status_of_ending is.0),
   );
   bad_frame = (
     λ is.
@@ -243,7 +243,7 @@ caused status order not_saved report input events disk disk' remote remote' sour
     a = has_kind 2 order
 
     b : Bool
-    b = is_short report.ending
+    b = is_out_of_memory report.ending
 
     w : Bool
     w = is_wanting not_saved

@@ -11,6 +11,7 @@ use Rattle.store_types.specs.declared.order.Entry.{Entry}
 use Rattle.store_types.specs.Names.{IsKey}
 use Rattle.blob_codec.specs.Blob.{blob, data_of}
 use Rattle.store_types.specs.declared.refusal.BadBlob.{BadBlob}
+use Rattle.store_types.specs.declared.order.TheConstants.{REMOTE_FAULT_KIND}
 use Rattle.blob_codec.proofs.RoundTrips.{data_of-blob}
 use Rattle.store_files.specs.Archive.{Content, archive, blob as blob_content, File, Snapshot, pieces_of}
 use Rattle.store_files.specs.Folder.{IsPiece, chunk_name}
@@ -108,15 +109,15 @@ either false b is = inr is
 -- one was entered
 pub one_failed : (order : List Entry) → has_kind 7 order ≡ true → 1 ≤ failed_reads order
 one_failed [] is = cc
-one_failed (x ∷ xs) is = by_first (either (x.kind == 7) (has_kind 7 xs) is) (λ later. one_failed xs later)
+one_failed (x ∷ xs) is = by_first (either (x.kind == REMOTE_FAULT_KIND) (has_kind 7 xs) is) (λ later. one_failed xs later)
   where
-    more : (b : Bool) → 1 ≤ failed_reads xs → 1 ≤ length (if b then x ∷ filter (λ y. y.kind == 7) xs else filter (λ y. y.kind == 7) xs)
+    more : (b : Bool) → 1 ≤ failed_reads xs → 1 ≤ length (if b then x ∷ filter (λ y. y.kind == REMOTE_FAULT_KIND) xs else filter (λ y. y.kind == REMOTE_FAULT_KIND) xs)
     more true h = omega (arith, h)
     more false h = h
 
-    by_first : (x.kind == 7 ≡ true) ⊎ (has_kind 7 xs ≡ true) → (has_kind 7 xs ≡ true → 1 ≤ failed_reads xs) → 1 ≤ failed_reads (x ∷ xs)
-    by_first (inl first) rest = subst (λ b. 1 ≤ length (if b then x ∷ filter (λ y. y.kind == 7) xs else filter (λ y. y.kind == 7) xs)) (sym first) (omega arith)
-    by_first (inr later) rest = more (x.kind == 7) (rest later)
+    by_first : (x.kind == REMOTE_FAULT_KIND ≡ true) ⊎ (has_kind 7 xs ≡ true) → (has_kind 7 xs ≡ true → 1 ≤ failed_reads xs) → 1 ≤ failed_reads (x ∷ xs)
+    by_first (inl first) rest = subst (λ b. 1 ≤ length (if b then x ∷ filter (λ y. y.kind == REMOTE_FAULT_KIND) xs else filter (λ y. y.kind == REMOTE_FAULT_KIND) xs)) (sym first) (omega arith)
+    by_first (inr later) rest = more (x.kind == REMOTE_FAULT_KIND) (rest later)
 
 -- then the count rose
 pub rose_by : (order : List Entry) (remote remote' : ℕ) → (remote' < 2 ^ 64 - 1 → failed_reads order + remote ≤ remote') → has_kind 7 order ≡ true → Rose remote remote'

@@ -7,7 +7,7 @@ use Rattle.store_model.specs.declared.ending.Ending.TheVariants as endings
 use Rattle.pbs_server.specs.declared.status.Status.{Status}
 use Rattle.pbs_server.specs.declared.status.Status.TheVariants as statuses
 use Rattle.lane.specs.Entries.{has_kind}
-use Rattle.pbs_server.specs.Statuses.{status_by, status_of_ending, is_short, is_wanting, is_failed}
+use Rattle.pbs_server.specs.Statuses.{status_by, status_of_ending, is_out_of_memory, is_wanting, is_failed}
 
 abbrev IsOther : Status → Type 0
 IsOther s = s ≡ statuses.Usage → ⊥
@@ -42,7 +42,7 @@ chosen false false false false false false s other is = other is
 -- a session that was served is never answered Usage
 pub served_other : (order : List Entry) (e : Ending) (not_saved : Option DiskError) → status_by order e not_saved ≡ statuses.Usage → ⊥
 served_other order e not_saved is =
-    chosen (has_kind 2 order) (is_short e) (is_wanting not_saved) (has_kind 5 order) (is_failed not_saved) (has_kind 7 order) (status_of_ending e) (ending_other e) is
+    chosen (has_kind 2 order) (is_out_of_memory e) (is_wanting not_saved) (has_kind 5 order) (is_failed not_saved) (has_kind 7 order) (status_of_ending e) (ending_other e) is
 
 -- by the order and the report that are handed back
 pub status_is : (status : Status) (order kept : List Entry) (e : Ending) (told not_saved : Option DiskError)

@@ -8,6 +8,7 @@ use Rattle.disk_trait.specs.Files.{Files}
 use Rattle.std.specs.List.{All}
 use Rattle.store_types.specs.Names.{IsKey}
 use Rattle.store_types.specs.declared.order.Entry.{Entry}
+use Rattle.store_types.specs.declared.order.TheConstants.{FAULT_KIND}
 use Rattle.store_files.specs.Archive.{Snapshot}
 use Rattle.store_files.specs.Folder.{IsDigest, chunk_name}
 use Rattle.store_model.specs.Clash.{NoClash, chunk_pieces}
@@ -111,7 +112,7 @@ pub no_fault : (R : Option (List Snapshot)) (w : World) (h : List Event) → has
 unfolding after after_all
 no_fault R w [] none_is = refl
 no_fault R w (e ∷ es) none_is =
-    let both = either_false (kind e == 5) (has_kind 5 (entries es)) none_is in
+    let both = either_false (kind e == FAULT_KIND) (has_kind 5 (entries es)) none_is in
     no_fault R (after R w e) es both.1
     ∙ moved_fault R w _ _ _ (kind_of (kind e)) (λ is. not_five (kind e) both.0 (fault_is_five (kind e) is))
 

@@ -25,7 +25,7 @@ pub record IsForgetOf (key : SnapshotKey) (act : Act) : Type 0 where
 abbrev pub Spares : SnapshotKey → ℕ → List Event → Type 0
 Spares key t events = All (λ e. IsForgetOf key e.act → ⊥) (take (answered_by t events + 1) events)
 
--- By this count of the disk's calls a FINISH of the snapshot was answered Done, and no FORGET of it was entered since.
+-- By this count of the disk's calls a FINISH of the snapshot was answered Done, and since then no FORGET of it was entered or is the next event.
 pub record IsAcknowledged (remote : Option (List Snapshot)) (o : Opening) (events : List Event) (t : ℕ) (x : Snapshot) : Type 0 where
   pub before : List Event
   pub finish : Event
@@ -50,7 +50,7 @@ AcknowledgedStay = (remote : Option (List Snapshot)) (o : Opening) (events : Lis
     → IsTrue (keys_rise o.snapshots) → IsLegal remote (opened o) events → IsAcknowledged remote o events t x → Reopens remote (opened o) events t found
     → Stands x found
 
--- so too one that was there at opening, where no FORGET of it was entered by then
+-- so too one that was there at opening, where no FORGET of it was entered by then or is the next event
 abbrev pub FoundStay : Type 0
 FoundStay = (remote : Option (List Snapshot)) (o : Opening) (events : List Event) (t : ℕ) (x : Snapshot) (found : List Snapshot)
     → IsTrue (keys_rise o.snapshots) → IsLegal remote (opened o) events → Stands x o.snapshots → Spares x.key t events → Reopens remote (opened o) events t found
@@ -58,7 +58,7 @@ FoundStay = (remote : Option (List Snapshot)) (o : Opening) (events : List Event
 
 -- What a crash at that count leaves, opened: the plain store's snapshots after the events that were answered by then, or after one more.
 -- Each snapshot stands among them, whole, that was acknowledged by then, and each that was there at opening and of which no FORGET was entered
--- by then.
+-- by then or is the next event.
 pub record FoundAfter (remote : Option (List Snapshot)) (o : Opening) (events : List Event) (t : ℕ) (found : List Snapshot) : Type 0 where
   pub reopens : Reopens remote (opened o) events t found
   pub acknowledged : (x : Snapshot) → IsAcknowledged remote o events t x → Stands x found

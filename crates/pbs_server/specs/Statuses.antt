@@ -20,9 +20,9 @@ status_of_ending endings.SinkFault = statuses.SinkFault
 status_of_ending endings.SourceTooLong = statuses.SourceTooLong
 status_of_ending endings.NoMemory = statuses.NoMemory
 
-abbrev pub is_short : Ending → Bool
-is_short endings.NoMemory = true
-is_short _ = false
+abbrev pub is_out_of_memory : Ending → Bool
+is_out_of_memory endings.NoMemory = true
+is_out_of_memory _ = false
 
 -- why the book was not saved: want of memory, or the disk
 abbrev pub is_wanting : Option DiskError → Bool
@@ -39,7 +39,7 @@ is_failed _ = false
 abbrev pub status_by : List Entry → Ending → Option DiskError → Status
 status_by order ending not_saved =
     if has_kind 2 order then statuses.NoMemory else
-    if is_short ending then statuses.NoMemory else
+    if is_out_of_memory ending then statuses.NoMemory else
     if is_wanting not_saved then statuses.NoMemory else
     if has_kind 5 order then statuses.DiskFault else
     if is_failed not_saved then statuses.DiskFault else

@@ -30,13 +30,6 @@ module _ (pool : List (List ℕ)) (layout : Layout) where
   abbrev pub behind : List (List ℕ) → ℕ → ℕ → List (Digest32 × ℕ) → Result (List (List ℕ)) Refusal
   behind before place end rest = pieces_from pool layout place end rest >>= λ others. Ok (before ++ others)
 
-  pub behind_nothing : (end : ℕ) (rest : List (Digest32 × ℕ)) → pieces_from pool layout 0 end rest ≡ behind [] 0 end rest
-  behind_nothing end rest = by_result (pieces_from pool layout 0 end rest)
-    where
-      by_result : (r : Result (List (List ℕ)) Refusal) → r ≡ (r >>= λ others. Ok ([] ++ others))
-      by_result (Ok others) = refl
-      by_result (Err e) = refl
-
   more_by : (before : List (List ℕ)) (p : List ℕ) (r : Result (List (List ℕ)) Refusal)
       → ((r >>= λ others. Ok (p ∷ others)) >>= λ rest. Ok (before ++ rest)) ≡ (r >>= λ rest. Ok ((before ++ p ∷ []) ++ rest))
   more_by before p (Ok others) = ap (λ ks. Ok ks) (sym (append_assoc before (p ∷ []) others))

@@ -15,7 +15,6 @@ use Rattle.wire_commands.specs.declared.rows.FileRow.{FileRow}
 use Rattle.manifest.specs.declared.facts.FileFact.{FileFact}
 use Rattle.manifest.specs.Views.{fact_view}
 use Rattle.store_model.specs.Store.{in_group, keys_in}
-use Rattle.store_model.specs.Manifests.{fact_of}
 use Rattle.store_model.specs.AdminSteps.{list_limit, list_row, is_after, listed, file_row, fact_shown, group_texts}
 use Rattle.store_model.specs.Stands.{group_limit}
 
@@ -54,10 +53,6 @@ find-map p f (x ∷ xs) = by_test (p (f x)) (find-map p f xs)
     by_test false go = go
 
 module _ (facts : List FileFact) (f : File) where
-  pub shown_itself : (fact : FileFact) → bytes_eq f.name manifest_name ≡ true → fact_view fact ≡ fact_of f
-      → Some (file_row (fact_view fact)) ≡ option_map file_row (fact_shown (map fact_view facts) f)
-  shown_itself fact h is = rw h (ap (λ x. Some (file_row x)) is)
-
   shown_by : bytes_eq f.name manifest_name ≡ false → (o : Option FileFact) → o ≡ find (λ (x : FileFact). bytes_eq x.name f.name) facts
       → option_map (λ (x : FileFact). file_row (fact_view x)) o ≡ option_map file_row (fact_shown (map fact_view facts) f)
   shown_by h o is =

@@ -8,6 +8,7 @@ use Rattle.std.proofs.lemmas.List.{get_or_default, get_or-set_same, set-get_or, 
 use Rattle.store_types.specs.declared.order.Entry.{Entry}
 use Rattle.store_types.specs.declared.refusal.Refusal.{Refusal}
 use Rattle.store_types.specs.declared.refusal.Refusal.TheVariants.{CollectorBusy, NoMemory, RemoteFault}
+use Rattle.store_types.specs.declared.order.TheConstants.{COMMAND_KIND, PART_KIND, MEMORY_KIND, START_KIND, STOP_KIND, FAULT_KIND, END_KIND, REMOTE_FAULT_KIND}
 use Rattle.store_files.specs.Archive.{Snapshot}
 use Rattle.wire_commands.specs.declared.command.Command.{Command}
 use Rattle.wire_commands.specs.declared.reply.Reply.{Reply}
@@ -23,7 +24,7 @@ use Rattle.store_model.specs.JobSteps.{step_outcome}
 use Rattle.store_model.specs.Steps.{answered, step}
 use Rattle.store_model.specs.Store.{Store, session, want_idle}
 use Rattle.store_model.specs.Lanes.{Lane, Collecting, Run, new_lane, lane_at, with_lane, say, collects, lane_next, next_beside, next_of}
-use Rattle.store_model.specs.Weave.{Endings, tell, go_on, stepped, short, told_fault, fault_refusal, first_fault, is_end, is_cut_off, faulted, is_replied, may_leave_unread, end_session, ended_with, unread, ends, entered, with_store, answer, answer_job, want_collector, open_collector, close_collector, collected, opens, closes, passed, begin_sync, remote_failed}
+use Rattle.store_model.specs.Weave.{Endings, tell, go_on, stepped, short, told_fault, fault_refusal, first_fault, is_end, is_cut_off, faulted, is_replied, may_leave_unread, end_session, ended_with, unread, ends, entered, with_store, answer, answer_job, want_collector, close_collector, collected, opens, closes, passed, begin_sync, remote_failed}
 use Rattle.plain_lanes.specs.declared.next.Ahead.{Ahead}
 use Rattle.plain_lanes.specs.declared.next.Ahead.TheVariants as ahead
 use Rattle.plain_lanes.specs.declared.next.Next.{Next}
@@ -43,7 +44,7 @@ unfolding next_beside
 beside_apart None k lane h = refl
 beside_apart (Some c) k lane h = by_lane (c.lane == k) h
   where
-    by_lane : (b : Bool) → cond b (Some c.is_short) None ≡ None → cond b (model.collecting c.is_short) (lane_next lane) ≡ lane_next lane
+    by_lane : (b : Bool) → cond b (Some c.is_out_of_memory) None ≡ None → cond b (model.collecting c.is_out_of_memory) (lane_next lane) ≡ lane_next lane
     by_lane true h = cc
     by_lane false h = refl
 
@@ -52,33 +53,33 @@ pub next_apart : (r : Run) (k : ℕ) → IsApart r k → next_of r k ≡ lane_ne
 unfolding next_of
 next_apart r k h = beside_apart r.collecting k (lane_at r k) h
 
-beside_own : (o : Option Collecting) (k : ℕ) (lane : Lane) (is_short : Bool) → own_of o k ≡ Some is_short → next_beside o k lane ≡ model.collecting is_short
+beside_own : (o : Option Collecting) (k : ℕ) (lane : Lane) (is_out_of_memory : Bool) → own_of o k ≡ Some is_out_of_memory → next_beside o k lane ≡ model.collecting is_out_of_memory
 unfolding next_beside
-beside_own None k lane is_short h = cc
-beside_own (Some c) k lane is_short h = by_lane (c.lane == k) h
+beside_own None k lane is_out_of_memory h = cc
+beside_own (Some c) k lane is_out_of_memory h = by_lane (c.lane == k) h
   where
-    by_lane : (b : Bool) → cond b (Some c.is_short) None ≡ Some is_short → cond b (model.collecting c.is_short) (lane_next lane) ≡ model.collecting is_short
+    by_lane : (b : Bool) → cond b (Some c.is_out_of_memory) None ≡ Some is_out_of_memory → cond b (model.collecting c.is_out_of_memory) (lane_next lane) ≡ model.collecting is_out_of_memory
     by_lane true h = cc
     by_lane false h = cc
 
 -- the lane's own is
-pub next_own : (r : Run) (k : ℕ) (is_short : Bool) → own_of r.collecting k ≡ Some is_short → next_of r k ≡ model.collecting is_short
+pub next_own : (r : Run) (k : ℕ) (is_out_of_memory : Bool) → own_of r.collecting k ≡ Some is_out_of_memory → next_of r k ≡ model.collecting is_out_of_memory
 unfolding next_of
-next_own r k is_short h = beside_own r.collecting k (lane_at r k) is_short h
+next_own r k is_out_of_memory h = beside_own r.collecting k (lane_at r k) is_out_of_memory h
 
 pub collects_apart : (o : Option Collecting) (k : ℕ) → own_of o k ≡ None → collects k o ≡ false
 collects_apart None k h = refl
 collects_apart (Some c) k h = by_lane (c.lane == k) h
   where
-    by_lane : (b : Bool) → cond b (Some c.is_short) None ≡ None → b ≡ false
+    by_lane : (b : Bool) → cond b (Some c.is_out_of_memory) None ≡ None → b ≡ false
     by_lane true h = cc
     by_lane false h = refl
 
-collects_own : (o : Option Collecting) (k : ℕ) (is_short : Bool) → own_of o k ≡ Some is_short → collects k o ≡ true
-collects_own None k is_short h = cc
-collects_own (Some c) k is_short h = by_lane (c.lane == k) h
+collects_own : (o : Option Collecting) (k : ℕ) (is_out_of_memory : Bool) → own_of o k ≡ Some is_out_of_memory → collects k o ≡ true
+collects_own None k is_out_of_memory h = cc
+collects_own (Some c) k is_out_of_memory h = by_lane (c.lane == k) h
   where
-    by_lane : (b : Bool) → cond b (Some c.is_short) None ≡ Some is_short → b ≡ true
+    by_lane : (b : Bool) → cond b (Some c.is_out_of_memory) None ≡ Some is_out_of_memory → b ≡ true
     by_lane true h = refl
     by_lane false h = cc
 
@@ -93,39 +94,39 @@ no_act : (r : Run) (k : ℕ) → IsApart r k → is_act (next_of r k) ≡ false
 no_act r k apart = ap is_act (next_apart r k apart) ∙ lane_no_act (lane_at r k)
 
 -- what an entry does there
-module _ (r : Run) (k : ℕ) (is_short : Bool) (own : own_of r.collecting k ≡ Some is_short) where
+module _ (r : Run) (k : ℕ) (is_out_of_memory : Bool) (own : own_of r.collecting k ≡ Some is_out_of_memory) where
   pub own_steps : (moment : ℕ) → stepped r k moment (next_of r k) ≡ None
   unfolding stepped
-  own_steps moment = ap (stepped r k moment) (next_own r k is_short own)
+  own_steps moment = ap (stepped r k moment) (next_own r k is_out_of_memory own)
 
   pub own_opens : opens r k (next_of r k) ≡ None
   unfolding opens
-  own_opens = ap (opens r k) (next_own r k is_short own)
+  own_opens = ap (opens r k) (next_own r k is_out_of_memory own)
 
   pub own_fails : remote_failed r k (next_of r k) ≡ None
   unfolding remote_failed
-  own_fails = ap (remote_failed r k) (next_own r k is_short own)
+  own_fails = ap (remote_failed r k) (next_own r k is_out_of_memory own)
 
   pub own_passes : passed r (next_of r k) ≡ Some r
   unfolding passed
-  own_passes = ap (passed r) (next_own r k is_short own)
+  own_passes = ap (passed r) (next_own r k is_out_of_memory own)
 
   pub own_short : short r k (next_of r k) ≡ Some (short_open r k)
   unfolding short
-  own_short = ap (short r k) (next_own r k is_short own)
+  own_short = ap (short r k) (next_own r k is_out_of_memory own)
 
-  pub own_closes : closes r k (next_of r k) ≡ Some (close_collector r k (collected is_short))
+  pub own_closes : closes r k (next_of r k) ≡ Some (close_collector r k (collected is_out_of_memory))
   unfolding closes
-  own_closes = ap (closes r k) (next_own r k is_short own)
+  own_closes = ap (closes r k) (next_own r k is_out_of_memory own)
 
   pub own_fault : (refusal : Refusal) → told_fault r k refusal (next_of r k) ≡ close_collector r k (Refused refusal)
   unfolding told_fault
-  own_fault refusal = ap (told_fault r k refusal) (next_own r k is_short own)
+  own_fault refusal = ap (told_fault r k refusal) (next_own r k is_out_of_memory own)
 
   -- no fault is left untold
   pub own_told : (ending : Ending) (later : List Entry) → is_cut_off r k ending later ≡ false
   own_told endings.NoMemory later =
-      ap (λ b. is_none (lane_at r k).job && not b && is_end (find (λ e. e.lane == k) later)) (collects_own r.collecting k is_short own)
+      ap (λ b. is_none (lane_at r k).job && not b && is_end (find (λ e. e.lane == k) later)) (collects_own r.collecting k is_out_of_memory own)
       ∙ none_cut (is_none (lane_at r k).job) (is_end (find (λ e. e.lane == k) later))
   own_told ending later = refl
 
@@ -136,7 +137,7 @@ module _ (r : Run) (k : ℕ) (is_short : Bool) (own : own_of r.collecting k ≡ 
 
   pub own_ends : (ending : Ending) → ends r k ending (next_of r k) ≡ end_open_at r k ending
   unfolding ends
-  own_ends ending = ap (ends r k ending) (next_own r k is_short own)
+  own_ends ending = ap (ends r k ending) (next_own r k is_out_of_memory own)
 
 -- ---- what stands next
 
@@ -276,10 +277,6 @@ module _ (r : Run) (k moment : ℕ) (left : List ℕ) where
   command_begun c s reply told after done stored tells =
       ap (λ x. Some (answer r k left x)) (sym done) ∙ ap (λ (x : Run). Some x) (sym (tells ∙ ap (λ (x : Run). tell x k left reply) stored))
 
-  pub sync_begun : (group : List ℕ) (after : Run) → after ≡ begin_sync r k group left → stepped r k moment (model.sync group left) ≡ Some after
-  unfolding stepped
-  sync_begun group after begins = ap (λ (x : Run). Some x) (sym begins)
-
 -- a SYNC's first step
 module _ (r : Run) (k : ℕ) (group left : List ℕ) where
   pub pulls_begun : (xs : List Snapshot) → to_pull r.remote r.store k group ≡ Ok xs → go_on r k left (next_snapshot [] xs) ≡ begin_sync r k group left
@@ -326,7 +323,7 @@ module _ (r : Run) (k : ℕ) where
 
 passes : (r : Run) (n : model.Next) → is_act n ≡ false → Enters r r (is_sync_next n) (passed r n)
 unfolding passed
-passes r (model.collecting is_short) h = absurd (false≢true (sym h))
+passes r (model.collecting is_out_of_memory) h = absurd (false≢true (sym h))
 passes r (model.job_step j left) h = by_sync (is_sync j)
   where
     by_sync : (b : Bool) → Enters r r b (cond b (Some r) None)
@@ -453,35 +450,35 @@ abbrev no_run : Option Run
 no_run = None
 
 module _ (E : Endings) (r : Run) (place : ℕ) (e : Entry) (later : List Entry) where
-  pub entered_0 : e.kind ≡ 0 → entered E r place e later ≡ stepped r e.lane e.moment (next_of r e.lane)
+  pub entered_0 : e.kind ≡ COMMAND_KIND → entered E r place e later ≡ stepped r e.lane e.moment (next_of r e.lane)
   unfolding entered
   entered_0 h = rw h refl
 
-  pub entered_1 : e.kind ≡ 1 → entered E r place e later ≡ passed r (next_of r e.lane)
+  pub entered_1 : e.kind ≡ PART_KIND → entered E r place e later ≡ passed r (next_of r e.lane)
   unfolding entered
   entered_1 h = rw h refl
 
-  pub entered_2 : e.kind ≡ 2 → entered E r place e later ≡ short r e.lane (next_of r e.lane)
+  pub entered_2 : e.kind ≡ MEMORY_KIND → entered E r place e later ≡ short r e.lane (next_of r e.lane)
   unfolding entered
   entered_2 h = rw h refl
 
-  pub entered_3 : e.kind ≡ 3 → entered E r place e later ≡ opens r e.lane (next_of r e.lane)
+  pub entered_3 : e.kind ≡ START_KIND → entered E r place e later ≡ opens r e.lane (next_of r e.lane)
   unfolding entered
   entered_3 h = rw h refl
 
-  pub entered_4 : e.kind ≡ 4 → entered E r place e later ≡ closes r e.lane (next_of r e.lane)
+  pub entered_4 : e.kind ≡ STOP_KIND → entered E r place e later ≡ closes r e.lane (next_of r e.lane)
   unfolding entered
   entered_4 h = rw h refl
 
-  pub entered_5 : e.kind ≡ 5 → entered E r place e later ≡ Some (faulted r e.lane place (E e.lane (next_of r e.lane)) later (next_of r e.lane))
+  pub entered_5 : e.kind ≡ FAULT_KIND → entered E r place e later ≡ Some (faulted r e.lane place (E e.lane (next_of r e.lane)) later (next_of r e.lane))
   unfolding entered
   entered_5 h = rw h refl
 
-  pub entered_6 : e.kind ≡ 6 → entered E r place e later ≡ ends r e.lane (E e.lane (next_of r e.lane)) (next_of r e.lane)
+  pub entered_6 : e.kind ≡ END_KIND → entered E r place e later ≡ ends r e.lane (E e.lane (next_of r e.lane)) (next_of r e.lane)
   unfolding entered
   entered_6 h = rw h refl
 
-  pub entered_7 : e.kind ≡ 7 → entered E r place e later ≡ remote_failed r e.lane (next_of r e.lane)
+  pub entered_7 : e.kind ≡ REMOTE_FAULT_KIND → entered E r place e later ≡ remote_failed r e.lane (next_of r e.lane)
   unfolding entered
   entered_7 h = rw h refl
 
@@ -506,22 +503,22 @@ module _ (E : Endings) (r : Run) (place : ℕ) (e : Entry) (later : List Entry) 
       let no_6 = differs e.kind 6 six in
       let no_7 = differs e.kind 7 seven in
       let closes = closes_act r e.lane (next_of r e.lane) (no_act r e.lane apart) in
-      rw (no_0, no_1, no_2, no_3, no_5, no_6, no_7, closes) (none_either (e.kind == 4))
+      rw (no_0, no_1, no_2, no_3, no_5, no_6, no_7, closes) (none_either (e.kind == STOP_KIND))
 
   -- the same, where the lane's collector is open
-  pub not_entered_open : (is_short : Bool) → own_of r.collecting e.lane ≡ Some is_short
+  pub not_entered_open : (is_out_of_memory : Bool) → own_of r.collecting e.lane ≡ Some is_out_of_memory
       → e.kind ≢ 1 → e.kind ≢ 2 → e.kind ≢ 4 → e.kind ≢ 5 → e.kind ≢ 6 → entered E r place e later ≡ None
   unfolding entered
-  not_entered_open is_short own one two four five six =
+  not_entered_open is_out_of_memory own one two four five six =
       let no_1 = differs e.kind 1 one in
       let no_2 = differs e.kind 2 two in
       let no_4 = differs e.kind 4 four in
       let no_5 = differs e.kind 5 five in
       let no_6 = differs e.kind 6 six in
-      let steps = own_steps r e.lane is_short own e.moment in
-      let opens = own_opens r e.lane is_short own in
-      let fails = own_fails r e.lane is_short own in
-      rw (no_1, no_2, no_4, no_5, no_6, steps, opens, fails) (none_of (e.kind == 0) (e.kind == 3) (e.kind == 7))
+      let steps = own_steps r e.lane is_out_of_memory own e.moment in
+      let opens = own_opens r e.lane is_out_of_memory own in
+      let fails = own_fails r e.lane is_out_of_memory own in
+      rw (no_1, no_2, no_4, no_5, no_6, steps, opens, fails) (none_of (e.kind == COMMAND_KIND) (e.kind == START_KIND) (e.kind == REMOTE_FAULT_KIND))
 
 -- the place of the first fault
 first_kept : (place : ℕ) (first : Option ℕ) → Some (unwrap_or first place) ≡ first_fault place first

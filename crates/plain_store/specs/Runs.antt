@@ -28,7 +28,7 @@ Enters old new false entered = (entered ≡ None) × (new ≡ old)
 -- whether memory was wanting since the lane's own collector opened, where it is open
 abbrev pub own_of : Option Collecting → ℕ → Option Bool
 own_of None k = None
-own_of (Some c) k = if c.lane == k then Some c.is_short else None
+own_of (Some c) k = if c.lane == k then Some c.is_out_of_memory else None
 
 abbrev pub own_collector : Run → ℕ → Option Bool
 own_collector r k = own_of r.collecting k
@@ -85,7 +85,7 @@ ends_at r lane ending = ends r lane ending (next_of r lane)
 -- ---- and of a lane whose collector is open
 
 abbrev pub short_open : Run → ℕ → Run
-short_open r lane = record r { collecting = Some (record { lane = lane; is_short = true }) }
+short_open r lane = record r { collecting = Some (record { lane = lane; is_out_of_memory = true }) }
 
 abbrev pub fault_open_at : Run → ℕ → ℕ → Run
 fault_open_at r lane place = record (close_collector r lane (Refused (fault_refusal r.fault))) { fault = first_fault place r.fault }

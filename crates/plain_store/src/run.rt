@@ -17,14 +17,14 @@ use plain_sessions::Stop;
 use std::alloc::{AllocError, Global};
 use std::marker::Model;
 use store_model::Ending;
-use store_types::{Entry, Refusal};
+use store_types::{END_KIND, Entry, Refusal};
 use wire_commands::Reply;
 
 /// The lane whose collector is open, and whether memory was wanting since it opened.
 #[derive(Drop)]
 pub struct Collecting {
     pub lane: u32,
-    pub is_short: bool,
+    pub is_out_of_memory: bool,
 }
 
 impl Model for Collecting {
@@ -32,7 +32,7 @@ impl Model for Collecting {
 
     ghost Value = { model.Collecting };
 
-    ghost view = { λ c. record { lane = c.lane; is_short = c.is_short } };
+    ghost view = { λ c. record { lane = c.lane; is_out_of_memory = c.is_out_of_memory } };
 }
 
 /// The store, the remote where there is one, the lanes, the open collector, and the place of the first fault.
@@ -84,7 +84,7 @@ fn is_end(entry: Option<&Entry>) -> bool
 {
     match entry {
         None => false,
-        Some(entry) => entry.kind == 6,
+        Some(entry) => entry.kind == END_KIND,
     }
 }
 
@@ -105,11 +105,11 @@ fn is_replied(ending: Ending) -> bool
 }
 
 /// What a collector replies as it closes.
-fn collected(is_short: bool) -> Reply
-    ensures reply { result ≡ collected_by is_short }
+fn collected(is_out_of_memory: bool) -> Reply
+    ensures reply { result ≡ collected_by is_out_of_memory }
     ensures spelled { ReplyHasText result }
 {
-    if is_short {
+    if is_out_of_memory {
         return Reply::Refused(Refusal::NoMemory);
     }
     Reply::Collected {
@@ -142,7 +142,7 @@ impl<'a> Run<'a> {
     {
         let open = self.collecting.as_ref()?;
         if open.lane == lane {
-            Some(open.is_short)
+            Some(open.is_out_of_memory)
         } else {
             None
         }
@@ -245,7 +245,7 @@ impl<'a> Run<'a> {
         own.set_left(left);
         self.collecting = Some(Collecting {
             lane,
-            is_short: false,
+            is_out_of_memory: false,
         });
     }
 
@@ -586,7 +586,7 @@ impl<'a> Run<'a> {
     {
         self.collecting = Some(Collecting {
             lane,
-            is_short: true,
+            is_out_of_memory: true,
         });
     }
 
@@ -625,11 +625,11 @@ impl<'a> Run<'a> {
         place: u64,
         entry: &Entry,
         ending: Ending,
-        is_short: bool,
+        is_out_of_memory: bool,
     ) -> Result<bool, AllocError>
         requires lane { entry.now.lane < length self.old.lanes }
         requires lanes { length self.old.lanes ≤ 64 }
-        requires open { own_open self.old entry.now.lane ≡ Some is_short }
+        requires open { own_open self.old entry.now.lane ≡ Some is_out_of_memory }
         ensures enters { EntersOpen self.old self.new ending place entry.now result }
         ensures lanes { OnOk result (length self.new.lanes ≡ length self.old.lanes) }
     {
@@ -641,7 +641,7 @@ impl<'a> Run<'a> {
                 Ok(true)
             }
             4 => {
-                self.close_collector(alloc, lane, &collected(is_short))?;
+                self.close_collector(alloc, lane, &collected(is_out_of_memory))?;
                 Ok(true)
             }
             5 => {
@@ -669,8 +669,8 @@ impl<'a> Run<'a> {
         ensures lanes { OnOk result (length self.new.lanes ≡ length self.old.lanes) }
     {
         let lane = entry.lane;
-        if let Some(is_short) = self.own_collector(lane) {
-            return self.enter_open(alloc, place, entry, ending, is_short);
+        if let Some(is_out_of_memory) = self.own_collector(lane) {
+            return self.enter_open(alloc, place, entry, ending, is_out_of_memory);
         }
         match entry.kind {
             0 => self.stepped(alloc, lane, entry.moment),

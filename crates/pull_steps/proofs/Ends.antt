@@ -9,7 +9,7 @@ use Rattle.wire_commands.specs.ReplyText.{reply_text}
 use Rattle.wire_commands.specs.RefusalText.{refusal_text}
 use Rattle.wire_commands.specs.HasText.{ReplyHasText}
 use Rattle.store_history.specs.Pulling.{asks, aborting, ends, rejected}
-use Rattle.pull_steps.specs.Taken.{is_short}
+use Rattle.pull_steps.specs.Taken.{is_out_of_memory}
 
 pub no_memory_text : ReplyHasText (Refused NoMemory)
 unfolding reply_text refusal_text
@@ -20,12 +20,12 @@ pub damaged_text : (d : Digest32) → length d.0 ≡ 32 → ReplyHasText (Refuse
 unfolding reply_text refusal_text
 damaged_text d is = ((is, is), simp length-append (omega (arith, is)))
 
-pub rejected_short : (path : List ℕ) (reply : Reply) → is_short reply ≡ true → asks (aborting NoMemory) ≡ rejected path reply
+pub rejected_short : (path : List ℕ) (reply : Reply) → is_out_of_memory reply ≡ true → asks (aborting NoMemory) ≡ rejected path reply
 rejected_short path (Refused NoMemory) h = refl
 rejected_short path (Refused refusal) h = cc
 rejected_short path reply h = cc
 
-pub rejected_other : (path : List ℕ) (reply : Reply) → is_short reply ≡ false → ends (Unreadable path) reply ≡ rejected path reply
+pub rejected_other : (path : List ℕ) (reply : Reply) → is_out_of_memory reply ≡ false → ends (Unreadable path) reply ≡ rejected path reply
 rejected_other path (Refused NoMemory) h = cc
 rejected_other path (Refused refusal) h = refl
 rejected_other path reply h = refl

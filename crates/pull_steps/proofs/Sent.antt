@@ -72,11 +72,6 @@ module _ (s : Sending) where
       ≡ append_from s (drop i s.index.entries.items)
   appends_at i lt = appends_some (drop i s.index.entries.items) (left_some s.index.entries.items i lt)
 
-  pub appends_end : (i : ℕ) → length s.index.entries.items ≤ i
-      → append_from s (drop i s.index.entries.items) ≡ asks (model.closing_index (shown_course s.course) (shown_stock s.stock) (shown_index s.index))
-  unfolding next_append
-  appends_end i le = ap (append_from s) (drop_all i s.index.entries.items le)
-
 -- ---- at an entry
 
 -- what holds of every entry at hand

@@ -52,9 +52,9 @@ abbrev pub mismatched_of : Digest32 → SyncJob
 mismatched_of digest = model.stops (Damaged digest (Other digest))
 
 -- memory was wanting
-abbrev pub is_short : Reply → Bool
-is_short (Refused NoMemory) = true
-is_short reply = false
+abbrev pub is_out_of_memory : Reply → Bool
+is_out_of_memory (Refused NoMemory) = true
+is_out_of_memory reply = false
 
 -- the step has done nothing
 abbrev pub is_unread : Reply → Bool

@@ -5,7 +5,7 @@ ghost use Rattle.wire_commands.specs.HasText.{IsText, ReplyHasText};
 ghost use Rattle.wire_commands.specs.declared.reply.Reply.TheVariants.{Refused};
 ghost use Rattle.store_history.specs.Pulling.{ends, rejected, stops};
 ghost use Rattle.pull_steps.specs.States.{EndsInText, pull_in};
-ghost use Rattle.pull_steps.specs.Taken.{ended_by, is_short as tells_short, is_unread as tells_unread, mismatched_of};
+ghost use Rattle.pull_steps.specs.Taken.{ended_by, is_out_of_memory as tells_short, is_unread as tells_unread, mismatched_of};
 
 use crate::pull::State;
 use store_types::{Bytes, ChunkFault, Digest32, Refusal};
@@ -69,7 +69,7 @@ pub fn aborted(first: Refusal, reply: &Reply) -> State
 }
 
 /// Memory was wanting.
-fn is_short(reply: &Reply) -> bool
+fn is_out_of_memory(reply: &Reply) -> bool
     ensures { result ≡ tells_short reply.now }
 {
     matches!(reply, Reply::Refused(Refusal::NoMemory))
@@ -81,7 +81,7 @@ pub fn rejecting(path: Bytes, reply: &Reply) -> State
     ensures job { pull_in result ≡ rejected path reply.now }
     ensures text { EndsInText (pull_in result) }
 {
-    if is_short(reply) {
+    if is_out_of_memory(reply) {
         return State::Aborting(Refusal::NoMemory);
     }
     aborted(Refusal::Unreadable { name: path }, reply)

@@ -12,6 +12,8 @@ use Rattle.wire_commands.specs.declared.reply.Reply.TheVariants.{Refused}
 use Rattle.store_history.specs.declared.act.Act.{Act}
 use Rattle.store_history.specs.declared.act.Act.TheVariants.{Plain, JobGroup, ReadChunk, RemoteList, RemoteFile, RemoteChunk, Start, Step, Short, End}
 use Rattle.store_history.specs.declared.act.Answer.{Answer}
+use Rattle.store_history.specs.declared.act.Family.TheVariants.{Reads}
+use Rattle.store_history.specs.Acts.{family_of}
 use Rattle.core_state.specs.declared.kept.Listed.{Listed}
 use Rattle.core_state.specs.declared.kept.Session.{Session}
 use Rattle.core_state.specs.declared.state.Core.{Core}
@@ -22,7 +24,6 @@ use Rattle.core_state.specs.Unreadables.{TellsUnreadable}
 use Rattle.core_state.specs.Wanted.{session_at}
 use Rattle.core_state.proofs.Unreadables.{tells_other as none_asked}
 use Rattle.core_reader.specs.Damages.{CoreDamaged, damage_by}
-use Rattle.shared_store.specs.Asked.{is_readers}
 
 false_true : false ≡ true → ⊥
 false_true e = cc
@@ -87,24 +88,24 @@ module _ {D E C : Type 0} (d : Ghosts D) (old new : Core D E C) (refusal : Refus
 -- ---- damaged chunks
 
 -- they are told by reads alone
-never_damaged : (act : Act) (digest : Digest32) (found : ChunkFault) → is_readers act ≡ false → may_answer act (Refused (Damaged digest found)) ≡ false
-never_damaged (Plain (GetChunk id)) digest found other = cc
-never_damaged (Plain (Range file offset len)) digest found other = cc
-never_damaged (ReadChunk name entry) digest found other = cc
+never_damaged : (act : Act) (digest : Digest32) (found : ChunkFault) → (family_of act ≡ Reads → ⊥) → may_answer act (Refused (Damaged digest found)) ≡ false
+never_damaged (Plain (GetChunk id)) digest found other = absurd (other refl)
+never_damaged (Plain (Range file offset len)) digest found other = absurd (other refl)
+never_damaged (ReadChunk name entry) digest found other = absurd (other refl)
 never_damaged (JobGroup (Prune group keep dry)) digest found other = refl
 never_damaged (JobGroup command) digest found other = refl
 never_damaged act digest found other = refl
 
-no_damage : (act : Act) (session : Session) (catalogue : List Listed) (files : Files) → is_readers act ≡ false → damage_by act session catalogue files ≡ None
-no_damage (Plain (GetChunk id)) session catalogue files other = cc
-no_damage (Plain (Range file offset len)) session catalogue files other = cc
-no_damage (ReadChunk name entry) session catalogue files other = cc
+no_damage : (act : Act) (session : Session) (catalogue : List Listed) (files : Files) → (family_of act ≡ Reads → ⊥) → damage_by act session catalogue files ≡ None
+no_damage (Plain (GetChunk id)) session catalogue files other = absurd (other refl)
+no_damage (Plain (Range file offset len)) session catalogue files other = absurd (other refl)
+no_damage (ReadChunk name entry) session catalogue files other = absurd (other refl)
 no_damage act session catalogue files other = refl
 
 some_damage : (digest : Digest32) (found : ChunkFault) → ◌≡◌ {A = Option (Digest32 × ChunkFault)} None (Some (digest, found)) → ⊥
 some_damage digest found e = cc
 
-pub tells_whole : {D E C : Type 0} (d : Ghosts D) (old new : Core D E C) (lane : ℕ) (act : Act) (answer : Answer) → is_readers act ≡ false → is_remotes act ≡ false → IsCaused d old new act answer
+pub tells_whole : {D E C : Type 0} (d : Ghosts D) (old new : Core D E C) (lane : ℕ) (act : Act) (answer : Answer) → (family_of act ≡ Reads → ⊥) → is_remotes act ≡ false → IsCaused d old new act answer
     → CoreDamaged d old lane act answer
 tells_whole d old new lane act answer other alone cause = record {
   named = λ digest found e. absurd (never digest found e);

@@ -6,7 +6,7 @@ use Rattle.store_history.specs.declared.act.Act.{Act}
 use Rattle.store_history.specs.declared.act.Act.TheVariants.{Plain, ReadFile, ReadChunk, RemoteList, RemoteFile, RemoteChunk, Start, Step}
 use Rattle.store_history.specs.declared.act.Answer.{Answer}
 use Rattle.core_state.specs.declared.state.Core.{Core}
-use Rattle.core_state.specs.ByKept.{CoreTells}
+use Rattle.core_state.specs.FromState.{CoreTells}
 use Rattle.core_state.specs.Commands.{is_admins}
 use Rattle.core_reader.specs.AnsweredBy as readers
 use Rattle.core_writer.specs.AnsweredBy.{writer_told}

@@ -3,7 +3,7 @@ use Rattle.std.proofs.Common.{◌≡◌, ℕ, zero, suc, ◌+◌, ◌-◌, ◌*�
 use Rattle.std.specs.Prelude.{◌==◌, nat_lt}
 use Rattle.std.specs.FinMap.{get}
 use Rattle.std.proofs.Math.ListN.{drop_of_length-le}
-use Rattle.std.proofs.lemmas.Bool.{cases_lt, lt-ltb, le-ltb, eq-eqb, ne_eqb, not_from_true, not_from_false}
+use Rattle.std.proofs.lemmas.Bool.{cases_lt, lt-ltb, le-ltb, eq-eqb, not_from_true}
 use Rattle.std.proofs.lemmas.List.{append-nil, drop-drop, drop-take, length-drop, length-map}
 use Rattle.std.proofs.lemmas.Option.{slice_get-get_or, slice_get-map, slice_get_past}
 use Rattle.disk_trait.specs.Files.{Files}
@@ -52,24 +52,6 @@ module _ (is_fixed : Bool) (size : ℕ) where
   count_whole long even few =
       is_counted false false false (le-ltb size header_len long) (not_from_true (rest_of is_fixed size == 0) (eq-eqb (rest_of is_fixed size) 0 even))
       (le-ltb entry_limit (count_of is_fixed size) few)
-
-  pub count_short : size < header_len → entry_count is_fixed size ≡ None
-  count_short short = is_counted true _ _ (lt-ltb size header_len short) refl refl
-
-  pub count_uneven : (rest_of is_fixed size ≡ 0 → ⊥) → entry_count is_fixed size ≡ None
-  count_uneven uneven = by_short (nat_lt size header_len) refl
-    where
-      odd : not (rest_of is_fixed size == 0) ≡ true
-      odd = not_from_false (rest_of is_fixed size == 0) (ne_eqb (rest_of is_fixed size) 0 uneven)
-
-      by_short : (short : Bool) → nat_lt size header_len ≡ short → entry_count is_fixed size ≡ None
-      by_short true is = is_counted true true _ is odd refl
-      by_short false is = is_counted false true _ is odd refl
-
-  pub count_many : header_len ≤ size → rest_of is_fixed size ≡ 0 → entry_limit < count_of is_fixed size → entry_count is_fixed size ≡ None
-  count_many long even many =
-      is_counted false false true (le-ltb size header_len long) (not_from_true (rest_of is_fixed size == 0) (eq-eqb (rest_of is_fixed size) 0 even))
-      (lt-ltb entry_limit (count_of is_fixed size) many)
 
 -- ---- what is told of a file, by what stands there
 

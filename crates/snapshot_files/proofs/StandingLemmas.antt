@@ -57,10 +57,6 @@ temporary_apart snapshots key name each is plain lacks =
 
 -- ---- a file that doesn't matter
 
-installed_others : (files : Files) (path bytes q : List ℕ) → q ≢ path → q ≢ temporary path → get (installed files path bytes) q ≡ get files q
-installed_others files path bytes q ne other =
-    placed_other (remove files (temporary path)) path (Some bytes) q ne ∙ placed_other files (temporary path) None q other
-
 -- without what stands at a name that doesn't matter
 stands_but : (snapshots : List Snapshot) (name : List ℕ) (b c : Files) → Apart snapshots name → SameBut name b c → StandsFor b snapshots → StandsFor c snapshots
 stands_but snapshots name b c apart same s =

@@ -6,9 +6,8 @@ use Rattle.disk_trait.specs.Files.{Files}
 use Rattle.store_types.specs.Chain.Refusing.{◌>>=◌, or_else, unless}
 use Rattle.store_types.specs.declared.refusal.Refusal.{Refusal}
 use Rattle.store_types.specs.declared.refusal.Refusal.TheVariants.{BadRange, Unreadable}
-use Rattle.wire_commands.specs.HasText.{ReplyHasText}
 use Rattle.wire_commands.specs.declared.reply.Reply.{Reply}
-use Rattle.wire_commands.specs.declared.reply.Reply.TheVariants.{Part, Refused}
+use Rattle.wire_commands.specs.declared.reply.Reply.TheVariants.{Part}
 use Rattle.store_model.specs.WriterSteps.{part_of}
 use Rattle.snapshot_files.specs.declared.read_error.ReadError.{ReadError}
 use Rattle.snapshot_files.specs.Reads.{Gives}
@@ -40,11 +39,6 @@ RefusesPart path refusal = ⊥
 abbrev pub IsPartOf : List ℕ → Result Reply Refusal → Type 0
 IsPartOf path (Ok reply) = IsPart reply
 IsPartOf path (Err refusal) = RefusesPart path refusal
-
--- a part or its refusal, which has a spelling
-abbrev pub GivesText : Result Reply Refusal → Type 0
-GivesText (Ok reply) = ReplyHasText reply
-GivesText (Err refusal) = ReplyHasText (Refused refusal)
 
 -- of an honest disk: the part is that of the file at the path, or the refusal
 abbrev pub ReadsPart : {D : Type 0} → Ghosts D → D → List ℕ → ℕ → Result Reply ReadError → Type 0

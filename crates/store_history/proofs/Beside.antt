@@ -169,18 +169,18 @@ asks_no_other (finishing c) h = h
 -- ---- after an answer
 
 -- the position that `weave` has goes on with the lane's own
-pub besides : (R : Option (List Snapshot)) (s : Store) (k : ℕ) (L : List Snapshot) (p : Position) (j : Asking) (next : SyncJob) (job : Job) (left : List ℕ) (is_short is_spent : Bool)
+pub besides : (R : Option (List Snapshot)) (s : Store) (k : ℕ) (L : List Snapshot) (p : Position) (j : Asking) (next : SyncJob) (job : Job) (left : List ℕ) (is_out_of_memory is_spent : Bool)
     → R ≡ Some L → p.collecting ≡ None → ShowsJob L next job
-    → Beside R s k (record (pulls_on p left next) { is_short = is_short; is_spent = is_spent }) (record (goes_on (shown p j) left job) { is_short = is_short; is_spent = is_spent })
+    → Beside R s k (record (pulls_on p left next) { is_out_of_memory = is_out_of_memory; is_spent = is_spent }) (record (goes_on (shown p j) left job) { is_out_of_memory = is_out_of_memory; is_spent = is_spent })
 unfolding pulls_on goes_on
-besides R s k L p j (reports r) job left is_short is_spent there shut h =
-    ap (λ (y : Job). record (goes_on (shown p j) left y) { is_short = is_short; is_spent = is_spent }) h
-besides R s k L p j (asks x) job left is_short is_spent there shut h =
+besides R s k L p j (reports r) job left is_out_of_memory is_spent there shut h =
+    ap (λ (y : Job). record (goes_on (shown p j) left y) { is_out_of_memory = is_out_of_memory; is_spent = is_spent }) h
+besides R s k L p j (asks x) job left is_out_of_memory is_spent there shut h =
     inr (record {
       list = L;
       job = h.0;
       there = there;
-      is = ap (λ (y : Job). record (goes_on (shown p j) left y) { is_short = is_short; is_spent = is_spent }) h.1;
+      is = ap (λ (y : Job). record (goes_on (shown p j) left y) { is_out_of_memory = is_out_of_memory; is_spent = is_spent }) h.1;
       shut = shut;
       shows = h.2;
     })

@@ -27,7 +27,7 @@ pub collects_is : (k : ℕ) (c : Option Collecting) → collects k c ≡ is_some
 collects_is k None = refl
 collects_is k (Some c) = by_test (c.lane == k)
   where
-    by_test : (t : Bool) → t ≡ is_some (if t then Some c.is_short else None)
+    by_test : (t : Bool) → t ≡ is_some (if t then Some c.is_out_of_memory else None)
     by_test true = refl
     by_test false = refl
 
@@ -38,15 +38,15 @@ pub cut_none : (k : ℕ) (c : Option Collecting) → open_on k c ≡ None → cu
 cut_none k None h = refl
 cut_none k (Some c) h = by_test (c.lane == k) h
   where
-    by_test : (t : Bool) → (if t then Some c.is_short else None) ≡ None → (if t then new_collecting k true else Some c) ≡ Some c
-    by_test true h = absurd (some_none c.is_short h)
+    by_test : (t : Bool) → (if t then Some c.is_out_of_memory else None) ≡ None → (if t then new_collecting k true else Some c) ≡ Some c
+    by_test true h = absurd (some_none c.is_out_of_memory h)
     by_test false h = refl
 
 pub cut_some : (k : ℕ) (c : Option Collecting) (b : Bool) → open_on k c ≡ Some b → cut_on k c ≡ new_collecting k true
 cut_some k None b h = absurd (some_none b (sym h))
 cut_some k (Some c) b h = by_test (c.lane == k) h
   where
-    by_test : (t : Bool) → (if t then Some c.is_short else None) ≡ Some b → (if t then new_collecting k true else Some c) ≡ new_collecting k true
+    by_test : (t : Bool) → (if t then Some c.is_out_of_memory else None) ≡ Some b → (if t then new_collecting k true else Some c) ≡ new_collecting k true
     by_test true h = refl
     by_test false h = absurd (some_none b (sym h))
 
@@ -54,15 +54,15 @@ pub closed_none : (k : ℕ) (c : Option Collecting) → open_on k c ≡ None →
 closed_none k None h = refl
 closed_none k (Some c) h = by_test (c.lane == k) h
   where
-    by_test : (t : Bool) → (if t then Some c.is_short else None) ≡ None → (if t then None else Some c) ≡ Some c
-    by_test true h = absurd (some_none c.is_short h)
+    by_test : (t : Bool) → (if t then Some c.is_out_of_memory else None) ≡ None → (if t then None else Some c) ≡ Some c
+    by_test true h = absurd (some_none c.is_out_of_memory h)
     by_test false h = refl
 
 pub closed_some : (k : ℕ) (c : Option Collecting) (b : Bool) → open_on k c ≡ Some b → closed_on k c ≡ None
 closed_some k None b h = refl
 closed_some k (Some c) b h = by_test (c.lane == k) h
   where
-    by_test : (t : Bool) → (if t then Some c.is_short else None) ≡ Some b → (if t then None else Some c) ≡ None
+    by_test : (t : Bool) → (if t then Some c.is_out_of_memory else None) ≡ Some b → (if t then None else Some c) ≡ None
     by_test true h = refl
     by_test false h = absurd (some_none b (sym h))
 
@@ -76,8 +76,8 @@ pub other_none : (j k : ℕ) (c : Option Collecting) (b : Bool) → j ≢ k → 
 other_none j k None b ne h = refl
 other_none j k (Some c) b ne h = by_test (c.lane == k) refl h
   where
-    by_test : (t : Bool) → (c.lane == k) ≡ t → (if t then Some c.is_short else None) ≡ Some b → (if c.lane == j then Some c.is_short else None) ≡ None
-    by_test true is h = ap (λ t. if t then Some c.is_short else None) (not_eq c.lane j (λ e. ne (sym e ∙ eqb-true c.lane k is)))
+    by_test : (t : Bool) → (c.lane == k) ≡ t → (if t then Some c.is_out_of_memory else None) ≡ Some b → (if c.lane == j then Some c.is_out_of_memory else None) ≡ None
+    by_test true is h = ap (λ t. if t then Some c.is_out_of_memory else None) (not_eq c.lane j (λ e. ne (sym e ∙ eqb-true c.lane k is)))
     by_test false is h = absurd (some_none b (sym h))
 
 pub new_other : (j k : ℕ) (b : Bool) → j ≢ k → open_on j (new_collecting k b) ≡ None

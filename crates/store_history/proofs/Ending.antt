@@ -6,6 +6,7 @@ use Rattle.store_types.specs.declared.refusal.Refusal.{Refusal}
 use Rattle.store_types.specs.declared.refusal.Refusal.TheVariants.{BadFrame, TooLong}
 use Rattle.store_types.specs.declared.refusal.Refusal.TheVariants.{BadBlob as BadBlobOf}
 use Rattle.store_types.specs.declared.refusal.BadBlob.{BadBlob}
+use Rattle.store_types.specs.declared.order.TheConstants.{MEMORY_KIND, FAULT_KIND, END_KIND}
 use Rattle.blob_codec.specs.Blob.{data_of}
 use Rattle.wire_frames.specs.Frames.{short, cut}
 use Rattle.wire_commands.specs.declared.command.Command.{Command}
@@ -42,7 +43,7 @@ next_shut p x is shut = sym (open_is p) ∙ ap open_at is ∙ shut
 pub next_is : (p : Position) (f : InputFront) → p.collecting ≡ None → p.job ≡ None → front p.left ≡ f → next_at p ≡ front_next (p.size - length p.left) f
 unfolding next_at lane_next
 next_is p f shut off is =
-    ap (λ (o : Option Bool). elim o [ None ↦ lane_next (lane_of p) | Some is_short ↦ collecting is_short ]) shut
+    ap (λ (o : Option Bool). elim o [ None ↦ lane_next (lane_of p) | Some is_out_of_memory ↦ collecting is_out_of_memory ]) shut
     ∙ ap (λ (o : Option Asking). elim o [ None ↦ front_next (p.size - length p.left) (front p.left) | Some j ↦ job_step j p.left ]) off
     ∙ ap (λ x. front_next (p.size - length p.left) x) is
 
@@ -84,13 +85,13 @@ next_job p c j left shut off is some = next_is p (next c left) shut off is ∙ j
 pub next_open : (p : Position) (j : Asking) → p.collecting ≡ None → p.job ≡ Some j → next_at p ≡ job_step j p.left
 unfolding next_at lane_next
 next_open p j shut is =
-    ap (λ (o : Option Bool). elim o [ None ↦ lane_next (lane_of p) | Some is_short ↦ collecting is_short ]) shut
+    ap (λ (o : Option Bool). elim o [ None ↦ lane_next (lane_of p) | Some is_out_of_memory ↦ collecting is_out_of_memory ]) shut
     ∙ ap (λ (o : Option Asking). elim o [ None ↦ front_next (p.size - length p.left) (front p.left) | Some i ↦ job_step i p.left ]) is
 
 -- an open collector's act
 pub next_collecting : (p : Position) (b : Bool) → p.collecting ≡ Some b → next_at p ≡ collecting b
 unfolding next_at
-next_collecting p b is = ap (λ (o : Option Bool). elim o [ None ↦ lane_next (lane_of p) | Some is_short ↦ collecting is_short ]) is
+next_collecting p b is = ap (λ (o : Option Bool). elim o [ None ↦ lane_next (lane_of p) | Some is_out_of_memory ↦ collecting is_out_of_memory ]) is
 
 pub plain_command : (c : Command) → IsPlain c → IsCommand c
 plain_command (commands.Chunk digest blob) h = absurd h
@@ -104,10 +105,6 @@ plain_command c h = tt
 
 pub next_plain : (p : Position) (c : Command) (left : List ℕ) → p.collecting ≡ None → p.job ≡ None → front p.left ≡ next c left → IsPlain c → next_at p ≡ plain c left
 next_plain p c left shut off is h = next_command p c left shut off is (plain_command c h)
-
-pub next_gc : (p : Position) (left : List ℕ) → p.collecting ≡ None → p.job ≡ None → front p.left ≡ next commands.Gc left → next_at p ≡ collect left
-unfolding front_next command_next
-next_gc p left shut off is = next_is p (next commands.Gc left) shut off is
 
 pub next_bye : (p : Position) (left : List ℕ) → p.collecting ≡ None → p.job ≡ None → front p.left ≡ next commands.Bye left → next_at p ≡ bye
 unfolding front_next command_next
@@ -157,53 +154,37 @@ is_checked bytes = by_result (data_of bytes) refl
 pub is_formed : (c : Command) → IsCommand c → IsWellFormed (act_of_command c)
 is_formed (commands.Chunk digest blob) h = is_checked_chunk digest blob
 is_formed (commands.Blob file blob) h = is_checked blob
-is_formed (commands.Previous file offset) h = tt
-is_formed (commands.NewFixed file size chunk_size) h = tt
-is_formed (commands.NewDynamic file) h = tt
-is_formed (commands.Append number entries) h = tt
-is_formed (commands.CloseIndex number count size csum) h = tt
-is_formed commands.Bye h = absurd h
-is_formed (commands.OpenWriter snapshot) h = tt
-is_formed commands.Finish h = tt
-is_formed commands.Abort h = tt
-is_formed (commands.OpenReader snapshot) h = tt
-is_formed (commands.Download file offset) h = tt
-is_formed (commands.GetChunk digest) h = tt
-is_formed (commands.Range file offset len) h = tt
-is_formed commands.CloseReader h = tt
-is_formed (commands.List after) h = tt
-is_formed (commands.Files snapshot) h = tt
-is_formed (commands.Forget snapshot) h = tt
 is_formed (commands.Prune group keep dry) h = absurd h
 is_formed (commands.Verify snapshot) h = absurd h
 is_formed (commands.Sync group) h = absurd h
 is_formed commands.Gc h = absurd h
-is_formed (commands.Group group) h = tt
+is_formed commands.Bye h = absurd h
+is_formed c h = tt
 
 -- ---- one more command
 
 pub heard_plain : (p : Position) (c : Command) (left : List ℕ) (a : Answer) (r : Reply) → p.pull ≡ None → next_at p ≡ plain c left → a.reply ≡ Some r
-    → heard p a ≡ record p { left = left; job = None; pull = None; is_short = (a.entry).kind == 2; is_spent = a.last || p.is_spent; told = p.told ++ r ∷ [] }
+    → heard p a ≡ record p { left = left; job = None; pull = None; is_out_of_memory = (a.entry).kind == MEMORY_KIND; is_spent = a.last || p.is_spent; told = p.told ++ r ∷ [] }
 unfolding heard_at
 heard_plain p c left a r idle is says =
-    let flag : Option Bool → Position → Position = λ o q. record q { is_short = wants (a.entry).kind o; is_spent = a.last || q.is_spent } in
+    let flag : Option Bool → Position → Position = λ o q. record q { is_out_of_memory = wants (a.entry).kind o; is_spent = a.last || q.is_spent } in
     heard_idle p a idle
     ∙ ap (λ x. flag p.collecting (heard_at p (a.entry).kind a.reply x)) is
     ∙ ap (λ (x : Option Reply). flag p.collecting (heard_at p (a.entry).kind x (plain c left))) says
     ∙ ap (λ (o : Option Bool). flag o (heard_at p (a.entry).kind (Some r) (plain c left))) (next_shut p (plain c left) is refl)
 
 -- what is no command is used up
-pub heard_broken : (p : Position) (refusal : Refusal) (a : Answer) (r : Reply) → p.pull ≡ None → next_at p ≡ broken refusal → a.reply ≡ Some r → (a.entry).kind ≡ 2
-    → heard p a ≡ record p { left = []; job = None; pull = None; is_short = true; is_spent = true; told = p.told ++ r ∷ [] }
+pub heard_broken : (p : Position) (refusal : Refusal) (a : Answer) (r : Reply) → p.pull ≡ None → next_at p ≡ broken refusal → a.reply ≡ Some r → (a.entry).kind ≡ MEMORY_KIND
+    → heard p a ≡ record p { left = []; job = None; pull = None; is_out_of_memory = true; is_spent = true; told = p.told ++ r ∷ [] }
 unfolding heard_at
 heard_broken p refusal a r idle is says two =
-    let flag : Option Bool → ℕ → Position → Position = λ o n q. record q { is_short = wants n o; is_spent = a.last || q.is_spent } in
+    let flag : Option Bool → ℕ → Position → Position = λ o n q. record q { is_out_of_memory = wants n o; is_spent = a.last || q.is_spent } in
     heard_idle p a idle
     ∙ ap (λ x. flag p.collecting (a.entry).kind (heard_at p (a.entry).kind a.reply x)) is
     ∙ ap (λ (x : Option Reply). flag p.collecting (a.entry).kind (heard_at p (a.entry).kind x (broken refusal))) says
     ∙ ap (λ (o : Option Bool). flag o (a.entry).kind (heard_at p (a.entry).kind (Some r) (broken refusal))) (next_shut p (broken refusal) is refl)
     ∙ ap (λ n. flag None n (heard_at p n (Some r) (broken refusal))) two
-    ∙ ap (λ b. record p { left = []; job = None; pull = None; is_short = true; is_spent = b; told = p.told ++ r ∷ [] }) (or_true a.last)
+    ∙ ap (λ b. record p { left = []; job = None; pull = None; is_out_of_memory = true; is_spent = b; told = p.told ++ r ∷ [] }) (or_true a.last)
   where
     or_true : (b : Bool) → (b || true) ≡ true
     or_true true = refl
@@ -223,14 +204,14 @@ follows_short p c left v idle on off is may asks =
 -- the lane went on by a command, which was answered
 pub leads_command : (vs : List Event) (p q : Position) (c : Command) (left : List ℕ) (v : Event) (r : Reply) → Leads p vs q → q.pull ≡ None → q.is_spent ≡ false
     → next_at q ≡ plain c left → v.act ≡ act_of_command c → reply v ≡ Some r
-    → Leads p (vs ++ v ∷ []) (record q { left = left; job = None; pull = None; is_short = kind v == 2; is_spent = (v.answer).last || q.is_spent; told = q.told ++ r ∷ [] })
+    → Leads p (vs ++ v ∷ []) (record q { left = left; job = None; pull = None; is_out_of_memory = kind v == MEMORY_KIND; is_spent = (v.answer).last || q.is_spent; told = q.told ++ r ∷ [] })
 leads_command vs p q c left v r led idle on is asks says =
     subst (λ x. Leads p (vs ++ v ∷ []) x) (heard_plain q c left v.answer r idle is says) (leads_more vs p q v led (follows_command q c left v idle on is asks))
 
 -- or memory was wanting for it
 pub leads_short : (vs : List Event) (p q : Position) (c : Command) (left : List ℕ) (v : Event) (r : Reply) → Leads p vs q → q.pull ≡ None → q.is_spent ≡ false → q.job ≡ None
     → next_at q ≡ plain c left → may_want q.left ≡ true → v.act ≡ acts.Short → reply v ≡ Some r
-    → Leads p (vs ++ v ∷ []) (record q { left = left; job = None; pull = None; is_short = kind v == 2; is_spent = (v.answer).last || q.is_spent; told = q.told ++ r ∷ [] })
+    → Leads p (vs ++ v ∷ []) (record q { left = left; job = None; pull = None; is_out_of_memory = kind v == MEMORY_KIND; is_spent = (v.answer).last || q.is_spent; told = q.told ++ r ∷ [] })
 leads_short vs p q c left v r led idle on off is may asks says =
     subst (λ x. Leads p (vs ++ v ∷ []) x) (heard_plain q c left v.answer r idle is says) (leads_more vs p q v led (follows_short q c left v idle on off is may asks))
 
@@ -244,7 +225,7 @@ short_runs e q v vs told off apart on shut idle may asks runs =
     subst (λ c. (q.is_over ≡ false) × Does c e q v vs × Runs e (heard_as c e q v.answer) vs told) (sym (ap class_of asks)) (off, (on, wants_frame q apart shut idle may), runs)
 
 -- the lane's end
-pub end_runs : (e : Ending) (q : Position) (v : Event) → q.is_over ≡ false → q.collecting ≡ None → q.pull ≡ None → v.act ≡ acts.End → kind v ≡ 6 → EndsSo e q (next_at q)
+pub end_runs : (e : Ending) (q : Position) (v : Event) → q.is_over ≡ false → q.collecting ≡ None → q.pull ≡ None → v.act ≡ acts.End → kind v ≡ END_KIND → EndsSo e q (next_at q)
     → Runs e q (v ∷ []) (last_words e q (next_at q)).told
 unfolding position_after
 end_runs e q v off shut idle asks six so =
@@ -265,7 +246,7 @@ heard_at_same q r (job_step j left) h = cc
 heard_at_same q r (plain c left) h = cc
 heard_at_same q r (sync group left) h = cc
 heard_at_same q r (collect left) h = cc
-heard_at_same q r (collecting is_short) h = cc
+heard_at_same q r (collecting is_out_of_memory) h = cc
 heard_at_same q (Some r) (broken refusal) h = refl
 heard_at_same q (Some r) bye h = refl
 heard_at_same q (Some r) end h = refl
@@ -278,7 +259,7 @@ clean_further q (job_step j left) h = absurd h
 clean_further q (plain c left) h = absurd h
 clean_further q (sync group left) h = absurd h
 clean_further q (collect left) h = absurd h
-clean_further q (collecting is_short) h = absurd h
+clean_further q (collecting is_out_of_memory) h = absurd h
 clean_further q bye h = refl
 clean_further q (broken refusal) h = refl
 clean_further q end h = refl
@@ -288,7 +269,7 @@ broken_further place q (job_step j left) h = absurd h
 broken_further place q (plain c left) h = absurd h
 broken_further place q (sync group left) h = absurd h
 broken_further place q (collect left) h = absurd h
-broken_further place q (collecting is_short) h = absurd h
+broken_further place q (collecting is_out_of_memory) h = absurd h
 broken_further place q bye h = refl
 broken_further place q (broken refusal) h = refl
 broken_further place q end h = refl
@@ -325,8 +306,8 @@ heard_idles q (Some r) (sync group left) idle = refl
 heard_idles q None (sync group left) idle = idle
 heard_idles q (Some r) (collect left) idle = refl
 heard_idles q None (collect left) idle = idle
-heard_idles q (Some r) (collecting is_short) idle = refl
-heard_idles q None (collecting is_short) idle = idle
+heard_idles q (Some r) (collecting is_out_of_memory) idle = refl
+heard_idles q None (collecting is_out_of_memory) idle = idle
 heard_idles q (Some r) (broken refusal) idle = idle
 heard_idles q None (broken refusal) idle = idle
 heard_idles q (Some r) bye idle = idle
@@ -343,7 +324,7 @@ faulted_ends endings.SourceFault q r shut idle off so = same_ends endings.Source
 faulted_ends endings.SourceTooLong q r shut idle off so = same_ends endings.SourceTooLong q r shut idle off (λ h. cc) so
 
 -- the end met a fault, and came again
-pub end_again_runs : (e : Ending) (q : Position) (v u : Event) → q.collecting ≡ None → q.pull ≡ None → q.job ≡ None → q.is_over ≡ false → v.act ≡ acts.End → kind v ≡ 5 → u.act ≡ acts.End → kind u ≡ 6 → EndsSo e q (next_at q)
+pub end_again_runs : (e : Ending) (q : Position) (v u : Event) → q.collecting ≡ None → q.pull ≡ None → q.job ≡ None → q.is_over ≡ false → v.act ≡ acts.End → kind v ≡ FAULT_KIND → u.act ≡ acts.End → kind u ≡ END_KIND → EndsSo e q (next_at q)
     → Runs e q (v ∷ u ∷ []) (last_words e (end_faulted e q (reply v)) (next_at (end_faulted e q (reply v)))).told
 unfolding position_after
 end_again_runs e q v u shut idle closed off asks five again six so =

@@ -35,6 +35,7 @@ use Rattle.store_history.specs.declared.act.Answer.{Answer}
 use Rattle.store_history.specs.declared.act.Event.{Event}
 use Rattle.blob_codec.specs.Blob.{data_of}
 use Rattle.store_types.specs.declared.refusal.Refusal.TheVariants.{BadBlob, BadName, NoRemote, RemoteFault}
+use Rattle.store_types.specs.declared.order.TheConstants.{FAULT_KIND}
 use Rattle.store_history.specs.Acts.{act_of_command, act_of_step, check_blob, Class, stepping, reaching, starting, sweeping, wanting, ending, class_of}
 use Rattle.store_history.specs.History.{World, open_on, new_collecting, cut_on, halted_on, data_in, act_outcome, moved, EntryKind, kind_of, step_kind, pass_kind, short_kind, start_kind, close_kind, fault_kind, end_kind, remote_kind, no_kind, lane, moment, kind, reply}
 use Rattle.store_history.specs.Legal.{Right, Says, Refuses, Reports, may_open, collecting_on}
@@ -103,7 +104,7 @@ FitsNext (job_step j left) c = IsStepping c
 FitsNext (plain d left) c = IsStepping c
 FitsNext (sync group left) c = IsReaching c
 FitsNext (collect left) c = IsStarting c
-FitsNext (collecting is_short) c = IsSweeping c
+FitsNext (collecting is_out_of_memory) c = IsSweeping c
 FitsNext _ c = ⊥
 
 pub asks_class : (n : Next) (a : Act) → Asks n a → FitsNext n (class_of a)
@@ -111,7 +112,7 @@ asks_class (job_step j left) a asks = subst (λ x. IsStepping (class_of x)) (sym
 asks_class (plain c left) a asks = subst (λ x. IsStepping (class_of x)) (sym asks) (subst IsStepping (sym (command_class c)) tt)
 asks_class (sync group left) a asks = subst (λ x. IsReaching (class_of x)) (sym asks) tt
 asks_class (collect left) a asks = subst (λ x. IsStarting (class_of x)) (sym asks) tt
-asks_class (collecting is_short) a asks = subst (λ x. IsSweeping (class_of x)) (sym asks) tt
+asks_class (collecting is_out_of_memory) a asks = subst (λ x. IsSweeping (class_of x)) (sym asks) tt
 asks_class bye a asks = absurd asks
 asks_class (broken refusal) a asks = absurd asks
 asks_class end a asks = absurd asks
@@ -120,7 +121,7 @@ fits_end : (n : Next) → FitsNext n ending → ⊥
 fits_end (job_step j left) h = h
 fits_end (plain c left) h = h
 fits_end (collect left) h = h
-fits_end (collecting is_short) h = h
+fits_end (collecting is_out_of_memory) h = h
 fits_end (sync group left) h = h
 fits_end bye h = h
 fits_end (broken refusal) h = h
@@ -133,7 +134,7 @@ pub asks_goes : (n : Next) (a : Act) → Asks n a → Goes n
 asks_goes (job_step j left) a asks = tt
 asks_goes (plain c left) a asks = tt
 asks_goes (collect left) a asks = tt
-asks_goes (collecting is_short) a asks = tt
+asks_goes (collecting is_out_of_memory) a asks = tt
 asks_goes (sync group left) a asks = tt
 asks_goes bye a asks = asks
 asks_goes (broken refusal) a asks = tt
@@ -180,9 +181,9 @@ pub next_plain : (p : Position) → ArePlain p.job → IsPlainNext (next_at p)
 unfolding next_at
 next_plain p h = by_collecting p.collecting
   where
-    by_collecting : (o : Option Bool) → IsPlainNext (elim o [ None ↦ lane_next (lane_of p) | Some is_short ↦ collecting is_short ])
+    by_collecting : (o : Option Bool) → IsPlainNext (elim o [ None ↦ lane_next (lane_of p) | Some is_out_of_memory ↦ collecting is_out_of_memory ])
     by_collecting None = lane_plain (lane_of p) h
-    by_collecting (Some is_short) = tt
+    by_collecting (Some is_out_of_memory) = tt
 
 -- ---- the group of a SYNC
 
@@ -372,9 +373,9 @@ module _ (R : Option (List Snapshot)) (w : World) (ps : List Position) (k m : �
   all_stepped a (collect left) r asks knows kept =
       subst (λ x. Right R w k m x r (class_of x) step_kind → Becomes x step_kind 0 r (collect left) (stepped run k m (collect left))) (sym asks)
       (λ right. start_refused left r (may_open w k) refl right.1)
-  all_stepped a (collecting is_short) r asks knows kept =
-      subst (λ x. Right R w k m x r (class_of x) step_kind → Becomes x step_kind 0 r (collecting is_short) (stepped run k m (collecting is_short))) (sym asks)
-      (λ right. absurd (some_none is_short (knows ∙ right.1)))
+  all_stepped a (collecting is_out_of_memory) r asks knows kept =
+      subst (λ x. Right R w k m x r (class_of x) step_kind → Becomes x step_kind 0 r (collecting is_out_of_memory) (stepped run k m (collecting is_out_of_memory))) (sym asks)
+      (λ right. absurd (some_none is_out_of_memory (knows ∙ right.1)))
   all_stepped a (sync group left) r asks knows kept =
       subst (λ x. Right R w k m x r (class_of x) step_kind → Becomes x step_kind 0 r (sync group left) (stepped run k m (sync group left))) (sym asks)
       (λ right. sync_refused group left r (to_pull R w.store k group) refl right.1)
@@ -398,8 +399,8 @@ module _ (R : Option (List Snapshot)) (w : World) (ps : List Position) (k m : �
       ap Some (sym (keep_is R w ps k (heard_at p 1 r (sync group left)) (ap (λ (y : Option Reply). lane_of (heard_at p 1 y (sync group left))) told.1)))
 
   all_passed : (a : Act) (n : Next) (r : Option Reply) → Asks n a → Right R w k m a r (class_of a) pass_kind → Becomes a pass_kind 1 r n (passed run n)
-  all_passed a (collecting is_short) r asks right =
-      sweep_passes a is_short r (subst (λ x. Right R w k m x r (class_of x) pass_kind) asks right).2
+  all_passed a (collecting is_out_of_memory) r asks right =
+      sweep_passes a is_out_of_memory r (subst (λ x. Right R w k m x r (class_of x) pass_kind) asks right).2
   all_passed a (sync group left) r asks right =
       let h = subst (λ x. Right R w k m x r (class_of x) pass_kind) asks right in reach_passes a group left r h.1 h.2
   all_passed a (job_step j left) r asks right = absurd (no_step_pass a r (class_of a) (asks_class (job_step j left) a asks) right)
@@ -423,7 +424,7 @@ module _ (R : Option (List Snapshot)) (w : World) (ps : List Position) (k m : �
   all_failed a (job_step j left) r asks right = absurd (no_step_fails a r (class_of a) (asks_class (job_step j left) a asks) right)
   all_failed a (plain c left) r asks right = absurd (no_step_fails a r (class_of a) (asks_class (plain c left) a asks) right)
   all_failed a (collect left) r asks right = absurd (no_start_fails a r (class_of a) (asks_class (collect left) a asks) right)
-  all_failed a (collecting is_short) r asks right = absurd (no_sweep_fails a r (class_of a) (asks_class (collecting is_short) a asks) right)
+  all_failed a (collecting is_out_of_memory) r asks right = absurd (no_sweep_fails a r (class_of a) (asks_class (collecting is_out_of_memory) a asks) right)
   all_failed a bye r asks right = absurd asks
   all_failed a (broken refusal) r asks right = absurd asks
   all_failed a end r asks right = absurd asks
@@ -449,11 +450,11 @@ module _ (R : Option (List Snapshot)) (w : World) (ps : List Position) (k m : �
   all_short a (collect left) r goes knows kept h =
       ap Some (told_as w left (Refused NoMemory) (heard_at p 2 r (collect left)) refl (ap (λ x. heard_at p 2 x (collect left)) h)
       ∙ same_open (cut_on k w.collecting) (slice_set ps k (heard_at p 2 r (collect left))) (not_cut (collect left) knows refl))
-  all_short a (collecting is_short) r goes knows kept h =
+  all_short a (collecting is_out_of_memory) r goes knows kept h =
       ap Some (
-      ap (λ x. record run { collecting = x }) (sym (cut_some k w.collecting is_short (sym knows)))
-      ∙ sym (keep_is R (record w { collecting = cut_on k w.collecting }) ps k (heard_at p 2 r (collecting is_short))
-      (ap (λ (y : Option Reply). lane_of (heard_at p 2 y (collecting is_short))) h))
+      ap (λ x. record run { collecting = x }) (sym (cut_some k w.collecting is_out_of_memory (sym knows)))
+      ∙ sym (keep_is R (record w { collecting = cut_on k w.collecting }) ps k (heard_at p 2 r (collecting is_out_of_memory))
+      (ap (λ (y : Option Reply). lane_of (heard_at p 2 y (collecting is_out_of_memory))) h))
       )
   all_short a (broken refusal) r goes knows kept h =
       ap Some (
@@ -481,7 +482,7 @@ module _ (R : Option (List Snapshot)) (w : World) (ps : List Position) (k m : �
   all_started a (collect left) r fits can h = start_opens a left r can h
   all_started a (job_step j left) r fits can h = absurd fits
   all_started a (plain c left) r fits can h = absurd fits
-  all_started a (collecting is_short) r fits can h = absurd fits
+  all_started a (collecting is_out_of_memory) r fits can h = absurd fits
   all_started a (sync group left) r fits can h = absurd fits
   all_started a bye r fits can h = absurd fits
   all_started a (broken refusal) r fits can h = absurd fits
@@ -509,7 +510,7 @@ module _ (R : Option (List Snapshot)) (w : World) (ps : List Position) (k m : �
 
   all_closed : (a : Act) (n : Next) (r : Option Reply) → FitsNext n sweeping → open_at n ≡ collecting_on w k → Reports (collecting_on w k) r
       → Becomes a close_kind 4 r n (closes run k n)
-  all_closed a (collecting is_short) r fits knows h = step_closes a is_short r (subst (λ o. Reports o r) (sym knows) h)
+  all_closed a (collecting is_out_of_memory) r fits knows h = step_closes a is_out_of_memory r (subst (λ o. Reports o r) (sym knows) h)
   all_closed a (job_step j left) r fits knows h = absurd fits
   all_closed a (plain c left) r fits knows h = absurd fits
   all_closed a (collect left) r fits knows h = absurd fits
@@ -522,7 +523,7 @@ module _ (R : Option (List Snapshot)) (w : World) (ps : List Position) (k m : �
 
   -- the collector that met the fault is no longer open
   abbrev halted_at : Next → Option Collecting
-  halted_at n = elim (open_at n) [ None ↦ w.collecting | Some is_short ↦ None ]
+  halted_at n = elim (open_at n) [ None ↦ w.collecting | Some is_out_of_memory ↦ None ]
 
   asks_halted : (n : Next) (c : Class) → FitsNext n c → open_at n ≡ collecting_on w k → halted_on k c w.collecting ≡ halted_at n
   asks_halted (job_step j left) stepping fits knows = refl
@@ -533,8 +534,8 @@ module _ (R : Option (List Snapshot)) (w : World) (ps : List Position) (k m : �
   asks_halted (plain d left) c fits knows = absurd fits
   asks_halted (collect left) starting fits knows = refl
   asks_halted (collect left) c fits knows = absurd fits
-  asks_halted (collecting is_short) sweeping fits knows = closed_some k w.collecting is_short (sym knows)
-  asks_halted (collecting is_short) c fits knows = absurd fits
+  asks_halted (collecting is_out_of_memory) sweeping fits knows = closed_some k w.collecting is_out_of_memory (sym knows)
+  asks_halted (collecting is_out_of_memory) c fits knows = absurd fits
   asks_halted (sync group left) reaching fits knows = refl
   asks_halted (sync group left) c fits knows = absurd fits
   asks_halted bye c fits knows = absurd fits
@@ -542,7 +543,7 @@ module _ (R : Option (List Snapshot)) (w : World) (ps : List Position) (k m : �
   asks_halted end c fits knows = absurd fits
 
   pub end_halted : (n : Next) → open_at n ≡ None → w.collecting ≡ halted_at n
-  end_halted n shut = ap (λ (o : Option Bool). elim o [ None ↦ w.collecting | Some is_short ↦ None ]) (sym shut)
+  end_halted n shut = ap (λ (o : Option Bool). elim o [ None ↦ w.collecting | Some is_out_of_memory ↦ None ]) (sym shut)
 
   -- where it is told this
   abbrev hurt : Option ℕ → Option Collecting → Position → Run
@@ -564,13 +565,13 @@ module _ (R : Option (List Snapshot)) (w : World) (ps : List Position) (k m : �
   fault_told (collect left) r x f c h kept is =
       ap (λ (y : Run). record y { fault = f }) (told_as w left (Refused x) (heard_at p 5 r (collect left)) refl (ap (λ y. heard_at p 5 y (collect left)) h))
       ∙ ap (λ y. hurt f y (heard_at p 5 r (collect left))) (sym is)
-  fault_told (collecting is_short) r x f c h kept is =
+  fault_told (collecting is_out_of_memory) r x f c h kept is =
       let w' : World = record w { collecting = None } in
       ap (λ l. record (tell (run_of R w' ps) k l.left (Refused x)) { fault = f }) (lane_is R w ps k)
       ∙ ap (λ (y : Run). record y { fault = f }) (tell_is R w' ps k p.left (Refused x) refl)
       ∙ same_lane R (record w { collecting = None; fault = f }) ps k (tells p p.left (Refused x)) (tells (record p { collecting = None }) p.left (Refused x)) refl
-      ∙ ap (λ (y : Option Reply). hurt f None (heard_at p 5 y (collecting is_short))) (sym h)
-      ∙ ap (λ y. hurt f y (heard_at p 5 r (collecting is_short))) (sym is)
+      ∙ ap (λ (y : Option Reply). hurt f None (heard_at p 5 y (collecting is_out_of_memory))) (sym h)
+      ∙ ap (λ y. hurt f y (heard_at p 5 r (collecting is_out_of_memory))) (sym is)
   fault_told bye r x f c h kept is =
       sym (keep_is R (record w { fault = f }) ps k (heard_at p 5 r bye) (ap (λ y. lane_of (heard_at p 5 y bye)) h))
       ∙ ap (λ y. hurt f y (heard_at p 5 r bye)) (sym is)
@@ -636,7 +637,7 @@ module _ (R : Option (List Snapshot)) (w : World) (ps : List Position) (k m : �
   ended_is e (plain c left) so shut = left_unread e (plain_unread e c left so)
   ended_is e (sync group left) so shut = left_unread e (sync_unread e group left so)
   ended_is e (collect left) so shut = left_unread e (gc_unread e left so)
-  ended_is e (collecting is_short) so shut = absurd (some_none is_short shut)
+  ended_is e (collecting is_out_of_memory) so shut = absurd (some_none is_out_of_memory shut)
   ended_is e bye so shut = ap Some (words_by (is_replied e) Done refl)
   ended_is e (broken refusal) so shut = ap Some (words_by (is_replied e) (Refused refusal) refl)
   ended_is e end so shut = ap Some (sym (keep_is R closed ps k p refl))
@@ -753,7 +754,7 @@ module _ (R : Option (List Snapshot)) (w : World) (ps : List Position) (k m : �
 
     -- an event of the lane moves the run as the definitions say, where no SYNC is open
     acted : (a : Act) (x : Answer) (v : Event) (vs : List Event) → p.pull ≡ None → v.act ≡ a → Does (class_of a) e p v vs
-        → ((x.entry).kind ≡ 5 → is_cut_off run k e later ≡ cuts (class_of a) e p)
+        → ((x.entry).kind ≡ FAULT_KIND → is_cut_off run k e later ≡ cuts (class_of a) e p)
         → Right R w k m a x.reply (class_of a) (kind_of (x.entry).kind)
         → enter (x.entry).kind ≡ Some (run_of R (moved R w k m a (kind_of (x.entry).kind)) (slice_set ps k (heard_as (class_of a) e p x)))
     acted acts.End x v vs idle is does cut right = over (x.entry).kind x.reply does.2 does.0 cut right
@@ -794,7 +795,7 @@ module _ (R : Option (List Snapshot)) (w : World) (ps : List Position) (k m : �
         ∙ ap Some (heard_is (moved R w k m (acts.Chunk digest checked) (kind_of (x.entry).kind)) x idle)
 
     pub turned : (v : Event) (vs : List Event) → p.pull ≡ None → lane v ≡ k → moment v ≡ m → Does (class_of v.act) e p v vs
-        → (kind v ≡ 5 → is_cut_off run k e later ≡ cuts (class_of v.act) e p)
+        → (kind v ≡ FAULT_KIND → is_cut_off run k e later ≡ cuts (class_of v.act) e p)
         → Right R w k m v.act (reply v) (class_of v.act) (kind_of (kind v))
         → enter (kind v) ≡ Some (run_of R (moved R w k m v.act (kind_of (kind v))) (slice_set ps k (position_after e p v)))
     unfolding position_after

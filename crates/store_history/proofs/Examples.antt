@@ -230,12 +230,12 @@ unfolding on_histories
 not_short_open ran = let is : false ≡ true = ((ran.2).1).1 in cc
 
 -- once memory was wanting, its next act is its last
-not_marked : IsRight None (record (opened start) { collecting = Some (record { lane = 0; is_short = true }) }) (acted 1 None 0 false) → ⊥
+not_marked : IsRight None (record (opened start) { collecting = Some (record { lane = 0; is_out_of_memory = true }) }) (acted 1 None 0 false) → ⊥
 unfolding on_histories
 not_marked right = let is : Some true ≡ Some false = (right.says).1 in cc
 
 -- and a second one does not open
-not_opened : IsRight None (record (opened start) { collecting = Some (record { lane = 1; is_short = false }) }) opens → ⊥
+not_opened : IsRight None (record (opened start) { collecting = Some (record { lane = 1; is_out_of_memory = false }) }) opens → ⊥
 unfolding on_histories
 not_opened right = no_two (right.says).1
   where

@@ -77,18 +77,18 @@ next_stays more p h = by_collecting p.collecting h
     by_collecting : (o : Option Bool)
         → goes_further (elim o [
           | None ↦ elim p.job [ None ↦ front_next (p.size - length p.left) (front p.left) | Some j ↦ job_step j p.left ]
-          | Some is_short ↦ collecting is_short
+          | Some is_out_of_memory ↦ collecting is_out_of_memory
         ]) ≡ true
         → elim o [
           | None ↦ elim p.job [ None ↦ front_next (p.size + length more - length (p.left ++ more)) (front (p.left ++ more)) | Some j ↦ job_step j (p.left ++ more) ]
-          | Some is_short ↦ collecting is_short
+          | Some is_out_of_memory ↦ collecting is_out_of_memory
         ]
         ≡ next_grown more (elim o [
           | None ↦ elim p.job [ None ↦ front_next (p.size - length p.left) (front p.left) | Some j ↦ job_step j p.left ]
-          | Some is_short ↦ collecting is_short
+          | Some is_out_of_memory ↦ collecting is_out_of_memory
         ])
     by_collecting None h = by_job p.job h
-    by_collecting (Some is_short) h = refl
+    by_collecting (Some is_out_of_memory) h = refl
 
 -- ---- and so does what is heard
 
@@ -123,14 +123,14 @@ heard_at_grown more p n None (collect left) h = by_kind (n == 3)
         ≡ grown more (if b then record p { left = left; collecting = Some false } else p)
     by_kind true = refl
     by_kind false = refl
-heard_at_grown more p n (Some r) (collecting is_short) h = by_kind (n == 2)
+heard_at_grown more p n (Some r) (collecting is_out_of_memory) h = by_kind (n == 2)
   where
     by_kind : (b : Bool)
         → (if b then record (grown more p) { collecting = Some true } else tells (record (grown more p) { collecting = None }) (p.left ++ more) r)
         ≡ grown more (if b then record p { collecting = Some true } else tells (record p { collecting = None }) p.left r)
     by_kind true = refl
     by_kind false = refl
-heard_at_grown more p n None (collecting is_short) h = refl
+heard_at_grown more p n None (collecting is_out_of_memory) h = refl
 heard_at_grown more p n r bye h = cc
 heard_at_grown more p n r (broken refusal) h = cc
 heard_at_grown more p n r end h = cc
@@ -142,7 +142,7 @@ sought_grown more p group remote (sync name left) h = refl
 sought_grown more p group remote (job_step j left) h = cc
 sought_grown more p group remote (plain c left) h = cc
 sought_grown more p group remote (collect left) h = cc
-sought_grown more p group remote (collecting is_short) h = cc
+sought_grown more p group remote (collecting is_out_of_memory) h = cc
 sought_grown more p group remote bye h = cc
 sought_grown more p group remote (broken refusal) h = cc
 sought_grown more p group remote end h = cc
@@ -152,7 +152,7 @@ sync_further group remote (sync name left) h = refl
 sync_further group remote (job_step j left) h = cc
 sync_further group remote (plain c left) h = cc
 sync_further group remote (collect left) h = cc
-sync_further group remote (collecting is_short) h = cc
+sync_further group remote (collecting is_out_of_memory) h = cc
 sync_further group remote bye h = cc
 sync_further group remote (broken refusal) h = cc
 sync_further group remote end h = cc
@@ -187,7 +187,7 @@ heard_by_grown more (Some x) p n None h = refl
 heard_stays : (more : List ℕ) (p : Position) (a : Answer) → further_by p.pull (next_at p) ≡ true → heard (grown more p) a ≡ grown more (heard p a)
 unfolding heard
 heard_stays more p a h =
-    let flag : Position → Position = λ q. record q { is_short = wants (a.entry).kind p.collecting; is_spent = a.last || q.is_spent } in
+    let flag : Position → Position = λ q. record q { is_out_of_memory = wants (a.entry).kind p.collecting; is_spent = a.last || q.is_spent } in
     ap flag (heard_by_grown more p.pull p (a.entry).kind a.reply h)
 
 asks_grown : (more : List ℕ) (x : Next) (v : Event) → Asks x v.act → Asks (next_grown more x) v.act
@@ -196,7 +196,7 @@ asks_grown more (job_step j left) v h = h
 asks_grown more (plain c left) v h = h
 asks_grown more (sync group left) v h = h
 asks_grown more (collect left) v h = h
-asks_grown more (collecting is_short) v h = h
+asks_grown more (collecting is_out_of_memory) v h = h
 asks_grown more bye v h = h
 asks_grown more (broken refusal) v h = h
 asks_grown more end v h = h
@@ -208,7 +208,7 @@ behind_stays more (comparing group remote) (sync name left) h = refl
 behind_stays more (comparing group remote) (job_step j left) h = cc
 behind_stays more (comparing group remote) (plain c left) h = cc
 behind_stays more (comparing group remote) (collect left) h = cc
-behind_stays more (comparing group remote) (collecting is_short) h = cc
+behind_stays more (comparing group remote) (collecting is_out_of_memory) h = cc
 behind_stays more (comparing group remote) bye h = cc
 behind_stays more (comparing group remote) (broken refusal) h = cc
 behind_stays more (comparing group remote) end h = cc
@@ -232,7 +232,7 @@ asks_further (job_step j left) v h = refl
 asks_further (plain c left) v h = refl
 asks_further (sync group left) v h = refl
 asks_further (collect left) v h = refl
-asks_further (collecting is_short) v h = refl
+asks_further (collecting is_out_of_memory) v h = refl
 asks_further bye v h = absurd h
 asks_further (broken refusal) v h = absurd h
 asks_further end v h = absurd h
@@ -243,7 +243,7 @@ further_grown more (job_step j left) = refl
 further_grown more (plain c left) = refl
 further_grown more (sync group left) = refl
 further_grown more (collect left) = refl
-further_grown more (collecting is_short) = refl
+further_grown more (collecting is_out_of_memory) = refl
 further_grown more bye = refl
 further_grown more (broken refusal) = refl
 further_grown more end = refl
@@ -314,7 +314,7 @@ want_at_grown more p h = by_collecting p.collecting h
 
     by_collecting : (o : Option Bool) → (is_none o && pull_may_want p.pull p.job p.left) ≡ true → (is_none o && pull_may_want p.pull p.job (p.left ++ more)) ≡ true
     by_collecting None h = by_pull p.pull h
-    by_collecting (Some is_short) h = cc
+    by_collecting (Some is_out_of_memory) h = cc
 
 follows_grown : (c : Class) (more : List ℕ) (p : Position) (v : Event) → Follows c p v → Follows c (grown more p) v
 follows_grown stepping more p v h = (h.0, asks_by_grown more p.pull p v h.1)
@@ -371,7 +371,7 @@ heard_at_over p n (Some r) (sync group left) = by_kind (n == 1)
     by_kind true = pulls_on_over p p.left (sought group r)
     by_kind false = refl
 heard_at_over p n (Some r) (collect left) = refl
-heard_at_over p n (Some r) (collecting is_short) = by_kind (n == 2)
+heard_at_over p n (Some r) (collecting is_out_of_memory) = by_kind (n == 2)
   where
     by_kind : (b : Bool) → (if b then record p { collecting = Some true } else tells (record p { collecting = None }) p.left r).is_over ≡ p.is_over
     by_kind true = refl
@@ -391,7 +391,7 @@ heard_at_over p n None (collect left) = by_kind (n == 3)
     by_kind : (b : Bool) → (if b then record p { left = left; collecting = Some false } else p).is_over ≡ p.is_over
     by_kind true = refl
     by_kind false = refl
-heard_at_over p n None (collecting is_short) = refl
+heard_at_over p n None (collecting is_out_of_memory) = refl
 heard_at_over p n None (broken refusal) = refl
 heard_at_over p n None bye = refl
 heard_at_over p n None end = refl
@@ -407,7 +407,7 @@ heard_at_spent p n (Some r) (sync group left) ne = by_kind (n == 1)
     by_kind true = pulls_on_spent p p.left (sought group r)
     by_kind false = refl
 heard_at_spent p n (Some r) (collect left) ne = refl
-heard_at_spent p n (Some r) (collecting is_short) ne = by_kind (n == 2)
+heard_at_spent p n (Some r) (collecting is_out_of_memory) ne = by_kind (n == 2)
   where
     by_kind : (b : Bool) → (if b then record p { collecting = Some true } else tells (record p { collecting = None }) p.left r).is_spent ≡ p.is_spent
     by_kind true = refl
@@ -427,7 +427,7 @@ heard_at_spent p n None (collect left) ne = by_kind (n == 3)
     by_kind : (b : Bool) → (if b then record p { left = left; collecting = Some false } else p).is_spent ≡ p.is_spent
     by_kind true = refl
     by_kind false = refl
-heard_at_spent p n None (collecting is_short) ne = refl
+heard_at_spent p n None (collecting is_out_of_memory) ne = refl
 heard_at_spent p n None (broken refusal) ne = refl
 heard_at_spent p n None bye ne = refl
 heard_at_spent p n None end ne = refl

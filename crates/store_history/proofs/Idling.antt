@@ -9,7 +9,7 @@ use Rattle.store_history.specs.SoFar.{goes_further, further_by}
 
 -- what the answer leaves beside what was heard
 abbrev pub flagged : Position → Answer → Position → Position
-flagged p a q = record q { is_short = wants (a.entry).kind p.collecting; is_spent = a.last || q.is_spent }
+flagged p a q = record q { is_out_of_memory = wants (a.entry).kind p.collecting; is_spent = a.last || q.is_spent }
 
 pub heard_idle : (p : Position) (a : Answer) → p.pull ≡ None → heard p a ≡ flagged p a (heard_at p (a.entry).kind a.reply (next_at p))
 unfolding heard

@@ -11,6 +11,7 @@ use Rattle.wire_commands.specs.declared.rows.PruneRow.{PruneRow}
 use Rattle.store_types.specs.declared.names.Keep.{Keep}
 use Rattle.store_types.specs.declared.refusal.Refusal.{Refusal}
 use Rattle.store_types.specs.declared.refusal.Refusal.TheVariants.{SnapshotBusy, NoSnapshot, Damaged, Unreadable, NoMemory, RemoteFault, DiskFault, Halted}
+use Rattle.store_types.specs.declared.order.TheConstants.{MEMORY_KIND}
 use Rattle.wire_commands.specs.declared.rows.FileRow.{FileRow}
 use Rattle.wire_commands.specs.declared.rows.FileFault.{FileFault}
 use Rattle.wire_commands.specs.declared.rows.FileFault.TheVariants as faults
@@ -173,18 +174,18 @@ step_formed j h = absurd h
 
 -- the lane where its job has come to this, and so much of its input is left
 abbrev pub at_job : Position → List ℕ → Job → Bool → Bool → Position
-at_job p left j is_short is_spent = record (goes_on p left j) { is_short = is_short; is_spent = is_spent }
+at_job p left j is_out_of_memory is_spent = record (goes_on p left j) { is_out_of_memory = is_out_of_memory; is_spent = is_spent }
 
 pub heard_job : (p : Position) (j : Asking) (left : List ℕ) (a : Answer) (r : Reply) → p.pull ≡ None → next_at p ≡ job_step j left → a.reply ≡ Some r
-    → heard p a ≡ at_job p left (job_take j r) ((a.entry).kind == 2) (a.last || p.is_spent)
+    → heard p a ≡ at_job p left (job_take j r) ((a.entry).kind == MEMORY_KIND) (a.last || p.is_spent)
 unfolding heard_at
 heard_job p j left a r idle is says =
-    let flag : Option Bool → Position → Position = λ o q. record q { is_short = wants (a.entry).kind o; is_spent = a.last || q.is_spent } in
+    let flag : Option Bool → Position → Position = λ o q. record q { is_out_of_memory = wants (a.entry).kind o; is_spent = a.last || q.is_spent } in
     heard_idle p a idle
     ∙ ap (λ x. flag p.collecting (heard_at p (a.entry).kind a.reply x)) is
     ∙ ap (λ (x : Option Reply). flag p.collecting (heard_at p (a.entry).kind x (job_step j left))) says
     ∙ ap (λ (o : Option Bool). flag o (goes_on p left (job_take j r))) (next_shut p (job_step j left) is refl)
-    ∙ ap (λ b. at_job p left (job_take j r) ((a.entry).kind == 2) (a.last || b)) (goes_on_spent p left (job_take j r))
+    ∙ ap (λ b. at_job p left (job_take j r) ((a.entry).kind == MEMORY_KIND) (a.last || b)) (goes_on_spent p left (job_take j r))
 
 -- where it goes on, its next step is next, and memory may be wanting, unless it is stopping
 pub at_job_next : (p : Position) (left : List ℕ) (j : Asking) (s b : Bool) → p.collecting ≡ None → next_at (at_job p left (asking j) s b) ≡ job_step j left
@@ -212,7 +213,7 @@ at_job_again p left j s b (asking k) t c = refl
 
 -- where it is over, the lane was told its report
 pub at_job_over : (p : Position) (left : List ℕ) (r : Reply) (s b : Bool)
-    → at_job p left (over r) s b ≡ record p { left = left; job = None; pull = None; is_short = s; is_spent = b; told = p.told ++ r ∷ [] }
+    → at_job p left (over r) s b ≡ record p { left = left; job = None; pull = None; is_out_of_memory = s; is_spent = b; told = p.told ++ r ∷ [] }
 unfolding goes_on
 at_job_over p left r s b = refl
 
@@ -229,14 +230,14 @@ follows_job_short p j left v idle on is may asks =
 -- the lane went on by a step of its job, which was answered
 pub leads_job : (vs : List Event) (p q : Position) (j : Asking) (left : List ℕ) (v : Event) (r : Reply) → Leads p vs q → q.pull ≡ None → may_step q ≡ true
     → next_at q ≡ job_step j left → v.act ≡ act_of_step (step_of j) → reply v ≡ Some r
-    → Leads p (vs ++ v ∷ []) (at_job q left (job_take j r) (kind v == 2) ((v.answer).last || q.is_spent))
+    → Leads p (vs ++ v ∷ []) (at_job q left (job_take j r) (kind v == MEMORY_KIND) ((v.answer).last || q.is_spent))
 leads_job vs p q j left v r led idle on is asks says =
     subst (λ x. Leads p (vs ++ v ∷ []) x) (heard_job q j left v.answer r idle is says) (leads_more vs p q v led (follows_job q j left v idle on is asks))
 
 -- or memory was wanting for it
 pub leads_job_short : (vs : List Event) (p q : Position) (j : Asking) (left : List ℕ) (v : Event) (r : Reply) → Leads p vs q → q.pull ≡ None → q.is_spent ≡ false
     → next_at q ≡ job_step j left → may_want_at q ≡ true → v.act ≡ acts.Short → reply v ≡ Some r
-    → Leads p (vs ++ v ∷ []) (at_job q left (job_take j r) (kind v == 2) ((v.answer).last || q.is_spent))
+    → Leads p (vs ++ v ∷ []) (at_job q left (job_take j r) (kind v == MEMORY_KIND) ((v.answer).last || q.is_spent))
 leads_job_short vs p q j left v r led idle on is may asks says =
     subst (λ x. Leads p (vs ++ v ∷ []) x) (heard_job q j left v.answer r idle is says) (leads_more vs p q v led (follows_job_short q j left v idle on is may asks))
 
@@ -247,14 +248,14 @@ at_job_idle p left j s b idle = idle
 -- so from one step of the job to the next
 pub leads_step : (vs : List Event) (p q : Position) (j : Asking) (left : List ℕ) (s b : Bool) (v : Event) (r : Reply) → Leads p vs (at_job q left (asking j) s b)
     → q.pull ≡ None → q.collecting ≡ None → (b ≡ true → is_stopping j ≡ true) → v.act ≡ act_of_step (step_of j) → reply v ≡ Some r
-    → Leads p (vs ++ v ∷ []) (at_job q left (job_take j r) (kind v == 2) ((v.answer).last || b))
+    → Leads p (vs ++ v ∷ []) (at_job q left (job_take j r) (kind v == MEMORY_KIND) ((v.answer).last || b))
 leads_step vs p q j left s b v r led idle shut stops asks says =
-    subst (λ x. Leads p (vs ++ v ∷ []) x) (at_job_again q left j s b (job_take j r) (kind v == 2) ((v.answer).last || b))
+    subst (λ x. Leads p (vs ++ v ∷ []) x) (at_job_again q left j s b (job_take j r) (kind v == MEMORY_KIND) ((v.answer).last || b))
     (leads_job vs p (at_job q left (asking j) s b) j left v r led (at_job_idle q left j s b idle) (at_job_steps q left j s b idle stops) (at_job_next q left j s b shut) asks says)
 
 pub leads_step_short : (vs : List Event) (p q : Position) (j : Asking) (left : List ℕ) (s : Bool) (v : Event) (r : Reply) → Leads p vs (at_job q left (asking j) s false)
     → q.pull ≡ None → q.collecting ≡ None → is_stopping j ≡ false → v.act ≡ acts.Short → reply v ≡ Some r
-    → Leads p (vs ++ v ∷ []) (at_job q left (job_take j r) (kind v == 2) ((v.answer).last || false))
+    → Leads p (vs ++ v ∷ []) (at_job q left (job_take j r) (kind v == MEMORY_KIND) ((v.answer).last || false))
 leads_step_short vs p q j left s v r led idle shut on asks says =
-    subst (λ x. Leads p (vs ++ v ∷ []) x) (at_job_again q left j s false (job_take j r) (kind v == 2) ((v.answer).last || false))
+    subst (λ x. Leads p (vs ++ v ∷ []) x) (at_job_again q left j s false (job_take j r) (kind v == MEMORY_KIND) ((v.answer).last || false))
     (leads_job_short vs p (at_job q left (asking j) s false) j left v r led (at_job_idle q left j s false idle) refl (at_job_next q left j s false shut) (at_job_wants q left j s false idle shut on) asks says)

@@ -57,7 +57,7 @@ heard_shut p n None (sync group left) shut starts = refl
 heard_shut p n (Some r) (collect left) shut starts = refl
 heard_shut p n None (collect left) shut starts =
     ap (λ b. (if b then record p { left = left; collecting = Some false } else p).collecting) (starts left refl)
-heard_shut p n r (collecting is_short) shut starts = absurd (some_none is_short shut)
+heard_shut p n r (collecting is_out_of_memory) shut starts = absurd (some_none is_out_of_memory shut)
 heard_shut p n (Some r) (broken refusal) shut starts = by_kind (n == 2)
   where
     by_kind : (b : Bool) → (if b then used_up p r else p).collecting ≡ p.collecting
@@ -85,7 +85,7 @@ words_shut e p (job_step j left) = refl
 words_shut e p (plain c left) = refl
 words_shut e p (sync group left) = refl
 words_shut e p (collect left) = refl
-words_shut e p (collecting is_short) = refl
+words_shut e p (collecting is_out_of_memory) = refl
 words_shut e p end = refl
 
 -- ---- the job
@@ -123,12 +123,12 @@ heard_plain p n None (collect left) h kept plainly = by_kind (n == 3)
     by_kind : (b : Bool) → ArePlain (if b then record p { left = left; collecting = Some false } else p).job
     by_kind true = h
     by_kind false = h
-heard_plain p n (Some r) (collecting is_short) h kept plainly = by_kind (n == 2)
+heard_plain p n (Some r) (collecting is_out_of_memory) h kept plainly = by_kind (n == 2)
   where
     by_kind : (b : Bool) → ArePlain (if b then record p { collecting = Some true } else tells (record p { collecting = None }) p.left r).job
     by_kind true = h
     by_kind false = tt
-heard_plain p n None (collecting is_short) h kept plainly = h
+heard_plain p n None (collecting is_out_of_memory) h kept plainly = h
 heard_plain p n (Some r) (broken refusal) h kept plainly = by_kind (n == 2)
   where
     by_kind : (b : Bool) → ArePlain (if b then used_up p r else p).job
@@ -156,7 +156,7 @@ words_plain e p (job_step j left) h = h
 words_plain e p (plain c left) h = h
 words_plain e p (sync group left) h = h
 words_plain e p (collect left) h = h
-words_plain e p (collecting is_short) h = h
+words_plain e p (collecting is_out_of_memory) h = h
 words_plain e p end h = h
 
 plain_by : (j : Asking) (left : List ℕ) (r : Option Reply) (x : Reply) → r ≡ Some x → IsPlainReply x → AnswersPlainly (job_step j left) r
@@ -167,7 +167,7 @@ refused_answers (job_step j left) r refusal is = plain_by j left r (Refused refu
 refused_answers (plain c left) r refusal is = tt
 refused_answers (sync group left) r refusal is = tt
 refused_answers (collect left) r refusal is = tt
-refused_answers (collecting is_short) r refusal is = tt
+refused_answers (collecting is_out_of_memory) r refusal is = tt
 refused_answers bye r refusal is = tt
 refused_answers (broken y) r refusal is = tt
 refused_answers end r refusal is = tt
@@ -417,7 +417,7 @@ module _ (R : Option (List Snapshot)) (w : World) (k m : ℕ) where
   answers (plain c left) a r n fits h = tt
   answers (sync group left) a r n fits h = tt
   answers (collect left) a r n fits h = tt
-  answers (collecting is_short) a r n fits h = tt
+  answers (collecting is_out_of_memory) a r n fits h = tt
   answers bye a r n fits h = tt
   answers (broken refusal) a r n fits h = tt
   answers end a r n fits h = tt

@@ -1,3 +1,4 @@
+pub mod ActShapes
 pub mod Plainly
 pub mod Collectors
 pub mod Placed
@@ -5,6 +6,7 @@ pub mod Wanting
 pub mod Checking
 pub mod Digests
 pub mod Events
+pub mod Families
 pub mod Keeping
 pub mod Found
 pub mod Indexes

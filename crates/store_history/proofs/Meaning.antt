@@ -293,7 +293,7 @@ module _ (L : List Snapshot) (c : Course) (s : Stock) (i : Index) where
         subst (λ es. ShowsJob L (next_append c s i es) (next_command p (behind_chunks from after fs p.snapshot))) (sym index.entries)
         (shows_appends (at sent [] stock pieces) behind (entries_from 0 from.pieces) (length from.pieces) (let len = length-entries 0 from.pieces in omega (arith, len)))
     shows_chunks sent o (q ∷ qs) stock pieces behind begins =
-        by_kept (get (sent_in s) (sha256 q)) refl (shows_chunks sent (o + length q) qs stock rest)
+        from_state (get (sent_in s) (sha256 q)) refl (shows_chunks sent (o + length q) qs stock rest)
       where
         e : AppendEntry
         e = record { digest = digest_of q; offset = o }
@@ -323,17 +323,17 @@ module _ (L : List Snapshot) (c : Course) (s : Stock) (i : Index) where
         commands : Bool → List Command
         commands b = map (λ r. Chunk (digest_of r) (blobs.blob r)) (if b then unsent sent qs else q ∷ unsent (q ∷ sent) qs) ++ behind_chunks from after fs p.snapshot
 
-        by_kept : (k : Option ℕ) → get (sent_in s) (sha256 q) ≡ k
+        from_state : (k : Option ℕ) → get (sent_in s) (sha256 q) ≡ k
             → (IsBehind qs sent after → BeginAt i (o + length q) qs → ShowsJob L (next_chunk c s i later) (next_command p (chunks_from sent qs (behind_chunks from after fs p.snapshot))))
             → ShowsJob L (elim k [ None ↦ asks (reading_chunk c s i e later) | Some size ↦ if size == blob_size i e later then next_chunk c s i later else mismatched e ])
             (next_command p (commands (was sent q)))
-        by_kept None kept go =
+        from_state None kept go =
             subst (λ b. ShowsJob L (asks (reading_chunk c s i e later)) (next_command p (commands b))) (sym (was_so None kept)) (
               sending p (Chunk (digest_of q) (blobs.blob q)) (chunks_from (q ∷ sent) qs (behind_chunks from after fs p.snapshot)),
               refl,
               (at sent qs stock rest, q, o + length q, here, refl, refl, behind, refl, refl, on),
             )
-        by_kept (Some n) kept go =
+        from_state (Some n) kept go =
             subst (λ b. ShowsJob L (if b then next_chunk c s i later else mismatched e) (next_command p (commands (was sent q)))) (sym (sized n kept))
             (subst (λ b. ShowsJob L (next_chunk c s i later) (next_command p (commands b))) (sym (was_so (Some n) kept))
             (go (behind_known q qs sent after (was_so (Some n) kept) behind) on))

@@ -2,6 +2,7 @@
 use Rattle.std.proofs.Common.{◌≡◌, ℕ, Bool, true, false, List, [], Option, Some, None, refl, sym, ap, subst, ◌∙◌, ◌||◌, ◌==◌, is_none, slice_index_or, slice_set, if◌then◌else◌}
 use Rattle.std.proofs.lemmas.Bool.{eqb-true}
 use Rattle.store_types.specs.declared.order.Entry.{Entry}
+use Rattle.store_types.specs.declared.order.TheConstants.{PART_KIND, FAULT_KIND}
 use Rattle.store_files.specs.Archive.{Snapshot}
 use Rattle.wire_commands.specs.declared.command.Command.TheVariants as commands
 use Rattle.wire_commands.specs.declared.reply.Reply.{Reply}
@@ -41,7 +42,7 @@ sync_of n (sync group left) h = (group, left, refl, eqb-true n 1 h)
 sync_of n (job_step j left) h = cc
 sync_of n (plain c left) h = cc
 sync_of n (collect left) h = cc
-sync_of n (collecting is_short) h = cc
+sync_of n (collecting is_out_of_memory) h = cc
 sync_of n bye h = cc
 sync_of n (broken refusal) h = cc
 sync_of n end h = cc
@@ -67,12 +68,12 @@ stays_idle p n None (collect left) idle h = by_kind (n == 3)
     by_kind : (b : Bool) → (if b then record p { left = left; collecting = Some false } else p).pull ≡ None
     by_kind true = idle
     by_kind false = idle
-stays_idle p n (Some r) (collecting is_short) idle h = by_kind (n == 2)
+stays_idle p n (Some r) (collecting is_out_of_memory) idle h = by_kind (n == 2)
   where
     by_kind : (b : Bool) → (if b then record p { collecting = Some true } else tells (record p { collecting = None }) p.left r).pull ≡ None
     by_kind true = idle
     by_kind false = refl
-stays_idle p n None (collecting is_short) idle h = idle
+stays_idle p n None (collecting is_out_of_memory) idle h = idle
 stays_idle p n (Some r) (broken refusal) idle h = by_kind (n == 2)
   where
     by_kind : (b : Bool) → (if b then used_up p r else p).pull ≡ None
@@ -100,7 +101,7 @@ words_idle e p (job_step j left) idle = idle
 words_idle e p (plain c left) idle = idle
 words_idle e p (sync group left) idle = idle
 words_idle e p (collect left) idle = idle
-words_idle e p (collecting is_short) idle = idle
+words_idle e p (collecting is_out_of_memory) idle = idle
 words_idle e p end idle = idle
 
 faulted_idle : (e : Ending) (p : Position) (r : Option Reply) → p.pull ≡ None → (end_faulted e p r).pull ≡ None
@@ -138,7 +139,7 @@ module _ (R : Option (List Snapshot)) (w : World) (qs : List Position) (k m : �
 
   -- the act that opened one read the remote
   begins_by : (c : Class) (v : Event) (vs : List Event) (group left : List ℕ) → c ≡ class_of v.act → (c ≡ ending → ⊥) → Does c e p v vs → next_at p ≡ sync group left
-      → Right R w k m v.act (reply v) c (kind_of (kind v)) → kind v ≡ 1 → Right R w k m (acts.RemoteList (commands.Sync group)) (reply v) reaching (kind_of (kind v))
+      → Right R w k m v.act (reply v) c (kind_of (kind v)) → kind v ≡ PART_KIND → Right R w k m (acts.RemoteList (commands.Sync group)) (reply v) reaching (kind_of (kind v))
   begins_by reaching v vs group left class other does next right one =
       subst (λ a. Right R w k m a (reply v) reaching (kind_of (kind v))) (asked_list (next_at p) v.act group left next (subst (λ (o : Option Pulling). AsksBy o (next_at p) v.act) idle does.1)) right
   begins_by stepping v vs group left class other does next right one =
@@ -178,15 +179,15 @@ module _ (R : Option (List Snapshot)) (w : World) (qs : List Position) (k m : �
 
   -- an event of the lane
   pub turned_idle : (c : Class) (v : Event) (vs : List Event) → c ≡ class_of v.act → lane v ≡ k → moment v ≡ m → Does c e p v vs → ArePlain p.job
-      → (kind v ≡ 5 → is_cut_off (run_of R w qs) k e later ≡ cuts c e p)
+      → (kind v ≡ FAULT_KIND → is_cut_off (run_of R w qs) k e later ≡ cuts c e p)
       → Right R w k m v.act (reply v) c (kind_of (kind v)) → Turns R w qs k m es later knows v.act (kind v) (position_after e p v)
   unfolding position_after
   turned_idle c v vs class l t does kept cut right = (
     bare (position_after e p v),
-    subst (λ (y : Position). y.pull ≡ None → Does (class_of v.act) e y v vs → (kind v ≡ 5 → is_cut_off (run_of R w qs) k e later ≡ cuts (class_of v.act) e y) → ArePlain y.job
+    subst (λ (y : Position). y.pull ≡ None → Does (class_of v.act) e y v vs → (kind v ≡ FAULT_KIND → is_cut_off (run_of R w qs) k e later ≡ cuts (class_of v.act) e y) → ArePlain y.job
         → entered (known es) (run_of R w qs) w.events (noted R w qs k m (kind v)) later ≡ Some (run_of R (moved R w k m v.act (kind_of (kind v))) (slice_set qs k (position_after e y v)))) same
         (λ i d u n. turned R w qs k m es later knows n v vs i l t d u (subst (λ y. Right R w k m v.act (reply v) y (kind_of (kind v))) class right))
-        idle (subst (λ y. Does y e p v vs) class does) (subst (λ y. kind v ≡ 5 → is_cut_off (run_of R w qs) k e later ≡ cuts y e p) class cut) kept
+        idle (subst (λ y. Does y e p v vs) class does) (subst (λ y. kind v ≡ FAULT_KIND → is_cut_off (run_of R w qs) k e later ≡ cuts y e p) class cut) kept
         ∙ ap Some (same_lane R (moved R w k m v.act (kind_of (kind v))) qs k (position_after e p v) (bare (position_after e p v)) refl),
     subst (λ y. BesideBy R (moved R w k m v.act (kind_of (kind v))).store k (heard_as y e p v.answer) (heard_as y e p v.answer).pull (bare (heard_as y e p v.answer))) class (by_class c class does right),
   )

@@ -71,14 +71,14 @@ go_is R w ps k left (asking j) plainly = rw (lane_is R w ps k) (put_is R w ps k 
 -- ---- what is next
 
 abbrev next_by : Option Bool → Lane → Next
-next_by o l = elim o [ None ↦ lane_next l | Some is_short ↦ collecting is_short ]
+next_by o l = elim o [ None ↦ lane_next l | Some is_out_of_memory ↦ collecting is_out_of_memory ]
 
 beside_is : (o : Option Collecting) (k : ℕ) (l : Lane) → next_beside o k l ≡ next_by (open_on k o) l
 unfolding next_beside
 beside_is None k l = refl
 beside_is (Some c) k l = by_test (c.lane == k)
   where
-    by_test : (b : Bool) → (if b then collecting c.is_short else lane_next l) ≡ next_by (if b then Some c.is_short else None) l
+    by_test : (b : Bool) → (if b then collecting c.is_out_of_memory else lane_next l) ≡ next_by (if b then Some c.is_out_of_memory else None) l
     by_test true = refl
     by_test false = refl
 
@@ -93,7 +93,7 @@ next_is R w ps k knows =
 
 -- what the next act says of the lane's collector
 abbrev pub open_at : Next → Option Bool
-open_at (collecting is_short) = Some is_short
+open_at (collecting is_out_of_memory) = Some is_out_of_memory
 open_at _ = None
 
 job_shut : (c : Command) (left : List ℕ) (o : Option Asking) → open_at (elim o [ None ↦ plain c left | Some j ↦ job_step j left ]) ≡ None
@@ -128,4 +128,4 @@ open_is p = by_collecting p.collecting
   where
     by_collecting : (o : Option Bool) → open_at (next_by o (lane_of p)) ≡ o
     by_collecting None = lane_shut (lane_of p)
-    by_collecting (Some is_short) = refl
+    by_collecting (Some is_out_of_memory) = refl

@@ -2,6 +2,7 @@
 use Rattle.std.proofs.Common.{◌≡◌, ℕ, suc, ◌+◌, ◌<◌, ◌≤◌, ◌⊎◌, inl, inr, Bool, true, false, not, ◌&&◌, List, [], ◌∷◌, ◌++◌, take, Option, Some, None, refl, sym, ap, subst, ◌∙◌, arith, if◌then◌else◌, is_none, ◌==◌, nat_le}
 use Rattle.std.proofs.lemmas.Bool.{eqb-true}
 use Rattle.std.proofs.lemmas.Bool.Decides.{nat_tests}
+use Rattle.store_types.specs.declared.order.TheConstants.{FAULT_KIND}
 use Rattle.store_files.specs.Archive.{Snapshot}
 use Rattle.store_model.specs.Weave.{first_fault}
 use Rattle.store_history.specs.declared.act.Act.{Act}
@@ -38,7 +39,7 @@ unfolding after_all
 fault_stays R w [] h = h
 fault_stays R w (e ∷ es) h = fault_stays R (after R w e) es (fault_kept R w e h)
 
-fault_made : (R : Option (List Snapshot)) (w : World) (e : Event) → kind e ≡ 5 → is_none (after R w e).fault ≡ false
+fault_made : (R : Option (List Snapshot)) (w : World) (e : Event) → kind e ≡ FAULT_KIND → is_none (after R w e).fault ≡ false
 unfolding after moved
 fault_made R w e five = subst (λ n. is_none (moved R w (lane e) (moment e) e.act (kind_of n)).fault ≡ false) (sym five) (by_fault w.fault)
   where
@@ -57,17 +58,17 @@ calm_before R w h calm = by_test (is_none w.fault) refl
     by_test true is = is
     by_test false is = absurd (clash (sym calm ∙ fault_stays R w h is))
 
-calm_here : (R : Option (List Snapshot)) (w : World) (e : Event) (h : List Event) → is_none (after_all R (after R w e) h).fault ≡ true → (kind e == 5) ≡ false
-calm_here R w e h calm = by_test (kind e == 5) refl
+calm_here : (R : Option (List Snapshot)) (w : World) (e : Event) (h : List Event) → is_none (after_all R (after R w e) h).fault ≡ true → (kind e == FAULT_KIND) ≡ false
+calm_here R w e h calm = by_test (kind e == FAULT_KIND) refl
   where
-    by_test : (b : Bool) → (kind e == 5) ≡ b → (kind e == 5) ≡ false
+    by_test : (b : Bool) → (kind e == FAULT_KIND) ≡ b → (kind e == FAULT_KIND) ≡ false
     by_test true is = absurd (clash (sym calm ∙ fault_stays R (after R w e) h (fault_made R w e (eqb-true (kind e) 5 is))))
     by_test false is = is
 
 past_is : (R : Option (List Snapshot)) (w : World) (e : Event) (h : List Event) (t : ℕ) (b : Bool) → is_none (after_all R w (e ∷ h)).fault ≡ true → nat_le e.calls t ≡ b → is_past t w e ≡ b
 unfolding after_all
 past_is R w e h t b calm is =
-    ap (λ x. x && not (kind e == 5) && is_none w.fault) is
+    ap (λ x. x && not (kind e == FAULT_KIND) && is_none w.fault) is
     ∙ ap (λ x. b && not x && is_none w.fault) (calm_here R w e h calm)
     ∙ ap (λ x. b && true && x) (calm_before R w (e ∷ h) calm)
     ∙ flat b
@@ -86,7 +87,7 @@ either_maps false A C B f h = h
 pub reopens_before : (R : Option (List Snapshot)) (w : World) (h : List Event) (e : Event) (t : ℕ) (found : List Snapshot) → t < e.calls → Reopens R w h t found → Reopens R w (h ++ e ∷ []) t found
 reopens_before R w [] e t found lt h =
     let late : nat_le e.calls t ≡ false = grind (arith, nat_tests) in
-    subst (λ b. Either (b && not (kind e == 5) && is_none w.fault) (Reopens R (after R w e) [] t found) ((found ≡ (w.store).snapshots) ⊎ (found ≡ (one_more R w e).snapshots))) (sym late) (inl h)
+    subst (λ b. Either (b && not (kind e == FAULT_KIND) && is_none w.fault) (Reopens R (after R w e) [] t found) ((found ≡ (w.store).snapshots) ⊎ (found ≡ (one_more R w e).snapshots))) (sym late) (inl h)
 reopens_before R w (v ∷ vs) e t found lt h = either_maps (is_past t w v) (Reopens R (after R w v) vs t found) (Reopens R (after R w v) (vs ++ e ∷ []) t found)
     ((found ≡ (w.store).snapshots) ⊎ (found ≡ (one_more R w v).snapshots)) (reopens_before R (after R w v) vs e t found lt) h
 
@@ -101,7 +102,7 @@ reopens_halted R w [] e t found hurt h =
     none false = refl
 
     not_past : is_past t w e ≡ false
-    not_past = ap (λ b. nat_le e.calls t && not (kind e == 5) && b) hurt ∙ none (nat_le e.calls t && not (kind e == 5))
+    not_past = ap (λ b. nat_le e.calls t && not (kind e == FAULT_KIND) && b) hurt ∙ none (nat_le e.calls t && not (kind e == FAULT_KIND))
 reopens_halted R w (v ∷ vs) e t found hurt h = either_maps (is_past t w v) (Reopens R (after R w v) vs t found) (Reopens R (after R w v) (vs ++ e ∷ []) t found)
     ((found ≡ (w.store).snapshots) ⊎ (found ≡ (one_more R w v).snapshots)) (reopens_halted R (after R w v) vs e t found hurt) h
 

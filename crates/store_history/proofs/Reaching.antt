@@ -1,5 +1,5 @@
 -- An event of a lane whose SYNC is open moves the run as the definitions say, and the lane stays beside the one that `weave` has.
-use Rattle.std.proofs.Common.{◌≡◌, inl, inr, ℕ, zero, suc, ◌-◌, Bool, true, false, List, [], ◌∷◌, length, filter, Option, Some, None, Ok, Err, Result, refl, sym, ap, subst, ◌∙◌, ◌||◌, not, slice_index_or, slice_set, if◌then◌else◌, IfSome, IsSome, take as take_first}
+use Rattle.std.proofs.Common.{◌≡◌, inl, inr, ℕ, zero, suc, ◌-◌, Bool, false, List, [], ◌∷◌, length, filter, Option, Some, None, Ok, Err, Result, refl, sym, ap, subst, ◌∙◌, ◌||◌, slice_index_or, slice_set, if◌then◌else◌, IfSome, IsSome, take as take_first}
 use Rattle.std.specs.List.{All, Contains, last_or}
 use Rattle.std.proofs.lemmas.List.Elements.{All-contains_itself, All-filter, All-weaker}
 use Rattle.store_types.specs.declared.names.GroupKey.{GroupKey}
@@ -30,15 +30,16 @@ use Rattle.store_history.specs.declared.act.Event.{Event}
 use Rattle.store_history.specs.Acts.{Class, stepping, reaching, starting, sweeping, wanting, ending, class_of}
 use Rattle.store_history.specs.History.{World, open_on, halted_on, act_outcome, moved, EntryKind, kind_of, step_kind, pass_kind, short_kind, start_kind, close_kind, fault_kind, end_kind, remote_kind, no_kind, kind, reply}
 use Rattle.store_history.specs.Legal.{Right, Says, Refuses}
-use Rattle.store_history.specs.LaneRun.{Position, lane_of, next_at, tells, goes_on, pulls_on, behind, heard_at, heard_by, heard_pulling, heard, heard_as, wants, pull_stops, may_step, Asks, AsksBy, Does}
+use Rattle.store_history.specs.LaneRun.{Position, lane_of, next_at, tells, goes_on, pulls_on, behind, heard_at, heard_by, heard_pulling, heard, heard_as, wants, Asks, AsksBy, Does}
 use Rattle.store_history.specs.Pulling as pulls
 use Rattle.store_history.specs.Pulling.{Pulling, comparing, SyncJob, act_of, compared, sought, take, is_ending}
 use Rattle.store_history.specs.Remote.{IsList, IsRemote, may_read, ReadsIn, Reads}
 use Rattle.store_types.specs.FileNames.{manifest_name}
+use Rattle.store_types.specs.declared.order.TheConstants.{COMMAND_KIND, PART_KIND, MEMORY_KIND, FAULT_KIND}
 use Rattle.store_model.specs.SyncJob.{new_index, is_later as job_later, next_snapshot as job_next_snapshot, to_pull}
-use Rattle.store_history.proofs.Beside.{Beside, BesideBy, IsOther, Pulls, Waits, asks_no_other, at_plain, at_stops, at_sync, bare, besides, is_at, all_keys, pulled_same, remote_texts, shown}
+use Rattle.store_history.proofs.Beside.{Beside, BesideBy, IsOther, Pulls, Waits, asks_no_other, at_plain, at_sync, bare, besides, is_at, all_keys, pulled_same, remote_texts, shown}
 use Rattle.store_history.proofs.Keyed.{HasKeys}
-use Rattle.store_history.proofs.Events.{Becomes, all_faulted, all_short, asked, at_next, cuts, end_halted, tests_pass, noted, nx, plainly}
+use Rattle.store_history.proofs.Events.{Becomes, all_faulted, all_short, asked, at_next, end_halted, tests_pass, noted, nx, plainly}
 use Rattle.store_history.proofs.Meaning.{Shows, ShowsJob, texts_of, asked_alike, no_read, reads_on, shows_snapshots, taken, unread}
 use Rattle.store_history.proofs.Placed.{run_of, at, keep_is, same_lane, go_is, open_at, open_is}
 use Rattle.store_history.proofs.Plainly.{ArePlain, IsPlainJob, take_plainly}
@@ -50,7 +51,7 @@ use Rattle.store_history.proofs.Wanting.{Goes}
 pub next_shown : (p : Position) (j : Asking) → p.collecting ≡ None → next_at (shown p j) ≡ job_step j p.left
 unfolding next_at lane_next
 next_shown p j shut =
-    ap (λ (o : Option Bool). elim o [ None ↦ lane_next (lane_of (shown p j)) | Some is_short ↦ collecting is_short ]) shut
+    ap (λ (o : Option Bool). elim o [ None ↦ lane_next (lane_of (shown p j)) | Some is_out_of_memory ↦ collecting is_out_of_memory ]) shut
 
 -- a SYNC whose job is open is behind its command
 behind_is : (L : List Snapshot) (x : Pulling) (j : Asking) (p : Position) (n : Next) → Shows L x j → behind p x n ≡ p.left
@@ -58,18 +59,18 @@ behind_is L (comparing group remote) j p n h = absurd h
 behind_is L x j p n h = refl
 
 -- the position that `weave` has goes on so too where the SYNC's command was next
-beside_bare : (R : Option (List Snapshot)) (s : Store) (k : ℕ) (L : List Snapshot) (p : Position) (next : SyncJob) (job : Job) (left : List ℕ) (is_short is_spent : Bool)
+beside_bare : (R : Option (List Snapshot)) (s : Store) (k : ℕ) (L : List Snapshot) (p : Position) (next : SyncJob) (job : Job) (left : List ℕ) (is_out_of_memory is_spent : Bool)
     → R ≡ Some L → p.collecting ≡ None → ShowsJob L next job
-    → Beside R s k (record (pulls_on p left next) { is_short = is_short; is_spent = is_spent }) (record (goes_on (bare p) left job) { is_short = is_short; is_spent = is_spent })
+    → Beside R s k (record (pulls_on p left next) { is_out_of_memory = is_out_of_memory; is_spent = is_spent }) (record (goes_on (bare p) left job) { is_out_of_memory = is_out_of_memory; is_spent = is_spent })
 unfolding pulls_on goes_on
-beside_bare R s k L p (pulls.reports r) job left is_short is_spent there shut h =
-    ap (λ (y : Job). record (goes_on (bare p) left y) { is_short = is_short; is_spent = is_spent }) h
-beside_bare R s k L p (pulls.asks x) job left is_short is_spent there shut h =
+beside_bare R s k L p (pulls.reports r) job left is_out_of_memory is_spent there shut h =
+    ap (λ (y : Job). record (goes_on (bare p) left y) { is_out_of_memory = is_out_of_memory; is_spent = is_spent }) h
+beside_bare R s k L p (pulls.asks x) job left is_out_of_memory is_spent there shut h =
     inr (record {
       list = L;
       job = h.0;
       there = there;
-      is = ap (λ (y : Job). record (goes_on (bare p) left y) { is_short = is_short; is_spent = is_spent }) h.1;
+      is = ap (λ (y : Job). record (goes_on (bare p) left y) { is_out_of_memory = is_out_of_memory; is_spent = is_spent }) h.1;
       shut = shut;
       shows = h.2;
     })
@@ -83,9 +84,9 @@ sync_idle q group left h = by_collecting q.collecting h
     by_job None e = refl
     by_job (Some y) e = cc
 
-    by_collecting : (o : Option Bool) → elim o [ None ↦ lane_next (lane_of q) | Some is_short ↦ collecting is_short ] ≡ sync group left → q.job ≡ None
+    by_collecting : (o : Option Bool) → elim o [ None ↦ lane_next (lane_of q) | Some is_out_of_memory ↦ collecting is_out_of_memory ] ≡ sync group left → q.job ≡ None
     by_collecting None e = by_job q.job e
-    by_collecting (Some is_short) e = cc
+    by_collecting (Some is_out_of_memory) e = cc
 
 begins_plain : (pulled : List (List ℕ)) (xs : List Snapshot) → IsPlainJob (job_next_snapshot pulled xs)
 unfolding job_next_snapshot
@@ -96,10 +97,10 @@ begins_plain pulled (x ∷ xs) = tt
 
 -- a SYNC's step or read with its reply
 abbrev pub pulled : Position → Answer → SyncJob → Position
-pulled p a next = record (pulls_on p p.left next) { is_short = wants (a.entry).kind p.collecting; is_spent = a.last || p.is_spent }
+pulled p a next = record (pulls_on p p.left next) { is_out_of_memory = wants (a.entry).kind p.collecting; is_spent = a.last || p.is_spent }
 
 abbrev pub gone : Position → Position → Answer → Job → Position
-gone p q a job = record (goes_on q p.left job) { is_short = wants (a.entry).kind p.collecting; is_spent = a.last || p.is_spent }
+gone p q a job = record (goes_on q p.left job) { is_out_of_memory = wants (a.entry).kind p.collecting; is_spent = a.last || p.is_spent }
 
 pulls_spent : (p : Position) (left : List ℕ) (next : SyncJob) → (pulls_on p left next).is_spent ≡ p.is_spent
 unfolding pulls_on
@@ -109,10 +110,10 @@ pulls_spent p left (pulls.asks x) = refl
 heard_pulled : (p : Position) (x : Pulling) (a : Answer) (y : Reply) → p.pull ≡ Some x → a.reply ≡ Some y → behind p x (next_at p) ≡ p.left → heard p a ≡ pulled p a (take x y)
 unfolding heard
 heard_pulled p x a y going told at =
-    ap (λ (o : Option Pulling). let q = heard_by o p (a.entry).kind a.reply in record q { is_short = wants (a.entry).kind p.collecting; is_spent = a.last || q.is_spent }) going
-    ∙ ap (λ (r : Option Reply). let q = heard_pulling p x r in record q { is_short = wants (a.entry).kind p.collecting; is_spent = a.last || q.is_spent }) told
-    ∙ ap (λ (left : List ℕ). let q = pulls_on p left (take x y) in record q { is_short = wants (a.entry).kind p.collecting; is_spent = a.last || q.is_spent }) at
-    ∙ ap (λ b. record (pulls_on p p.left (take x y)) { is_short = wants (a.entry).kind p.collecting; is_spent = a.last || b }) (pulls_spent p p.left (take x y))
+    ap (λ (o : Option Pulling). let q = heard_by o p (a.entry).kind a.reply in record q { is_out_of_memory = wants (a.entry).kind p.collecting; is_spent = a.last || q.is_spent }) going
+    ∙ ap (λ (r : Option Reply). let q = heard_pulling p x r in record q { is_out_of_memory = wants (a.entry).kind p.collecting; is_spent = a.last || q.is_spent }) told
+    ∙ ap (λ (left : List ℕ). let q = pulls_on p left (take x y) in record q { is_out_of_memory = wants (a.entry).kind p.collecting; is_spent = a.last || q.is_spent }) at
+    ∙ ap (λ b. record (pulls_on p p.left (take x y)) { is_out_of_memory = wants (a.entry).kind p.collecting; is_spent = a.last || b }) (pulls_spent p p.left (take x y))
 
 -- ---- which refusal
 
@@ -229,13 +230,6 @@ module _ (R : Option (List Snapshot)) (w : World) (qs : List Position) (k m : �
 
     -- ---- a step of the job
 
-    may_step_alike : may_step p ≡ true → may_step q ≡ true
-    may_step_alike h =
-        ap may_step b.is
-        ∙ ap (λ t. not p.is_spent || t) (at_stops (is_ending x) j (is_at L x j b.shows))
-        ∙ ap (λ (o : Option Pulling). not p.is_spent || pull_stops o p.job) (sym going)
-        ∙ h
-
     -- a step of a job has a reply
     step_told : (a : Act) (r : Option Reply) (n : EntryKind) → Right R w k m a r stepping n → (y : Reply) × (r ≡ Some y)
     step_told a r step_kind h = ((answered w.store (act_outcome R w k m a)).1, h.1)
@@ -249,7 +243,7 @@ module _ (R : Option (List Snapshot)) (w : World) (qs : List Position) (k m : �
     step_told a r no_kind h = absurd h
 
     stepped : (a : Answer) (act : Act) → act ≡ act_of x → class_of (act_of x) ≡ stepping → Right R w k m act a.reply stepping (kind_of (a.entry).kind)
-        → ((a.entry).kind ≡ 5 → is_cut_off (run_of R w qs) k (slice_index_or es k endings.Clean) later ≡ false)
+        → ((a.entry).kind ≡ FAULT_KIND → is_cut_off (run_of R w qs) k (slice_index_or es k endings.Clean) later ≡ false)
         → Turns act (a.entry).kind (heard p a)
     stepped a act is local right cut =
         let class : class_of act ≡ stepping = ap class_of is ∙ local in
@@ -269,7 +263,7 @@ module _ (R : Option (List Snapshot)) (w : World) (qs : List Position) (k m : �
     next_seen : next_of (run_of R w qs) k ≡ job_step j p.left
     next_seen = nx R w qs k m es later knows kept ∙ step_next
 
-    reading_passed : (a : Answer) (act : Act) (y : Reply) → (a.entry).kind ≡ 1 → act ≡ act_of x → a.reply ≡ Some y → class_of (act_of x) ≡ reaching → IsList L → Reads L (act_of x) (Some y)
+    reading_passed : (a : Answer) (act : Act) (y : Reply) → (a.entry).kind ≡ PART_KIND → act ≡ act_of x → a.reply ≡ Some y → class_of (act_of x) ≡ reaching → IsList L → Reads L (act_of x) (Some y)
         → Turns act 1 (heard p a)
     unfolding entered passed moved goes_on
     reading_passed a act y one is told away list reads = (
@@ -295,7 +289,7 @@ module _ (R : Option (List Snapshot)) (w : World) (qs : List Position) (k m : �
     )
 
     -- memory was wanting
-    was_short : (a : Answer) (act : Act) → a.reply ≡ Some (Refused NoMemory) → (a.entry).kind ≡ 2 → Turns act 2 (heard p a)
+    was_short : (a : Answer) (act : Act) → a.reply ≡ Some (Refused NoMemory) → (a.entry).kind ≡ MEMORY_KIND → Turns act 2 (heard p a)
     unfolding entered
     was_short a act told two =
         let goes : Goes (next_at q) = subst Goes (sym step_next) tt in
@@ -304,7 +298,7 @@ module _ (R : Option (List Snapshot)) (w : World) (qs : List Position) (k m : �
         subst (λ n. Turns act n (heard p a)) two
         (refused act a NoMemory told (subst (λ n. Becomes R w qs k m act (kind_of n) n a.reply (next_at q) (entered (known es) (run_of R w qs) w.events (noted R w qs k m n) later)) (sym two) short_is))
 
-    met_fault : (a : Answer) (act : Act) → class_of act ≡ reaching → a.reply ≡ Some (Refused (fault_refusal w.fault)) → (a.entry).kind ≡ 5
+    met_fault : (a : Answer) (act : Act) → class_of act ≡ reaching → a.reply ≡ Some (Refused (fault_refusal w.fault)) → (a.entry).kind ≡ FAULT_KIND
         → is_cut_off (run_of R w qs) k (slice_index_or es k endings.Clean) later ≡ false → Turns act 5 (heard p a)
     unfolding entered
     met_fault a act away told five cut =
@@ -364,16 +358,16 @@ module _ (R : Option (List Snapshot)) (w : World) (qs : List Position) (k m : �
 
     -- what is heard
     wait_heard : (a : Answer) (y : Reply) → a.reply ≡ Some y
-        → heard p a ≡ record (pulls_on p b.left (take (comparing b.group b.remote) y)) { is_short = wants (a.entry).kind p.collecting; is_spent = a.last || p.is_spent }
+        → heard p a ≡ record (pulls_on p b.left (take (comparing b.group b.remote) y)) { is_out_of_memory = wants (a.entry).kind p.collecting; is_spent = a.last || p.is_spent }
     unfolding heard
     wait_heard a y told =
-        ap (λ (o : Option Pulling). let u = heard_by o p (a.entry).kind a.reply in record u { is_short = wants (a.entry).kind p.collecting; is_spent = a.last || u.is_spent }) (going ∙ ap Some b.state)
-        ∙ ap (λ (r : Option Reply). let u = heard_pulling p (comparing b.group b.remote) r in record u { is_short = wants (a.entry).kind p.collecting; is_spent = a.last || u.is_spent }) told
-        ∙ ap (λ (left : List ℕ). let u = pulls_on p left (take (comparing b.group b.remote) y) in record u { is_short = wants (a.entry).kind p.collecting; is_spent = a.last || u.is_spent }) (wait_behind (comparing b.group b.remote) refl)
-        ∙ ap (λ c. record (pulls_on p b.left (take (comparing b.group b.remote) y)) { is_short = wants (a.entry).kind p.collecting; is_spent = a.last || c }) (pulls_spent p b.left (take (comparing b.group b.remote) y))
+        ap (λ (o : Option Pulling). let u = heard_by o p (a.entry).kind a.reply in record u { is_out_of_memory = wants (a.entry).kind p.collecting; is_spent = a.last || u.is_spent }) (going ∙ ap Some b.state)
+        ∙ ap (λ (r : Option Reply). let u = heard_pulling p (comparing b.group b.remote) r in record u { is_out_of_memory = wants (a.entry).kind p.collecting; is_spent = a.last || u.is_spent }) told
+        ∙ ap (λ (left : List ℕ). let u = pulls_on p left (take (comparing b.group b.remote) y) in record u { is_out_of_memory = wants (a.entry).kind p.collecting; is_spent = a.last || u.is_spent }) (wait_behind (comparing b.group b.remote) refl)
+        ∙ ap (λ c. record (pulls_on p b.left (take (comparing b.group b.remote) y)) { is_out_of_memory = wants (a.entry).kind p.collecting; is_spent = a.last || c }) (pulls_spent p b.left (take (comparing b.group b.remote) y))
 
     abbrev waited : Answer → Job → Position
-    waited a job = record (goes_on (bare p) b.left job) { is_short = wants (a.entry).kind p.collecting; is_spent = a.last || p.is_spent }
+    waited a job = record (goes_on (bare p) b.left job) { is_out_of_memory = wants (a.entry).kind p.collecting; is_spent = a.last || p.is_spent }
 
     shut_here : p.collecting ≡ None
     shut_here = sym (ap (λ (y : Position). y.collecting) b.is) ∙ wait_off
@@ -397,7 +391,7 @@ module _ (R : Option (List Snapshot)) (w : World) (qs : List Position) (k m : �
       wait_both (moved R w k m act (kind_of (a.entry).kind)).store a (Refused z) (over (Refused z)) told refl,
     )
 
-    wait_short : (a : Answer) (act : Act) → a.reply ≡ Some (Refused NoMemory) → (a.entry).kind ≡ 2 → Turns act 2 (heard p a)
+    wait_short : (a : Answer) (act : Act) → a.reply ≡ Some (Refused NoMemory) → (a.entry).kind ≡ MEMORY_KIND → Turns act 2 (heard p a)
     unfolding entered heard_at goes_on
     wait_short a act told two =
         let goes : Goes (next_at q) = subst Goes (sym wait_next) tt in
@@ -408,7 +402,7 @@ module _ (R : Option (List Snapshot)) (w : World) (qs : List Position) (k m : �
         (subst (λ n. Becomes R w qs k m act (kind_of n) n a.reply (next_at q) (entered (known es) (run_of R w qs) w.events (noted R w qs k m n) later)) (sym two) short_is)
         (ap (λ n. lane_of (heard_at q n (Some (Refused NoMemory)) (sync b.group b.left))) two ∙ ap (λ (u : Position). lane_of (tells u b.left (Refused NoMemory))) b.is))
 
-    wait_fault : (a : Answer) (act : Act) → class_of act ≡ stepping → a.reply ≡ Some (Refused (fault_refusal w.fault)) → (a.entry).kind ≡ 5
+    wait_fault : (a : Answer) (act : Act) → class_of act ≡ stepping → a.reply ≡ Some (Refused (fault_refusal w.fault)) → (a.entry).kind ≡ FAULT_KIND
         → is_cut_off (run_of R w qs) k (slice_index_or es k endings.Clean) later ≡ false → Turns act 5 (heard p a)
     unfolding entered heard_at goes_on
     wait_fault a act local told five cut =
@@ -449,7 +443,7 @@ module _ (R : Option (List Snapshot)) (w : World) (qs : List Position) (k m : �
         (All-filter (job_later (last_or None (take_first group_limit (keys_in b.key here)))) (Contains b.list) (in_group b.key b.list)
         (All-filter (λ y. same_group (group_of_key y.key) b.key) (Contains b.list) b.list (All-contains_itself b.list))))
 
-    wait_begins : (a : Answer) → IsList b.list → HasKeys w.store → (a.entry).kind ≡ 0 → Says R w k m (acts.Plain (commands.Group b.group)) a.reply
+    wait_begins : (a : Answer) → IsList b.list → HasKeys w.store → (a.entry).kind ≡ COMMAND_KIND → Says R w k m (acts.Plain (commands.Group b.group)) a.reply
         → Turns (acts.Plain (commands.Group b.group)) 0 (heard p a)
     unfolding entered weave_stepped begin_sync moved
     wait_begins a list named zero_is says =
@@ -498,16 +492,12 @@ module _ (R : Option (List Snapshot)) (w : World) (qs : List Position) (k m : �
   list_of : (o : Option (List Snapshot)) (L : List Snapshot) → o ≡ Some L → IsRemote o → IsList L
   list_of o L is h = subst IsRemote is h
 
-  cuts_not : (c : Class) (e : Ending) (p : Position) → (c ≡ ending → ⊥) → cuts c e p ≡ false
-  cuts_not ending e p other = absurd (other refl)
-  cuts_not c e p other = refl
-
   module _ (p : Position) (x : Pulling) (going : p.pull ≡ Some x) (remote : IsRemote R) (named : HasKeys w.store) where
     asks_by : (n : Next) (a : Act) → AsksBy p.pull n a → a ≡ act_of x
     asks_by n a h = (subst (λ (o : Option Pulling). AsksBy o n a) going h).0
 
     pulled_by : (c : Class) (e : Ending) (v : Event) (vs : List Event) (b : Pulls R p x (at qs k)) → c ≡ class_of v.act → Does c e p v vs → Right R w k m v.act (reply v) c (kind_of (kind v))
-        → (kind v ≡ 5 → is_cut_off (run_of R w qs) k (slice_index_or es k endings.Clean) later ≡ false) → Turns v.act (kind v) (heard_as c e p v.answer)
+        → (kind v ≡ FAULT_KIND → is_cut_off (run_of R w qs) k (slice_index_or es k endings.Clean) later ≡ false) → Turns v.act (kind v) (heard_as c e p v.answer)
     pulled_by stepping e v vs b class does right cut =
         let is = asks_by (next_at p) v.act does.1 in stepped p x going b v.answer v.act is (sym (ap class_of is) ∙ sym class) right cut
     pulled_by reaching e v vs b class does right cut =
@@ -519,7 +509,7 @@ module _ (R : Option (List Snapshot)) (w : World) (qs : List Position) (k m : �
     pulled_by ending e v vs b class does right cut = cc
 
     waited_by : (c : Class) (e : Ending) (v : Event) (vs : List Event) (b : Waits R w.store k p x (at qs k)) → c ≡ class_of v.act → Does c e p v vs → Right R w k m v.act (reply v) c (kind_of (kind v))
-        → (kind v ≡ 5 → is_cut_off (run_of R w qs) k (slice_index_or es k endings.Clean) later ≡ false) → Turns v.act (kind v) (heard_as c e p v.answer)
+        → (kind v ≡ FAULT_KIND → is_cut_off (run_of R w qs) k (slice_index_or es k endings.Clean) later ≡ false) → Turns v.act (kind v) (heard_as c e p v.answer)
     waited_by stepping e v vs b class does right cut =
         let is : v.act ≡ acts.Plain (commands.Group b.group) = asks_by (next_at p) v.act does.1 ∙ ap act_of b.state in
         subst (λ a. Turns a (kind v) (heard p v.answer)) (sym is)
@@ -535,7 +525,7 @@ module _ (R : Option (List Snapshot)) (w : World) (qs : List Position) (k m : �
 
     -- an event of a lane whose SYNC is open
     pub reached : (c : Class) (e : Ending) (v : Event) (vs : List Event) → BesideBy R w.store k p (Some x) (at qs k) → c ≡ class_of v.act → Does c e p v vs → Right R w k m v.act (reply v) c (kind_of (kind v))
-        → (kind v ≡ 5 → is_cut_off (run_of R w qs) k (slice_index_or es k endings.Clean) later ≡ false) → Turns v.act (kind v) (heard_as c e p v.answer)
+        → (kind v ≡ FAULT_KIND → is_cut_off (run_of R w qs) k (slice_index_or es k endings.Clean) later ≡ false) → Turns v.act (kind v) (heard_as c e p v.answer)
     reached c e v vs (inl b) class does right cut = waited_by c e v vs b class does right cut
     reached c e v vs (inr b) class does right cut = pulled_by c e v vs b class does right cut
 
@@ -544,9 +534,9 @@ module _ (R : Option (List Snapshot)) (w : World) (qs : List Position) (k m : �
   -- a SYNC opens by what the remote tells of its group
   module _ (p : Position) (idle : p.pull ≡ None) (same : at qs k ≡ p) (remote : IsRemote R) where
     pub begun_here : (v : Event) (group left : List ℕ) (r : Option Reply) (n : ℕ) → next_at p ≡ sync group left → Right R w k m (acts.RemoteList (commands.Sync group)) r reaching (kind_of n) → n ≡ 1
-        → (is_short is_spent : Bool) → (let p' : Position = record (heard_at p n r (sync group left)) { is_short = is_short; is_spent = is_spent } in BesideBy R w.store k p' p'.pull (bare p'))
+        → (is_out_of_memory is_spent : Bool) → (let p' : Position = record (heard_at p n r (sync group left)) { is_out_of_memory = is_out_of_memory; is_spent = is_spent } in BesideBy R w.store k p' p'.pull (bare p'))
     unfolding to_pull heard_at pulls_on sought next_at
-    begun_here v group left r n next right one is_short is_spent =
+    begun_here v group left r n next right one is_out_of_memory is_spent =
         let h = subst (λ i. Right R w k m (acts.RemoteList (commands.Sync group)) r reaching (kind_of i)) one right in
         let tests = tests_pass (λ g snapshots. filter (job_later (last_or None (take_first group_limit (keys_in g (w.store).snapshots)))) (in_group g snapshots)) (want_idle (session w.store k)) (group_of group) R h.1 in
         let key = (tests.1).0 in
@@ -557,8 +547,8 @@ module _ (R : Option (List Snapshot)) (w : World) (qs : List Position) (k m : �
         let texts : filter pulls.is_key (group_texts key list) ≡ texts_of (in_group key list) =
         ap (filter pulls.is_key) (remote_texts key list (fine.groups key))
         ∙ all_keys (in_group key list) (All-filter (λ y. same_group (group_of_key y.key) key) (λ y. IsKey y.key) list (All-weaker IsSnapshot (λ y. IsKey y.key) (λ y g. g.key) list fine.each)) in
-        subst (λ i. let p' : Position = record (heard_at p i r (sync group left)) { is_short = is_short; is_spent = is_spent } in BesideBy R w.store k p' p'.pull (bare p')) (sym one)
-        (subst (λ (o : Option Reply). let p' : Position = record (heard_at p 1 o (sync group left)) { is_short = is_short; is_spent = is_spent } in BesideBy R w.store k p' p'.pull (bare p')) (sym told)
+        subst (λ i. let p' : Position = record (heard_at p i r (sync group left)) { is_out_of_memory = is_out_of_memory; is_spent = is_spent } in BesideBy R w.store k p' p'.pull (bare p')) (sym one)
+        (subst (λ (o : Option Reply). let p' : Position = record (heard_at p 1 o (sync group left)) { is_out_of_memory = is_out_of_memory; is_spent = is_spent } in BesideBy R w.store k p' p'.pull (bare p')) (sym told)
         (inl (record {
           group = group;
           remote = filter pulls.is_key (group_texts key list);

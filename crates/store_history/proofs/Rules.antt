@@ -3,6 +3,7 @@ use Rattle.std.proofs.Common.{◌≡◌, ◌≢◌, ℕ, zero, suc, ◌+◌, ◌
 use Rattle.std.specs.List.{list_all, range_with_len}
 use Rattle.std.proofs.lemmas.Bool.{lt-ltb, le-leb, eq-eqb, eqb-true}
 use Rattle.store_types.specs.Times.{last_moment}
+use Rattle.store_types.specs.declared.order.TheConstants.{FAULT_KIND, END_KIND}
 use Rattle.store_files.specs.Archive.{Snapshot}
 use Rattle.store_files.specs.Order.{moments_rise, of_lane, ends_once, fits_entry, keeps_rules}
 use Rattle.wire_commands.specs.declared.reply.Reply.{Reply}
@@ -121,21 +122,21 @@ once : (c : Class) (e : Ending) (p : Position) (v : Event) (vs : List Event) (to
     → Runs e (heard_as c e p v.answer) vs told → (Runs e (heard p v.answer) vs told → (heard p v.answer).is_over ≡ false → ends_once (map entry vs) ≡ true)
     → ends_once (map entry (v ∷ vs)) ≡ true
 unfolding KindIs
-once ending e p v vs told does is off runs ih = by_kind (kind v == 5) refl
+once ending e p v vs told does is off runs ih = by_kind (kind v == FAULT_KIND) refl
   where
-    follows : (us : List Event) → kind v ≡ 5 → EndFollows us → ends_once (map entry (v ∷ us)) ≡ true
+    follows : (us : List Event) → kind v ≡ FAULT_KIND → EndFollows us → ends_once (map entry (v ∷ us)) ≡ true
     follows [] five h = absurd h
-    follows (u ∷ []) five h = ap (λ n. not (n == 6) && (kind u == 6)) five ∙ ap (λ n. n == 6) h.1
+    follows (u ∷ []) five h = ap (λ n. not (n == 6) && (kind u == END_KIND)) five ∙ ap (λ n. n == 6) h.1
     follows (u ∷ t ∷ us) five h = absurd h
 
-    alone : (us : List Event) → kind v ≡ 6 → Runs e (record (last_words e p (next_at p)) { is_over = true }) us told → ends_once (map entry (v ∷ us)) ≡ true
+    alone : (us : List Event) → kind v ≡ END_KIND → Runs e (record (last_words e p (next_at p)) { is_over = true }) us told → ends_once (map entry (v ∷ us)) ≡ true
     alone [] six h = ap (λ n. n == 6) six
     alone (u ∷ us) six h = absurd (clash h.0)
 
-    by_kind : (b : Bool) → (kind v == 5) ≡ b → ends_once (map entry (v ∷ vs)) ≡ true
+    by_kind : (b : Bool) → (kind v == FAULT_KIND) ≡ b → ends_once (map entry (v ∷ vs)) ≡ true
     by_kind true five = follows vs (eqb-true (kind v) 5 five) (does.1 (eqb-true (kind v) 5 five))
     by_kind false five =
-        let six : kind v ≡ 6 = is (λ x. clash (sym (eq-eqb (kind v) 5 x) ∙ five)) in
+        let six : kind v ≡ END_KIND = is (λ x. clash (sym (eq-eqb (kind v) 5 x) ∙ five)) in
         alone vs six (subst (λ n. Runs e (end_heard e p n (reply v)) vs told) six runs)
 once c e p v [] told does is off runs ih = absurd (clash (sym runs.0 ∙ goes_on p v off))
 once c e p v (u ∷ vs) told does is off runs ih = ap (λ b. not b && ends_once (map entry (u ∷ vs))) is ∙ ih runs (goes_on p v off)

@@ -14,7 +14,7 @@ use Rattle.wire_commands.specs.CommandText.{nothing_more, one_text, text_and_off
 use Rattle.wire_commands.specs.Inputs.{front, cut_front, body_front}
 use Rattle.store_model.specs.Job.{Asking}
 use Rattle.store_model.specs.Lanes.{Next, job_step, collecting, bye, end, front_next, command_next, lane_next}
-use Rattle.store_history.specs.LaneRun.{Position, next_at, may_want, is_stopping, job_may_want, pull_may_want, may_want_at, job_stops, pull_stops, may_step}
+use Rattle.store_history.specs.LaneRun.{Position, next_at, may_want, is_stopping, job_may_want, pull_may_want, may_want_at, pull_stops, may_step}
 use Rattle.store_history.specs.Pulling.{Pulling, is_ending}
 
 -- ---- a body of at least two bytes is no BYE
@@ -154,10 +154,10 @@ want_goes p idle h = by_collecting p.collecting (sym (idle_want p idle) ∙ h)
     by_collecting : (c : Option Bool) → (is_none c && job_may_want p.job p.left) ≡ true
         → Goes (elim c [
           | None ↦ elim p.job [ None ↦ front_next (p.size - length p.left) (front p.left) | Some j ↦ job_step j p.left ]
-          | Some is_short ↦ collecting is_short
+          | Some is_out_of_memory ↦ collecting is_out_of_memory
         ])
     by_collecting None h = by_job p.job h
-    by_collecting (Some is_short) h = tt
+    by_collecting (Some is_out_of_memory) h = tt
 
 -- and the lane's collector is not open
 pub want_shut : (p : Position) → may_want_at p ≡ true → p.collecting ≡ None
@@ -166,7 +166,7 @@ want_shut p h = by_collecting p.collecting h
   where
     by_collecting : (c : Option Bool) → (is_none c && pull_may_want p.pull p.job p.left) ≡ true → c ≡ None
     by_collecting None h = refl
-    by_collecting (Some is_short) h = cc
+    by_collecting (Some is_out_of_memory) h = cc
 
 -- where it may be wanting for a frame
 pub wants_frame : (p : Position) → p.pull ≡ None → p.collecting ≡ None → p.job ≡ None → may_want p.left ≡ true → may_want_at p ≡ true
@@ -187,11 +187,3 @@ wants_pulling p x shut is on =
 -- it may come where no answer was the last
 pub steps_on : (p : Position) → p.is_spent ≡ false → may_step p ≡ true
 steps_on p on = ap (λ b. not b || pull_stops p.pull p.job) on
-
--- and where a job closes its session
-pub steps_stopping : (p : Position) (j : Asking) → p.pull ≡ None → p.job ≡ Some j → is_stopping j ≡ true → may_step p ≡ true
-steps_stopping p j idle is stops = ap (λ (o : Option Pulling). not p.is_spent || pull_stops o p.job) idle ∙ ap (λ o. not p.is_spent || job_stops o) is ∙ ap (λ b. not p.is_spent || b) stops ∙ or_true (not p.is_spent)
-  where
-    or_true : (b : Bool) → (b || true) ≡ true
-    or_true true = refl
-    or_true false = refl

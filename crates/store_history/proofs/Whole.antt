@@ -5,6 +5,7 @@ use Rattle.std.proofs.lemmas.Bool.{eq-eqb, eqb-true}
 use Rattle.std.proofs.Math.ListN.{get_or-map}
 use Rattle.std.proofs.lemmas.List.{get_or-set_same, get_or-set_other, length-set, length-map}
 use Rattle.store_types.specs.declared.order.Entry.{Entry}
+use Rattle.store_types.specs.declared.order.TheConstants.{MEMORY_KIND, FAULT_KIND, END_KIND}
 use Rattle.store_files.specs.Archive.{Snapshot}
 use Rattle.wire_commands.specs.declared.reply.Reply.{Reply}
 use Rattle.store_model.specs.declared.ending.Ending.{Ending}
@@ -75,7 +76,7 @@ find_own k (v ∷ vs) = by_test (lane v == k) (find_own k vs)
 -- an entry of kind 6 is an end's
 EndsRight : List Event → Type 0
 EndsRight [] = Unit {0}
-EndsRight (v ∷ vs) = kind v ≡ 6 → IsEnding (class_of v.act)
+EndsRight (v ∷ vs) = kind v ≡ END_KIND → IsEnding (class_of v.act)
 
 legal_own : (R : Option (List Snapshot)) (w : World) (k : ℕ) (vs : List Event) → IsLegal R w vs → EndsRight (own k vs)
 unfolding EndsRight
@@ -89,13 +90,13 @@ legal_own R w k (v ∷ vs) legal = by_test (lane v == k) (legal_own R (after R w
 -- ---- which fault is not told
 
 -- where want of memory ended the lane, a command that met a fault is not its last event
-told_first : (q : Position) (vs : List Event) (told : List Reply) → (q.is_short || q.is_spent) ≡ false
+told_first : (q : Position) (vs : List Event) (told : List Reply) → (q.is_out_of_memory || q.is_spent) ≡ false
     → Runs endings.NoMemory q vs told → EndsRight vs → is_end (head_entry vs) ≡ false
 unfolding EndsRight head_entry
 told_first q [] told off runs right = refl
-told_first q (v ∷ vs) told off runs right = by_test (kind v == 6) refl
+told_first q (v ∷ vs) told off runs right = by_test (kind v == END_KIND) refl
   where
-    by_test : (b : Bool) → (kind v == 6) ≡ b → (kind v == 6) ≡ false
+    by_test : (b : Bool) → (kind v == END_KIND) ≡ b → (kind v == END_KIND) ≡ false
     by_test true is =
         let c = ending_is (class_of v.act) (right (eqb-true (kind v) 6 is)) in
         let does : Does ending endings.NoMemory q v vs = subst (λ x. Does x endings.NoMemory q v vs) c runs.1 in
@@ -111,10 +112,10 @@ end_follows (v ∷ u ∷ vs) h = absurd h
 -- no act of a collector is next where none is open
 shut_sweeps : (p : Position) → FitsNext (next_at p) sweeping → p.collecting ≡ None → ⊥
 unfolding next_at
-shut_sweeps p fits shut = fits_shut (lane_next (lane_of p)) (lane_no_act (lane_of p)) (subst (λ o. FitsNext (elim o [ None ↦ lane_next (lane_of p) | Some is_short ↦ collecting is_short ]) sweeping) shut fits)
+shut_sweeps p fits shut = fits_shut (lane_next (lane_of p)) (lane_no_act (lane_of p)) (subst (λ o. FitsNext (elim o [ None ↦ lane_next (lane_of p) | Some is_out_of_memory ↦ collecting is_out_of_memory ]) sweeping) shut fits)
   where
     fits_shut : (n : Next) → is_act n ≡ false → FitsNext n sweeping → ⊥
-    fits_shut (collecting is_short) unlike h = cc
+    fits_shut (collecting is_out_of_memory) unlike h = cc
     fits_shut (job_step j left) unlike h = h
     fits_shut (plain c left) unlike h = h
     fits_shut (sync group left) unlike h = h
@@ -124,14 +125,14 @@ shut_sweeps p fits shut = fits_shut (lane_next (lane_of p)) (lane_no_act (lane_o
     fits_shut end unlike h = h
 
 -- an answer of a fault is no want of memory, and not the last
-not_short : (p : Position) (v : Event) → p.collecting ≡ None → p.is_spent ≡ false → ((v.answer).last ≡ true → kind v ≡ 2) → kind v ≡ 5
-    → ((heard p v.answer).is_short || (heard p v.answer).is_spent) ≡ false
+not_short : (p : Position) (v : Event) → p.collecting ≡ None → p.is_spent ≡ false → ((v.answer).last ≡ true → kind v ≡ MEMORY_KIND) → kind v ≡ FAULT_KIND
+    → ((heard p v.answer).is_out_of_memory || (heard p v.answer).is_spent) ≡ false
 unfolding heard
 not_short p v shut on last is =
     ap (λ b. b || (heard p v.answer).is_spent) (ap (λ (o : Option Bool). wants (kind v) o) shut ∙ ap (λ n. n == 2) is)
     ∙ ap (λ b. b || (heard_by p.pull p (kind v) (reply v)).is_spent) (not_last (v.answer).last last) ∙ stays_on
   where
-    not_last : (b : Bool) → (b ≡ true → kind v ≡ 2) → b ≡ false
+    not_last : (b : Bool) → (b ≡ true → kind v ≡ MEMORY_KIND) → b ≡ false
     not_last true h = let no : ⊥ = omega (arith, h refl, is) in absurd no
     not_last false h = refl
 
@@ -198,9 +199,9 @@ module _ (R : Option (List Snapshot)) (w : World) (qs : List Position) (k : ℕ)
 
   -- the lane's own position p stands beside
   module _ (p : Position) (alike : p.collecting ≡ (at qs k).collecting) where
-    no_end_first : (c : Class) (v : Event) (vs : List Event) (told : List Reply) → c ≡ class_of v.act → (c ≡ ending → ⊥) → ((v.answer).last ≡ true → kind v ≡ 2)
+    no_end_first : (c : Class) (v : Event) (vs : List Event) (told : List Reply) → c ≡ class_of v.act → (c ≡ ending → ⊥) → ((v.answer).last ≡ true → kind v ≡ MEMORY_KIND)
         → pull_stops p.pull p.job ≡ false ⊎ ((at qs k).job ≡ None → ⊥)
-        → Does c endings.NoMemory p v (own k vs) → kind v ≡ 5 → Runs endings.NoMemory (heard p v.answer) (own k vs) told → EndsRight (own k vs)
+        → Does c endings.NoMemory p v (own k vs) → kind v ≡ FAULT_KIND → Runs endings.NoMemory (heard p v.answer) (own k vs) told → EndsRight (own k vs)
         → (at qs k).collecting ≡ None → (at qs k).job ≡ None → e_is_end vs ≡ false
     no_end_first c v vs told class other last (inr busy) does is runs right shut idle = absurd (busy idle)
     no_end_first c v vs told class other last (inl stops) does is runs right shut idle =
@@ -208,9 +209,9 @@ module _ (R : Option (List Snapshot)) (w : World) (qs : List Position) (k : ℕ)
         told_first (heard p v.answer) (own k vs) told (not_short p v (alike ∙ shut) on last is) runs right
 
     -- an act that is no lane's end
-    told_here : (c : Class) (e : Ending) (v : Event) (vs : List Event) (told : List Reply) → c ≡ class_of v.act → (c ≡ ending → ⊥) → ((v.answer).last ≡ true → kind v ≡ 2)
+    told_here : (c : Class) (e : Ending) (v : Event) (vs : List Event) (told : List Reply) → c ≡ class_of v.act → (c ≡ ending → ⊥) → ((v.answer).last ≡ true → kind v ≡ MEMORY_KIND)
         → pull_stops p.pull p.job ≡ false ⊎ ((at qs k).job ≡ None → ⊥)
-        → Does c e p v (own k vs) → kind v ≡ 5 → Runs e (heard p v.answer) (own k vs) told → EndsRight (own k vs) → is_cut_off (run_of R w qs) k e (entries vs) ≡ false
+        → Does c e p v (own k vs) → kind v ≡ FAULT_KIND → Runs e (heard p v.answer) (own k vs) told → EndsRight (own k vs) → is_cut_off (run_of R w qs) k e (entries vs) ≡ false
     told_here c endings.NoMemory v vs told class other last stops does is runs right =
         cut_at vs ∙ told_by vs (no_end_first c v vs told class other last stops does is runs right)
     told_here c endings.Clean v vs told class other last stops does is runs right = refl
@@ -220,7 +221,7 @@ module _ (R : Option (List Snapshot)) (w : World) (qs : List Position) (k : ℕ)
     told_here c endings.SinkFault v vs told class other last stops does is runs right = refl
 
     -- the lane's end
-    end_cut : (e : Ending) (v : Event) (vs : List Event) → p ≡ at qs k → Does ending e p v (own k vs) → kind v ≡ 5 → is_cut_off (run_of R w qs) k e (entries vs) ≡ cuts ending e p
+    end_cut : (e : Ending) (v : Event) (vs : List Event) → p ≡ at qs k → Does ending e p v (own k vs) → kind v ≡ FAULT_KIND → is_cut_off (run_of R w qs) k e (entries vs) ≡ cuts ending e p
     end_cut endings.NoMemory v vs same does is =
         cut_at vs
         ∙ ap (λ (o : Option Bool). is_none (at qs k).job && not (is_some o) && e_is_end vs) (sym alike ∙ does.2)
@@ -241,8 +242,8 @@ module _ (R : Option (List Snapshot)) (w : World) (qs : List Position) (k : ℕ)
         by_job (Some j) is = inr (λ none. some_job j (sym is ∙ ap (λ (y : Position). y.job) same ∙ none))
 
     -- where no SYNC is open
-    cut_idle : (c : Class) (e : Ending) (v : Event) (vs : List Event) (told : List Reply) → p ≡ at qs k → p.pull ≡ None → c ≡ class_of v.act → ((v.answer).last ≡ true → kind v ≡ 2)
-        → Does c e p v (own k vs) → Runs e (heard_as c e p v.answer) (own k vs) told → EndsRight (own k vs) → kind v ≡ 5 → is_cut_off (run_of R w qs) k e (entries vs) ≡ cuts c e p
+    cut_idle : (c : Class) (e : Ending) (v : Event) (vs : List Event) (told : List Reply) → p ≡ at qs k → p.pull ≡ None → c ≡ class_of v.act → ((v.answer).last ≡ true → kind v ≡ MEMORY_KIND)
+        → Does c e p v (own k vs) → Runs e (heard_as c e p v.answer) (own k vs) told → EndsRight (own k vs) → kind v ≡ FAULT_KIND → is_cut_off (run_of R w qs) k e (entries vs) ≡ cuts c e p
     cut_idle ending e v vs told same idle class last does runs right is = end_cut e v vs same does is
     cut_idle stepping e v vs told same idle class last does runs right is = told_here stepping e v vs told class (λ h. cc) last (stops_or same idle) does is runs right
     cut_idle reaching e v vs told same idle class last does runs right is = told_here reaching e v vs told class (λ h. cc) last (stops_or same idle) does is runs right

@@ -1,5 +1,5 @@
 -- The acts of a lane.
-use Rattle.std.specs.Prelude.{ℕ, ◌≡◌, List, Result, Ok, Err, IsOk, IsSome}
+use Rattle.std.specs.Prelude.{ℕ, ◌≡◌, Bool, true, false, List, Result, Ok, Err, IsOk, IsSome}
 use Rattle.store_types.specs.declared.refusal.Refusal.{Refusal}
 use Rattle.store_types.specs.declared.refusal.Refusal.TheVariants.{BadBlob, WrongSize, WrongDigest}
 use Rattle.store_types.specs.declared.names.Digest32.{Digest32}
@@ -13,6 +13,8 @@ use Rattle.store_model.specs.declared.step.Step.{Step}
 use Rattle.store_model.specs.declared.step.Step.TheVariants as steps
 use Rattle.store_history.specs.declared.act.Act.{Act}
 use Rattle.store_history.specs.declared.act.Act.TheVariants as acts
+use Rattle.store_history.specs.declared.act.Family.{Family}
+use Rattle.store_history.specs.declared.act.Family.TheVariants.{Reads, Writes, Manages, Collects, Reaches, Wants, Ends}
 
 -- ---- well-formed acts
 
@@ -120,3 +122,45 @@ class_of acts.Step = sweeping
 class_of acts.Short = wanting
 class_of acts.End = ending
 class_of a = stepping
+
+-- ---- which part of the core does it
+
+-- a command's; one that is no act of its own (`IsPlain`) counts as a writer's
+abbrev pub command_family : Command → Family
+command_family (commands.OpenReader snapshot) = Reads
+command_family (commands.Download file offset) = Reads
+command_family (commands.GetChunk digest) = Reads
+command_family (commands.Range file offset length) = Reads
+command_family commands.CloseReader = Reads
+command_family (commands.List after) = Manages
+command_family (commands.Files snapshot) = Manages
+command_family (commands.Forget snapshot) = Manages
+command_family (commands.Group group) = Manages
+command_family c = Writes
+
+abbrev pub family_of : Act → Family
+family_of (acts.Plain c) = command_family c
+family_of (acts.JobGroup c) = Manages
+family_of (acts.Blob name checked) = Writes
+family_of (acts.Chunk digest checked) = Writes
+family_of (acts.ReadFile name offset) = Reads
+family_of (acts.ReadChunk name entry) = Reads
+family_of (acts.RemoteList c) = Reaches
+family_of (acts.RemoteFile snapshot name offset) = Reaches
+family_of (acts.RemoteChunk digest) = Reaches
+family_of acts.Start = Collects
+family_of acts.Step = Collects
+family_of acts.Short = Wants
+family_of acts.End = Ends
+
+abbrev pub is_managing : Family → Bool
+is_managing Manages = true
+is_managing family = false
+
+abbrev pub is_collecting : Family → Bool
+is_collecting Collects = true
+is_collecting family = false
+
+abbrev pub is_reaching : Family → Bool
+is_reaching Reaches = true
+is_reaching family = false

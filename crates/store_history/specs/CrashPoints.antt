@@ -1,14 +1,11 @@
 -- The plain store after a beginning of a history, and what opening a crashed disk may give. A crash point is a count of the disk's calls.
-use Rattle.std.specs.Prelude.{ℕ, ◌≡◌, ◌+◌, ◌⊎◌, Bool, true, false, not, ◌&&◌, List, [], ◌∷◌, take, Option, is_none, if◌then◌else◌, ◌==◌, nat_le}
+use Rattle.std.specs.Prelude.{ℕ, ◌≡◌, ◌+◌, ◌⊎◌, Bool, true, false, not, ◌&&◌, List, [], ◌∷◌, Option, is_none, if◌then◌else◌, ◌==◌, nat_le}
+use Rattle.store_types.specs.declared.order.TheConstants.{FAULT_KIND}
 use Rattle.store_files.specs.Archive.{Snapshot}
 use Rattle.store_model.specs.Store.{Store}
 use Rattle.store_model.specs.Steps.{answered}
 use Rattle.store_history.specs.declared.act.Event.{Event}
-use Rattle.store_history.specs.History.{World, Opening, opened, lane, moment, kind, act_outcome, after, after_all}
-
--- the finished snapshots after so many events
-abbrev pub snapshots_after : Option (List Snapshot) → Opening → List Event → ℕ → List Snapshot
-snapshots_after remote o h n = ((after_all remote (opened o) (take n h)).store).snapshots
+use Rattle.store_history.specs.History.{World, lane, moment, kind, act_outcome, after}
 
 -- the events that were answered by this count of the disk's calls are the first ones, since its calls never fall
 abbrev pub answered_by : ℕ → List Event → ℕ
@@ -21,11 +18,11 @@ undisturbed remote w e = (answered w.store (act_outcome remote w (lane e) (momen
 
 -- the event that comes next in the disk's life: as it was, or, where it met the first fault, as it was to be
 abbrev pub one_more : Option (List Snapshot) → World → Event → Store
-one_more remote w e = if kind e == 5 then undisturbed remote w e else (after remote w e).store
+one_more remote w e = if kind e == FAULT_KIND then undisturbed remote w e else (after remote w e).store
 
 -- a fault stops the disk: no event counts as answered from it on
 abbrev pub is_past : ℕ → World → Event → Bool
-is_past t w e = nat_le e.calls t && not (kind e == 5) && is_none w.fault
+is_past t w e = nat_le e.calls t && not (kind e == FAULT_KIND) && is_none w.fault
 
 abbrev pub Either : Bool → Type 0 → Type 0 → Type 0
 Either true A B = A

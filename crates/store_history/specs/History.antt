@@ -138,10 +138,10 @@ sent h = flat_map (λ e. sent_by e.act) h
 -- whether memory was wanting since the lane's collector opened, where it is open
 abbrev pub open_on : ℕ → Option Collecting → Option Bool
 open_on k None = None
-open_on k (Some c) = if c.lane == k then Some c.is_short else None
+open_on k (Some c) = if c.lane == k then Some c.is_out_of_memory else None
 
 abbrev pub new_collecting : ℕ → Bool → Option Collecting
-new_collecting k is_short = Some (record { lane = k; is_short = is_short })
+new_collecting k is_out_of_memory = Some (record { lane = k; is_out_of_memory = is_out_of_memory })
 
 -- memory was wanting on the lane
 abbrev pub cut_on : ℕ → Option Collecting → Option Collecting

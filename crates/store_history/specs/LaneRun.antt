@@ -2,6 +2,7 @@
 use Rattle.std.specs.Prelude.{ℕ, ◌≡◌, ◌-◌, Bool, true, false, not, ◌&&◌, ◌||◌, List, [], ◌∷◌, ◌++◌, map, length, take, nat_le, ◌==◌, if◌then◌else◌, Option, Some, None, is_none}
 use Rattle.std.specs.Int.{w32, from_le_bytes}
 use Rattle.std.specs.List.{flat_map}
+use Rattle.store_types.specs.declared.order.TheConstants.{PART_KIND, MEMORY_KIND, START_KIND, FAULT_KIND, END_KIND}
 use Rattle.wire_frames.specs.Frames.{frame, short, cut}
 use Rattle.wire_commands.specs.declared.command.Command.TheVariants as commands
 use Rattle.wire_commands.specs.declared.reply.Reply.{Reply}
@@ -47,7 +48,7 @@ pub record Position : Type 0 where
   pub job : Option Asking
   pub pull : Option Pulling
   pub collecting : Option Bool
-  pub is_short : Bool
+  pub is_out_of_memory : Bool
   pub is_spent : Bool
   pub told : List Reply
   pub is_over : Bool
@@ -59,7 +60,7 @@ begin input = record {
   job = None;
   pull = None;
   collecting = None;
-  is_short = false;
+  is_out_of_memory = false;
   is_spent = false;
   told = [];
   is_over = false;
@@ -71,7 +72,7 @@ lane_of p = record { size = p.size; left = p.left; job = p.job; told = plain_tex
 
 -- the lane's collector goes on before its input does
 unfoldable pub next_at : Position → Next
-next_at p = elim p.collecting [ None ↦ lane_next (lane_of p) | Some is_short ↦ collecting is_short ]
+next_at p = elim p.collecting [ None ↦ lane_next (lane_of p) | Some is_out_of_memory ↦ collecting is_out_of_memory ]
 
 -- ---- after an answer
 
@@ -95,22 +96,22 @@ used_up p r = record (tells p [] r) { is_spent = true }
 
 -- want of memory ends the collector with its next act; any other reply has ended it
 abbrev pub swept : Position → ℕ → Reply → Position
-swept p kind r = if kind == 2 then record p { collecting = Some true } else tells (record p { collecting = None }) p.left r
+swept p kind r = if kind == MEMORY_KIND then record p { collecting = Some true } else tells (record p { collecting = None }) p.left r
 
 unfoldable pub heard_at : Position → ℕ → Option Reply → Next → Position
 heard_at p kind (Some r) (job_step j left) = goes_on p left (job_take j r)
 heard_at p kind (Some r) (plain c left) = tells p left r
-heard_at p kind (Some r) (sync group left) = if kind == 1 then pulls_on p p.left (sought group r) else tells p left r
+heard_at p kind (Some r) (sync group left) = if kind == PART_KIND then pulls_on p p.left (sought group r) else tells p left r
 heard_at p kind (Some r) (collect left) = tells p left r
-heard_at p kind None (collect left) = if kind == 3 then record p { left = left; collecting = Some false } else p
-heard_at p kind (Some r) (collecting is_short) = swept p kind r
-heard_at p kind (Some r) (broken refusal) = if kind == 2 then used_up p r else p
+heard_at p kind None (collect left) = if kind == START_KIND then record p { left = left; collecting = Some false } else p
+heard_at p kind (Some r) (collecting is_out_of_memory) = swept p kind r
+heard_at p kind (Some r) (broken refusal) = if kind == MEMORY_KIND then used_up p r else p
 heard_at p kind _ _ = p
 
 -- want of memory was the answer, or ended the collector
 abbrev pub wants : ℕ → Option Bool → Bool
 wants kind (Some true) = true
-wants kind _ = kind == 2
+wants kind _ = kind == MEMORY_KIND
 
 -- what is left behind the SYNC's command
 abbrev pub behind : Position → Pulling → Next → List ℕ
@@ -130,7 +131,7 @@ heard_by (Some x) p kind r = heard_pulling p x r
 unfoldable pub heard : Position → Answer → Position
 heard p a =
     let q = heard_by p.pull p (a.entry).kind a.reply in
-    record q { is_short = wants (a.entry).kind p.collecting; is_spent = a.last || q.is_spent }
+    record q { is_out_of_memory = wants (a.entry).kind p.collecting; is_spent = a.last || q.is_spent }
 
 -- The lane's end. Its reply is that of BYE, or of what is no command.
 unfoldable pub last_words : Ending → Position → Next → Position
@@ -144,7 +145,7 @@ end_faulted endings.NoMemory p r = if is_none p.job then p else heard_at p 5 r (
 end_faulted _ p r = heard_at p 5 r (next_at p)
 
 abbrev pub end_heard : Ending → Position → ℕ → Option Reply → Position
-end_heard e p kind r = if kind == 5 then end_faulted e p r else record (last_words e p (next_at p)) { is_over = true }
+end_heard e p kind r = if kind == FAULT_KIND then end_faulted e p r else record (last_words e p (next_at p)) { is_over = true }
 
 -- the lane after one of its answers
 abbrev pub heard_as : Class → Ending → Position → Answer → Position
@@ -162,7 +163,7 @@ Asks (job_step j left) a = a ≡ act_of_step (step_of j)
 Asks (plain c left) a = a ≡ act_of_command c
 Asks (sync group left) a = a ≡ acts.RemoteList (commands.Sync group)
 Asks (collect left) a = a ≡ acts.Start
-Asks (collecting is_short) a = a ≡ acts.Step
+Asks (collecting is_out_of_memory) a = a ≡ acts.Step
 Asks _ a = ⊥
 
 -- until its first step a SYNC's command is next in the input
@@ -223,12 +224,12 @@ EndsSo (endings.Broken place) p (broken refusal) = (p.is_spent ≡ false) × (pl
 EndsSo endings.SourceFault p n = (p.is_spent ≡ false) × (p.job ≡ None) × (cut p.left ≡ short)
 EndsSo endings.SourceTooLong p n = (p.is_spent ≡ false) × (p.job ≡ None) × (cut p.left ≡ short)
 EndsSo endings.SinkFault p n = Unit {0}
-EndsSo endings.NoMemory p n = ((p.is_short || p.is_spent) ≡ true) × (job_stops p.job ≡ false)
+EndsSo endings.NoMemory p n = ((p.is_out_of_memory || p.is_spent) ≡ true) × (job_stops p.job ≡ false)
 EndsSo _ p n = ⊥
 
 -- the lane's end, and no other event, follows
 abbrev pub EndFollows : List Event → Type 0
-EndFollows (v ∷ []) = (class_of v.act ≡ ending) × (kind v ≡ 6)
+EndFollows (v ∷ []) = (class_of v.act ≡ ending) × (kind v ≡ END_KIND)
 EndFollows _ = ⊥
 
 -- The program makes this act here, before these events of its own. A lane ends its collector and its SYNC before it ends. An end that met a fault
@@ -239,7 +240,7 @@ Does reaching e p v vs = (p.is_spent ≡ false) × AsksBy p.pull (next_at p) v.a
 Does starting e p v vs = (p.is_spent ≡ false) × AsksBy p.pull (next_at p) v.act
 Does sweeping e p v vs = AsksBy p.pull (next_at p) v.act
 Does wanting e p v vs = (p.is_spent ≡ false) × (may_want_at p ≡ true)
-Does ending e p v vs = EndsSo e p (next_at p) × (kind v ≡ 5 → EndFollows vs) × (p.collecting ≡ None) × (p.pull ≡ None)
+Does ending e p v vs = EndsSo e p (next_at p) × (kind v ≡ FAULT_KIND → EndFollows vs) × (p.collecting ≡ None) × (p.pull ≡ None)
 
 -- The lane's own events from this position on are a run of its program, and this is what it told in the end.
 abbrev pub Runs : Ending → Position → List Event → List Reply → Type 0

@@ -5,6 +5,7 @@ use Rattle.store_types.specs.declared.refusal.SessionState.{SessionState}
 use Rattle.store_types.specs.declared.refusal.SessionState.TheVariants as states
 use Rattle.store_types.specs.declared.refusal.Refusal.{Refusal}
 use Rattle.store_types.specs.declared.refusal.Refusal.TheVariants.{NoMemory, RemoteFault, WrongState}
+use Rattle.store_types.specs.declared.order.TheConstants.{MEMORY_KIND}
 use Rattle.port_traits.specs.Readings.{Readings, reading_at, readings_after}
 use Rattle.store_files.specs.Archive.{Snapshot}
 use Rattle.wire_commands.specs.declared.reply.Reply.{Reply}
@@ -113,7 +114,7 @@ pub record IsRight (remote : Option (List Snapshot)) (w : World) (e : Event) : T
   -- its entry's number is that of the events before
   pub place : (e.answer).place ≡ w.events
   -- an entry of the reserve is one of want of memory
-  pub last : (e.answer).last ≡ true → kind e ≡ 2
+  pub last : (e.answer).last ≡ true → kind e ≡ MEMORY_KIND
   -- moments and calls never fall
   pub risen : w.moment ≤ moment e
   pub in_time : moment e ≤ last_moment

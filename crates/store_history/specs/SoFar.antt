@@ -12,7 +12,7 @@ goes_further (job_step j left) = true
 goes_further (plain c left) = true
 goes_further (sync group left) = true
 goes_further (collect left) = true
-goes_further (collecting is_short) = true
+goes_further (collecting is_out_of_memory) = true
 goes_further _ = false
 
 abbrev pub further_by : Option Pulling → Next → Bool

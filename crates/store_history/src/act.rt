@@ -1,5 +1,8 @@
 //! What a lane asks of the core, and what it is answered.
 
+ghost use Rattle.std.specs.Prelude.{◌≡◌};
+ghost use Rattle.store_history.specs.Acts.{command_family, family_of};
+
 use store_types::{Bytes, Digest32, Entry, FileName, Refusal};
 use wire_commands::{Command, Reply};
 
@@ -52,6 +55,63 @@ pub enum Act {
     Short,
     /// The lane's end.
     End,
+}
+
+/// Which part of the core does an act.
+#[derive(Clone, Copy, Debug)]
+pub enum Family {
+    /// A reader's command, or a read of a VERIFY.
+    Reads,
+    /// A writer's command.
+    Writes,
+    /// A command on the store as a whole, or the first step of a PRUNE.
+    Manages,
+    /// An act of a collector.
+    Collects,
+    /// A read of the remote.
+    Reaches,
+    /// Want of memory outside the turn.
+    Wants,
+    /// The lane's end.
+    Ends,
+}
+
+/// The family of a command, as an act of its own.
+fn command_family(command: &Command) -> Family
+    ensures { result ≡ command_family command.now }
+{
+    match command {
+        Command::OpenReader { .. }
+        | Command::Download { .. }
+        | Command::GetChunk { .. }
+        | Command::Range { .. }
+        | Command::CloseReader => Family::Reads,
+        Command::List { .. }
+        | Command::Files { .. }
+        | Command::Forget { .. }
+        | Command::Group { .. } => Family::Manages,
+        _ => Family::Writes,
+    }
+}
+
+impl Act {
+    /// Which part of the core does it.
+    pub fn family(&self) -> Family
+        ensures { result ≡ family_of self.now }
+    {
+        match self {
+            Act::Plain(command) => command_family(command),
+            Act::Blob { .. } | Act::Chunk { .. } => Family::Writes,
+            Act::ReadFile { .. } | Act::ReadChunk { .. } => Family::Reads,
+            Act::JobGroup(_) => Family::Manages,
+            Act::Start | Act::Step => Family::Collects,
+            Act::RemoteList(_) | Act::RemoteFile { .. } | Act::RemoteChunk { .. } => {
+                Family::Reaches
+            }
+            Act::Short => Family::Wants,
+            Act::End => Family::Ends,
+        }
+    }
 }
 
 /// What an act is answered.

@@ -1,26 +1,25 @@
 -- What an entry finds at a lane: a collector's act, or what its job and its input have next; and how jobs take want of memory.
-use Rattle.std.proofs.Common.{◌≡◌, ℕ, ◌+◌, ◌-◌, length, Bool, true, false, List, [], ◌∷◌, ◌++◌, nat_lt, if◌then◌else◌, Option, None, Some, Ok, Err, refl}
+use Rattle.std.proofs.Common.{◌≡◌, ℕ, ◌+◌, ◌-◌, length, Bool, true, false, List, [], ◌∷◌, ◌++◌, nat_lt, if◌then◌else◌, Option, None, Some, refl}
 use Rattle.std.specs.Prelude.{◌==◌}
 use Rattle.store_types.specs.declared.order.Entry.{Entry}
-use Rattle.store_types.specs.declared.refusal.Refusal.{Refusal}
 use Rattle.store_types.specs.declared.refusal.Refusal.TheVariants.{NoMemory}
+use Rattle.store_types.specs.declared.order.TheConstants.{PART_KIND, START_KIND, STOP_KIND, REMOTE_FAULT_KIND}
 use Rattle.wire_commands.specs.declared.command.Command.{Command}
-use Rattle.wire_commands.specs.declared.command.Command.TheVariants.{OpenWriter, Previous, NewFixed, NewDynamic, Chunk, Append, CloseIndex, Blob, Finish, Abort, OpenReader, Download, GetChunk, Range, CloseReader, List as ListAll, Files, Forget, Prune, Verify, Sync, Gc, Group, Bye}
+use Rattle.wire_commands.specs.declared.command.Command.TheVariants.{Bye}
 use Rattle.wire_commands.specs.declared.rows.FileRow.{FileRow}
 use Rattle.wire_commands.specs.declared.rows.FileFault.{FileFault}
-use Rattle.wire_commands.specs.declared.reply.Reply.TheVariants.{Part, Verified, Refused}
+use Rattle.wire_commands.specs.declared.reply.Reply.TheVariants.{Part, Refused}
 use Rattle.wire_commands.specs.Inputs.{InputFront}
 use Rattle.wire_commands.specs.Inputs as inputs
 use Rattle.wire_commands.specs.Inputs.{front}
 use Rattle.store_model.specs.declared.piece.Piece.{Piece}
 use Rattle.store_model.specs.SizeLimits.{size_limit}
-use Rattle.store_model.specs.Job.{Visit, Pull, Asking, listing, reading, checking, closing, sending, aborting, Job, over, asking}
+use Rattle.store_model.specs.Job.{Visit, Asking, reading, closing, aborting, Job, over, asking}
 use Rattle.store_model.specs.Jobs.{take, take_more}
-use Rattle.store_model.specs.VerifyJob.{listed, read_part, checked}
+use Rattle.store_model.specs.VerifyJob.{read_part, checked}
 use Rattle.store_model.specs.VerifyJob as verify
-use Rattle.store_model.specs.SyncJob.{replied}
 use Rattle.store_model.specs.Lanes.{Lane, Collecting, Run, Next, job_step, plain, sync, collect, collecting, bye, broken, end, lane_at, collects, command_next, front_next, lane_next, next_beside, next_of}
-use Rattle.store_model.specs.Weave.{tell, want_collector, open_collector, stepped, passed, opens, closes, remote_failed, Endings, entered}
+use Rattle.store_model.specs.Weave.{passed, opens, closes, remote_failed, Endings, entered}
 
 -- ---- what is next, by the open collector
 
@@ -34,45 +33,23 @@ pub next_apart : (r : Run) (k : ℕ) → collects k r.collecting ≡ false → n
 unfolding next_of
 next_apart r k h = beside_another r.collecting k (lane_at r k) h
 
-beside_own : (o : Option Collecting) (k : ℕ) (lane : Lane) (c : Collecting) → o ≡ Some c → (c.lane == k) ≡ true → next_beside o k lane ≡ collecting c.is_short
+beside_own : (o : Option Collecting) (k : ℕ) (lane : Lane) (c : Collecting) → o ≡ Some c → (c.lane == k) ≡ true → next_beside o k lane ≡ collecting c.is_out_of_memory
 unfolding next_beside
 beside_own o k lane c is h = rw (is, h) refl
 
 -- it is the lane's
-pub next_own : (r : Run) (k : ℕ) (c : Collecting) → r.collecting ≡ Some c → (c.lane == k) ≡ true → next_of r k ≡ collecting c.is_short
+pub next_own : (r : Run) (k : ℕ) (c : Collecting) → r.collecting ≡ Some c → (c.lane == k) ≡ true → next_of r k ≡ collecting c.is_out_of_memory
 unfolding next_of
 next_own r k c is h = beside_own r.collecting k (lane_at r k) c is h
 
 abbrev pub is_act : Next → Bool
-is_act (collecting is_short) = true
+is_act (collecting is_out_of_memory) = true
 is_act _ = false
 
 command_no_act : (c : Command) (left : List ℕ) → is_act (command_next c left) ≡ false
 unfolding command_next
-command_no_act (OpenWriter snapshot) left = refl
-command_no_act (Previous file offset) left = refl
-command_no_act (NewFixed file size chunk_size) left = refl
-command_no_act (NewDynamic file) left = refl
-command_no_act (Chunk digest blob) left = refl
-command_no_act (Append number entries) left = refl
-command_no_act (CloseIndex number count size csum) left = refl
-command_no_act (Blob file blob) left = refl
-command_no_act Finish left = refl
-command_no_act Abort left = refl
-command_no_act (OpenReader snapshot) left = refl
-command_no_act (Download file offset) left = refl
-command_no_act (GetChunk digest) left = refl
-command_no_act (Range file offset len) left = refl
-command_no_act CloseReader left = refl
-command_no_act (ListAll after) left = refl
-command_no_act (Files snapshot) left = refl
-command_no_act (Forget snapshot) left = refl
-command_no_act (Prune group keep dry) left = refl
-command_no_act (Verify snapshot) left = refl
-command_no_act (Sync group) left = refl
-command_no_act Gc left = refl
-command_no_act (Group group) left = refl
 command_no_act Bye left = refl
+command_no_act c left = refl
 
 front_no_act : (offset : ℕ) (f : InputFront) → is_act (front_next offset f) ≡ false
 unfolding front_next
@@ -93,7 +70,7 @@ lane_no_act lane = by_job lane lane.job refl
 -- so nothing else is closed
 pub closes_act : (r : Run) (k : ℕ) (n : Next) → is_act n ≡ false → closes r k n ≡ None
 unfolding closes
-closes_act r k (collecting is_short) h = cc
+closes_act r k (collecting is_out_of_memory) h = cc
 closes_act r k (job_step j left) h = refl
 closes_act r k (plain c left) h = refl
 closes_act r k (sync group left) h = refl
@@ -102,71 +79,24 @@ closes_act r k bye h = refl
 closes_act r k (broken refusal) h = refl
 closes_act r k end h = refl
 
--- ---- GC opens a collector, or is refused
-
-module _ (r : Run) (k : ℕ) (left : List ℕ) where
-  pub gc_opens : want_collector r k ≡ Ok tt → opens r k (collect left) ≡ Some (open_collector r k left)
-  unfolding opens
-  gc_opens h = rw (opens, h) refl
-
-  pub gc_is_not_refused : (moment : ℕ) → want_collector r k ≡ Ok tt → stepped r k moment (collect left) ≡ None
-  unfolding stepped
-  gc_is_not_refused moment h = rw (stepped, h) refl
-
-  pub gc_is_refused : (moment : ℕ) (refusal : Refusal) → want_collector r k ≡ Err refusal → stepped r k moment (collect left) ≡ Some (tell r k left (Refused refusal))
-  unfolding stepped
-  gc_is_refused moment refusal h = rw (stepped, h) refl
-
-  pub gc_opens_none : (refusal : Refusal) → want_collector r k ≡ Err refusal → opens r k (collect left) ≡ None
-  unfolding opens
-  gc_opens_none refusal h = rw (opens, h) refl
-
 -- ---- an entry, by its kind
 
 module _ (E : Endings) (r : Run) (place : ℕ) (e : Entry) (later : List Entry) where
-  pub entered_1 : e.kind ≡ 1 → entered E r place e later ≡ passed r (next_of r e.lane)
+  pub entered_1 : e.kind ≡ PART_KIND → entered E r place e later ≡ passed r (next_of r e.lane)
   unfolding entered
   entered_1 h = rw h refl
 
-  pub entered_3 : e.kind ≡ 3 → entered E r place e later ≡ opens r e.lane (next_of r e.lane)
+  pub entered_3 : e.kind ≡ START_KIND → entered E r place e later ≡ opens r e.lane (next_of r e.lane)
   unfolding entered
   entered_3 h = rw h refl
 
-  pub entered_4 : e.kind ≡ 4 → entered E r place e later ≡ closes r e.lane (next_of r e.lane)
+  pub entered_4 : e.kind ≡ STOP_KIND → entered E r place e later ≡ closes r e.lane (next_of r e.lane)
   unfolding entered
   entered_4 h = rw h refl
 
-  pub entered_7 : e.kind ≡ 7 → entered E r place e later ≡ remote_failed r e.lane (next_of r e.lane)
+  pub entered_7 : e.kind ≡ REMOTE_FAULT_KIND → entered E r place e later ≡ remote_failed r e.lane (next_of r e.lane)
   unfolding entered
   entered_7 h = rw h refl
-
--- ---- want of memory
-
--- Where a VERIFY's step wants memory its reader is closed. So it does not matter whether the step or the next one wanted it.
-abbrev pub ClosesShort : Asking → Type 0
-ClosesShort a = take a (Refused NoMemory) ≡ asking (closing (Refused NoMemory))
-
-module _ (v : Visit) (row : FileRow) where
-  pub listing_short : ClosesShort (listing v.snapshot)
-  unfolding take listed
-  listing_short = refl
-
-  pub reading_short : (bytes : List ℕ) → ClosesShort (reading v row bytes)
-  unfolding take read_part
-  reading_short bytes = refl
-
-  pub checking_short : (fault : Option FileFault) (place : ℕ) (p : Piece) (ps : List Piece) → ClosesShort (checking v row fault place p ps)
-  unfolding take checked
-  checking_short fault place p ps = refl
-
-  pub closing_short : (files entries bytes : ℕ) → ClosesShort (closing (Verified files entries bytes v.faults))
-  unfolding take
-  closing_short files entries bytes = refl
-
--- where a SYNC's command does, its writer ends
-pub sending_short : (p : Pull) (c : Command) (later : List Command) → take (sending p c later) (Refused NoMemory) ≡ asking (aborting (Refused NoMemory))
-unfolding take replied
-sending_short p c later = refl
 
 -- ---- a part of a file for which a VERIFY has no memory
 

@@ -20,3 +20,4 @@ pub mod ListingLemmas
 pub mod ManifestTexts
 pub mod EndingLemmas
 pub mod VerifyLemmas
+pub mod Done

@@ -23,7 +23,7 @@ pub record Lane : Type 0 where
 -- the lane whose collector is open, and whether memory was wanting since it opened
 pub record Collecting : Type 0 where
   pub lane : ℕ
-  pub is_short : Bool
+  pub is_out_of_memory : Bool
 
 -- the store, the remote's snapshots where there is one, the lanes, the open collector, and the place of the first fault
 pub record Run : Type 0 where
@@ -93,7 +93,7 @@ collects k (Some c) = c.lane == k
 -- a lane's collector goes on before its input does
 unfoldable pub next_beside : Option Collecting → ℕ → Lane → Next
 next_beside None k lane = lane_next lane
-next_beside (Some c) k lane = if c.lane == k then collecting c.is_short else lane_next lane
+next_beside (Some c) k lane = if c.lane == k then collecting c.is_out_of_memory else lane_next lane
 
 unfoldable pub next_of : Run → ℕ → Next
 next_of r k = next_beside r.collecting k (lane_at r k)

@@ -7,6 +7,7 @@ pub mod WriterCalls
 pub mod ReaderSteps
 pub mod AdminSteps
 pub mod Steps
+pub mod Done
 pub mod SizeLimits
 pub mod Job
 pub mod FaultRows

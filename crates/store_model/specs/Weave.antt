@@ -5,6 +5,7 @@ use Rattle.store_types.specs.declared.order.Entry.{Entry}
 use Rattle.store_types.specs.declared.refusal.Refusal.{Refusal}
 use Rattle.store_types.specs.declared.refusal.Refusal.TheVariants.{CollectorBusy, NoMemory, RemoteFault, DiskFault, Halted}
 use Rattle.store_types.specs.Chain.Refusing.{◌>>=◌, if_none}
+use Rattle.store_types.specs.declared.order.TheConstants.{COMMAND_KIND, PART_KIND, MEMORY_KIND, START_KIND, STOP_KIND, FAULT_KIND, END_KIND, REMOTE_FAULT_KIND}
 use Rattle.store_files.specs.Archive.{Snapshot}
 use Rattle.store_files.specs.Order.{keeps_rules}
 use Rattle.wire_commands.specs.declared.reply.Reply.{Reply}
@@ -59,7 +60,7 @@ want_collector r k = do
 unfoldable pub open_collector : Run → ℕ → List ℕ → Run
 open_collector r k left =
     let opened = with_lane r k (record (lane_at r k) { left = left }) in
-    record opened { collecting = Some (record { lane = k; is_short = false }) }
+    record opened { collecting = Some (record { lane = k; is_out_of_memory = false }) }
 
 -- the lane's collector closes with this reply
 unfoldable pub close_collector : Run → ℕ → Reply → Run
@@ -67,7 +68,7 @@ close_collector r k reply = tell (record r { collecting = None }) k (lane_at r k
 
 -- Want of memory since it opened is what it replies. Else five numbers: they are free, and are zeros here.
 abbrev pub collected : Bool → Reply
-collected is_short = if is_short then Refused NoMemory else Collected 0 0 0 0 0
+collected is_out_of_memory = if is_out_of_memory then Refused NoMemory else Collected 0 0 0 0 0
 
 -- ---- the kinds
 
@@ -81,7 +82,7 @@ stepped r k moment _ = None
 
 -- 1: an act of the lane's collector, or a read of the remote for a SYNC; the store and the replies stay
 unfoldable pub passed : Run → Next → Option Run
-passed r (collecting is_short) = Some r
+passed r (collecting is_out_of_memory) = Some r
 passed r (job_step j left) = if is_sync j then Some r else None
 passed r (sync group left) = Some r
 passed r _ = None
@@ -92,7 +93,7 @@ short r k (job_step j left) = Some (go_on r k left (take j (Refused NoMemory)))
 short r k (plain c left) = Some (tell r k left (Refused NoMemory))
 short r k (sync group left) = Some (tell r k left (Refused NoMemory))
 short r k (collect left) = Some (tell r k left (Refused NoMemory))
-short r k (collecting is_short) = Some (record r { collecting = Some (record { lane = k; is_short = true }) })
+short r k (collecting is_out_of_memory) = Some (record r { collecting = Some (record { lane = k; is_out_of_memory = true }) })
 short r k (broken refusal) = Some (tell r k [] (Refused NoMemory))
 short r k bye = None
 short r k end = None
@@ -104,7 +105,7 @@ opens r k _ = None
 
 -- 4: and closes
 unfoldable pub closes : Run → ℕ → Next → Option Run
-closes r k (collecting is_short) = Some (close_collector r k (collected is_short))
+closes r k (collecting is_out_of_memory) = Some (close_collector r k (collected is_out_of_memory))
 closes r k _ = None
 
 -- 5: a fault of the disk, and all that come after it; it is told of a command or a step, and not of a lane's end
@@ -117,7 +118,7 @@ told_fault r k refusal (job_step j left) = go_on r k left (take j (Refused refus
 told_fault r k refusal (plain c left) = tell r k left (Refused refusal)
 told_fault r k refusal (sync group left) = tell r k left (Refused refusal)
 told_fault r k refusal (collect left) = tell r k left (Refused refusal)
-told_fault r k refusal (collecting is_short) = close_collector r k (Refused refusal)
+told_fault r k refusal (collecting is_out_of_memory) = close_collector r k (Refused refusal)
 told_fault r k refusal _ = r
 
 abbrev pub first_fault : ℕ → Option ℕ → Option ℕ
@@ -126,7 +127,7 @@ first_fault place (Some first) = Some first
 
 abbrev pub is_end : Option Entry → Bool
 is_end None = false
-is_end (Some e) = e.kind == 6
+is_end (Some e) = e.kind == END_KIND
 
 -- want of memory ended the lane, with no job and no collector of it open, and its end comes next
 abbrev pub is_cut_off : Run → ℕ → Ending → List Entry → Bool
@@ -169,7 +170,7 @@ ends r k ending (plain c left) = unread r k ending
 ends r k ending (sync group left) = unread r k ending
 ends r k ending (collect left) = unread r k ending
 -- its collector closes, and no one is told
-ends r k ending (collecting is_short) = unread (record r { collecting = None }) k ending
+ends r k ending (collecting is_out_of_memory) = unread (record r { collecting = None }) k ending
 
 -- 7: a read of the remote failed, for this step of a SYNC
 unfoldable pub remote_failed : Run → ℕ → Next → Option Run
@@ -188,14 +189,14 @@ unfoldable pub entered : Endings → Run → ℕ → Entry → List Entry → Op
 entered ending_of r place e later =
     let n = next_of r e.lane in
     let ending = ending_of e.lane n in
-    if e.kind == 0 then stepped r e.lane e.moment n else
-    if e.kind == 1 then passed r n else
-    if e.kind == 2 then short r e.lane n else
-    if e.kind == 3 then opens r e.lane n else
-    if e.kind == 4 then closes r e.lane n else
-    if e.kind == 5 then Some (faulted r e.lane place ending later n) else
-    if e.kind == 6 then ends r e.lane ending n else
-    if e.kind == 7 then remote_failed r e.lane n else
+    if e.kind == COMMAND_KIND then stepped r e.lane e.moment n else
+    if e.kind == PART_KIND then passed r n else
+    if e.kind == MEMORY_KIND then short r e.lane n else
+    if e.kind == START_KIND then opens r e.lane n else
+    if e.kind == STOP_KIND then closes r e.lane n else
+    if e.kind == FAULT_KIND then Some (faulted r e.lane place ending later n) else
+    if e.kind == END_KIND then ends r e.lane ending n else
+    if e.kind == REMOTE_FAULT_KIND then remote_failed r e.lane n else
     None
 
 -- the first entry that doesn't fit, its lane, and how long that lane's replies are by then

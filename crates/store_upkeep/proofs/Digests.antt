@@ -5,15 +5,15 @@ use Rattle.sha2.specs.Sha256.{sha256}
 use Rattle.store_types.specs.declared.names.Digest32.{Digest32}
 use Rattle.store_types.specs.declared.refusal.Refusal.{Refusal}
 use Rattle.store_types.specs.declared.refusal.Refusal.TheVariants.{NoMemory}
-use Rattle.store_types.specs.Chain.Refusing.{◌>>=◌}
 use Rattle.store_files.specs.Archive.{Snapshot}
 use Rattle.store_files.specs.Folder.{IsDigest}
 use Rattle.wire_commands.specs.declared.reply.Reply.{Reply}
 use Rattle.wire_commands.specs.declared.reply.Reply.TheVariants.{Done, Refused}
-use Rattle.store_model.specs.Store.{Writer, Store, session, want_writer}
+use Rattle.store_model.specs.Store.{Store, Outcome}
 use Rattle.store_model.specs.ArchiveSteps.{checked_chunk}
 use Rattle.store_model.specs.Steps.{answered}
 use Rattle.store_model.specs.Weave.{fault_refusal}
+use Rattle.store_model.proofs.Done.{chunk_done}
 use Rattle.store_history.specs.declared.act.Act.{Act}
 use Rattle.store_history.specs.declared.act.Act.TheVariants as acts
 use Rattle.store_history.specs.declared.act.Event.{Event}
@@ -38,20 +38,18 @@ refused_apart refusal e = cc
 
 -- done, its check gave a piece
 piece_of : (s : Store) (k : ℕ) (checked : Result (List ℕ) Refusal) → Done ≡ (answered s (checked_chunk s k checked)).1 → (piece : List ℕ) × (checked ≡ Ok piece)
-unfolding checked_chunk
-piece_of s k (Ok piece) told = (piece, refl)
-piece_of s k (Err refusal) told = absurd (by_writer (want_writer (session s k)) told)
+piece_of s k checked = by_outcome (checked_chunk s k checked) refl
   where
-    by_writer : (x : Result Writer Refusal) → Done ≡ (answered s (x >>= λ w. Err refusal)).1 → ⊥
-    by_writer (Ok w) e = refused_apart refusal e
-    by_writer (Err other) e = refused_apart other e
+    by_outcome : (o : Outcome) → checked_chunk s k checked ≡ o → Done ≡ (answered s o).1 → (piece : List ℕ) × (checked ≡ Ok piece)
+    by_outcome (Ok after) e told = let d = chunk_done s k checked after e in (d.1, d.3)
+    by_outcome (Err refusal) e told = absurd (refused_apart refusal told)
 
 chunk_digest : (R : Option (List Snapshot)) (w : World) (k m : ℕ) (digest : Digest32) (checked : Result (List ℕ) Refusal) → IsCheckedChunk digest checked
     → (n : EntryKind) → Right R w k m (acts.Chunk digest checked) (Some Done) stepping n → IsDigest digest.0
 unfolding act_outcome
 chunk_digest R w k m digest checked formed step_kind right =
     let piece = piece_of w.store k (data_in checked) (some_same Done (answered w.store (act_outcome R w k m (acts.Chunk digest checked))).1 right.1) in
-    subst IsDigest (digest_is w.store k m digest checked piece.0 formed piece.1) (is_digest piece.0)
+    subst IsDigest (digest_is digest checked piece.0 formed piece.1) (is_digest piece.0)
 chunk_digest R w k m digest checked formed short_kind right = absurd (refused_apart NoMemory (some_same Done _ right.0))
 chunk_digest R w k m digest checked formed fault_kind right = absurd (refused_apart (fault_refusal w.fault) (some_same Done _ right))
 chunk_digest R w k m digest checked formed _ right = absurd right

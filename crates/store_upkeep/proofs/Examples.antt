@@ -54,7 +54,7 @@ ordered = refl
 -- ---- a sweep: the first chunk is marked, the second is stale, and the third is not
 
 abbrev w : World
-w = record { store = store_of []; collecting = Some (record { lane = 0; is_short = false }); fault = None; events = 9; moment = 20; calls = 3 }
+w = record { store = store_of []; collecting = Some (record { lane = 0; is_out_of_memory = false }); fault = None; events = 9; moment = 20; calls = 3 }
 
 abbrev touches : List Touch
 touches = record { digest = 1 ∷ []; moment = 4 } ∷ record { digest = 2 ∷ []; moment = 5 } ∷ record { digest = 3 ∷ []; moment = 7 } ∷ []

@@ -2,6 +2,7 @@
 use Rattle.std.proofs.Common.{◌≡◌, ℕ, Bool, true, false, List, [], ◌∷◌, ◌++◌, Option, Some, None, subst}
 use Rattle.std.specs.Prelude.{IsSomeAnd}
 use Rattle.store_types.specs.declared.refusal.Refusal.TheVariants.{NoMemory}
+use Rattle.store_types.specs.declared.order.TheConstants.{STOP_KIND}
 use Rattle.store_files.specs.Archive.{Snapshot}
 use Rattle.wire_commands.specs.declared.reply.Reply.{Reply}
 use Rattle.wire_commands.specs.declared.reply.Reply.TheVariants.{Refused}
@@ -26,19 +27,19 @@ by_class : (R : Option (List Snapshot)) (w : World) (s : Swept) (k m : ℕ) (a :
 by_class R w s k m a r sweeping right fits off = by_short s r (collecting_on w k) right.1 fits off
 by_class R w s k m a r c right fits off = absurd right
 
-one_reported : (R : Option (List Snapshot)) (w : World) (s : Swept) (e : Event) → IsRight R w e → FitsSweep w s (lane e) (reply e) (class_of e.act) (kind_of (kind e)) → kind e ≡ 4
+one_reported : (R : Option (List Snapshot)) (w : World) (s : Swept) (e : Event) → IsRight R w e → FitsSweep w s (lane e) (reply e) (class_of e.act) (kind_of (kind e)) → kind e ≡ STOP_KIND
     → (reply e ≡ Some (Refused NoMemory) → ⊥) → IsReported s (reply e)
 one_reported R w s e right fits is off =
     by_class R w s (lane e) (moment e) e.act (reply e) (class_of e.act)
     (subst (λ n. Right R w (lane e) (moment e) e.act (reply e) (class_of e.act) (kind_of n)) is right.says)
     (subst (λ n. FitsSweep w s (lane e) (reply e) (class_of e.act) (kind_of n)) is fits) off
 
-last_reported : (R : Option (List Snapshot)) (w : World) (s : Swept) (es : List Event) (e : Event) → IsLegal R w (es ++ e ∷ []) → IsSwept R w s (es ++ e ∷ []) → kind e ≡ 4
+last_reported : (R : Option (List Snapshot)) (w : World) (s : Swept) (es : List Event) (e : Event) → IsLegal R w (es ++ e ∷ []) → IsSwept R w s (es ++ e ∷ []) → kind e ≡ STOP_KIND
     → (reply e ≡ Some (Refused NoMemory) → ⊥) → IsReported (swept_all R w s es) (reply e)
 unfolding swept_all
 last_reported R w s [] e legal fits is off = one_reported R w s e legal.0 fits.0 is off
 last_reported R w s (v ∷ es) e legal fits is off = last_reported R (after R w v) (swept_after R w s v) es e legal.1 fits.1 is off
 
 pub ends_reported : (R : Option (List Snapshot)) (o : Opening) (es : List Event) (e : Event) → IsLegal R (opened o) (es ++ e ∷ []) → IsSwept R (opened o) (swept_at o) (es ++ e ∷ [])
-    → kind e ≡ 4 → (reply e ≡ Some (Refused NoMemory) → ⊥) → IsReported (swept_all R (opened o) (swept_at o) es) (reply e)
+    → kind e ≡ STOP_KIND → (reply e ≡ Some (Refused NoMemory) → ⊥) → IsReported (swept_all R (opened o) (swept_at o) es) (reply e)
 ends_reported R o es e legal fits is off = last_reported R (opened o) (swept_at o) es e legal fits is off

@@ -1,26 +1,25 @@
 -- A chunk that was sent keeps its touch, and its writer keeps the chunk.
-use Rattle.std.proofs.Common.{◌≡◌, ◌≤◌, ◌⊎◌, inl, inr, ℕ, zero, suc, false, List, [], ◌∷◌, ◌++◌, map, get_or, set, Option, Some, None, IsSome, Result, Ok, Err, refl, sym, subst, ◌∙◌, arith, ltb-false}
+use Rattle.std.proofs.Common.{◌≡◌, ◌≤◌, ◌⊎◌, inl, inr, ℕ, zero, suc, false, List, [], ◌∷◌, ◌++◌, get_or, set, Option, Some, None, IsSome, Result, Ok, Err, refl, sym, subst, ◌∙◌, arith, ltb-false}
 use Rattle.std.specs.Prelude.{IfSome, IsSomeAnd}
 use Rattle.sha2.specs.Sha256.{sha256}
 use Rattle.store_types.specs.declared.names.Digest32.{Digest32}
 use Rattle.store_types.specs.declared.refusal.Refusal.{Refusal}
 use Rattle.store_types.specs.declared.refusal.Refusal.TheVariants.{NoMemory}
-use Rattle.store_types.specs.Chain.Refusing.{◌>>=◌}
 use Rattle.store_files.specs.Archive.{Snapshot}
 use Rattle.wire_commands.specs.declared.reply.Reply.{Reply}
-use Rattle.wire_commands.specs.declared.reply.Reply.TheVariants.{Done, Refused}
-use Rattle.store_model.specs.Store.{Session, none, Writer, writer, reader, Store, session, want_writer}
+use Rattle.wire_commands.specs.declared.reply.Reply.TheVariants.{Done}
+use Rattle.store_model.specs.Store.{Session, none, Writer, writer, reader, Store, Outcome, session}
 use Rattle.store_model.specs.Weave.{fault_refusal}
 use Rattle.store_model.specs.WriterCalls as calls
-use Rattle.store_model.specs.WriterSteps.{goes_on}
 use Rattle.store_model.specs.ArchiveSteps.{checked_chunk}
 use Rattle.store_model.specs.Steps.{answered}
+use Rattle.store_model.proofs.Done.{chunk_done}
 use Rattle.atime_book.specs.Touches.{is_stale}
 use Rattle.store_history.specs.declared.act.Act.{Act}
 use Rattle.store_history.specs.declared.act.Act.TheVariants.{Chunk}
 use Rattle.store_history.specs.declared.act.Event.{Event}
 use Rattle.store_history.specs.Acts.{IsCheckedChunk, IsWellFormed, class_of, stepping}
-use Rattle.store_history.specs.History.{World, Opening, EntryKind, step_kind, short_kind, fault_kind, kind_of, data_in, act_outcome, moved, opened, after, after_all, lane, moment, kind, reply}
+use Rattle.store_history.specs.History.{World, EntryKind, step_kind, short_kind, fault_kind, kind_of, data_in, act_outcome, moved, opened, after, after_all, lane, moment, kind, reply}
 use Rattle.store_history.specs.Legal.{Right, IsRight, IsLegal}
 use Rattle.store_history.specs.Sweeping.{Swept, swept_at, passing, swept_after, swept_all, swept}
 use Rattle.store_upkeep.specs.Safety.{In, MayAppend, IsFresh}
@@ -85,22 +84,20 @@ set_here (x ∷ xs) (suc k) v y is = set_here xs k v y is
 module _ (R : Option (List Snapshot)) (w : World) (k m : ℕ) (d : List ℕ) where
   -- by a CHUNK that was done
   module _ (digest : Digest32) (checked : Result (List ℕ) Refusal) (formed : IsCheckedChunk digest checked) (same : d ≡ digest.0) where
-    by_parts : (y : Session) (z : Result (List ℕ) Refusal) → session w.store k ≡ y → data_in checked ≡ z
-        → Some Done ≡ Some (answered w.store (want_writer y >>= (λ v. z >>= (λ piece. goes_on w.store k (calls.chunk v piece) Done)))).1
-        → (x : Writer) × (session (answered w.store (want_writer y >>= (λ v. z >>= (λ piece. goes_on w.store k (calls.chunk v piece) Done)))).0 k ≡ writer x) × MayAppend x d
-    unfolding goes_on
-    by_parts none z is has done = cc
-    by_parts (reader r) z is has done = cc
-    by_parts (writer v) (Err refusal) is has done = cc
-    by_parts (writer v) (Ok piece) is has done = (
-      calls.chunk v piece,
-      set_here (w.store).sessions k v (writer (calls.chunk v piece)) is,
-      in_map_right sha256 v.pool (piece ∷ []) d (inl (same ∙ sym (digest_is w.store k m digest checked piece formed has))),
+    abbrev HoldsIn : Store → Type 0
+    HoldsIn t = (x : Writer) × (session t k ≡ writer x) × MayAppend x d
+
+    by_outcome : (o : Outcome) → checked_chunk w.store k (data_in checked) ≡ o → Some Done ≡ Some (answered w.store o).1 → HoldsIn (answered w.store o).0
+    by_outcome (Ok after) e done = let t = chunk_done w.store k (data_in checked) after e in subst (λ (x : Store × Reply). HoldsIn x.0) (sym t.4) (
+      calls.chunk t.0 t.1,
+      set_here (w.store).sessions k t.0 (writer (calls.chunk t.0 t.1)) t.2,
+      in_map_right sha256 (t.0).pool (t.1 ∷ []) d (inl (same ∙ sym (digest_is digest checked t.1 formed t.3))),
     )
+    by_outcome (Err refusal) e done = absurd (refused_done refusal (Some Done) done refl)
 
     by_kind : (n : EntryKind) → Right R w k m (Chunk digest checked) (Some Done) stepping n → Holds (moved R w k m (Chunk digest checked) n) k d
-    unfolding moved act_outcome checked_chunk
-    by_kind step_kind right = by_parts (session w.store k) (data_in checked) refl refl right.1
+    unfolding moved act_outcome
+    by_kind step_kind right = by_outcome (checked_chunk w.store k (data_in checked)) refl right.1
     by_kind short_kind right = absurd (refused_done NoMemory (Some Done) right.0 refl)
     by_kind fault_kind right = absurd (refused_done (fault_refusal w.fault) (Some Done) right refl)
     by_kind n right = absurd right

@@ -3,6 +3,7 @@ use Rattle.std.proofs.Common.{◌≡◌, ◌⊎◌, inl, inr, ℕ, zero, suc, Bo
 use Rattle.std.specs.Prelude.{option_map, IsSome, IsSomeAnd}
 use Rattle.std.proofs.lemmas.Bool.{false≢true, eqb-true}
 use Rattle.store_types.specs.declared.refusal.Refusal.TheVariants.{NoMemory}
+use Rattle.store_types.specs.declared.order.TheConstants.{START_KIND, STOP_KIND}
 use Rattle.store_files.specs.Archive.{Snapshot}
 use Rattle.wire_commands.specs.declared.reply.Reply.{Reply}
 use Rattle.wire_commands.specs.declared.reply.Reply.TheVariants.{Refused}
@@ -70,7 +71,7 @@ record Found (R : Option (List Snapshot)) (w : World) (s : Swept) (es : List Eve
   since : List Event
   parts : es ≡ before ++ start ∷ since
   act : start.act ≡ acts.Start
-  kind_is : kind start ≡ 3
+  kind_is : kind start ≡ START_KIND
   stays : StaysOpen R (after R (after_all R w before) start) (swept_after R (after_all R w before) (swept_all R w s before) start) since
 
 found_later : (R : Option (List Snapshot)) (w : World) (s : Swept) (v : Event) (es : List Event) → Found R (after R w v) (swept_after R w s v) es → Found R w s (v ∷ es)
@@ -193,7 +194,7 @@ lanes_stay R (v ∷ es) w s k legal on stays =
     let still = after_lane R w s v k legal.0 on (stays_some R (after R w v) (swept_after R w s v) es stays.1) in
     lanes_stay R es (after R w v) (swept_after R w s v) k legal.1 still stays.1
 
-start_on : (R : Option (List Snapshot)) (w : World) (s : Swept) (start : Event) (since : List Event) → IsLegal R w (start ∷ since) → start.act ≡ acts.Start → kind start ≡ 3
+start_on : (R : Option (List Snapshot)) (w : World) (s : Swept) (start : Event) (since : List Event) → IsLegal R w (start ∷ since) → start.act ≡ acts.Start → kind start ≡ START_KIND
     → StaysOpen R (after R w start) (swept_after R w s start) since → OnLane (lane start) (after_all R w (start ∷ since)).collecting
 unfolding after_all
 start_on R w s start since legal act kind_is stays =
@@ -201,7 +202,7 @@ start_on R w s start since legal act kind_is stays =
     (subst (OnLane (lane start)) (sym (opens R w s start act kind_is)) (on_new (lane start) false)) stays
 
 -- a collector that ends is open on its lane
-ends_on : (R : Option (List Snapshot)) (w : World) (e : Event) → IsRight R w e → kind e ≡ 4 → IsSome (collecting_on w (lane e))
+ends_on : (R : Option (List Snapshot)) (w : World) (e : Event) → IsRight R w e → kind e ≡ STOP_KIND → IsSome (collecting_on w (lane e))
 ends_on R w e right is =
     by_class (class_of e.act) (subst (λ n. Right R w (lane e) (moment e) e.act (reply e) (class_of e.act) (kind_of n)) is right.says)
   where
@@ -217,7 +218,7 @@ one_lane : (j k : ℕ) (c : Option Collecting) → OnLane j c → IsSome (open_o
 one_lane j k None on some = absurd on
 one_lane j k (Some c) on some = by_test (c.lane == k) refl some
   where
-    by_test : (t : Bool) → (c.lane == k) ≡ t → IsSome (if t then Some c.is_short else None) → j ≡ k
+    by_test : (t : Bool) → (c.lane == k) ≡ t → IsSome (if t then Some c.is_out_of_memory else None) → j ≡ k
     by_test true is some = sym on ∙ eqb-true c.lane k is
     by_test false is some = absurd (false≢true some)
 
@@ -242,7 +243,7 @@ over_of s r (Some x) is h = record { sweep = x; open_is = is; over = h.0; told =
 right_of : (R : Option (List Snapshot)) (w : World) (e : Event) → IsLegal R w (e ∷ []) → IsRight R w e
 right_of R w e legal = legal.0
 
-module _ (R : Option (List Snapshot)) (o : Opening) (es : List Event) (e : Event) (legal : IsLegal R (opened o) es) (right : IsRight R (after_all R (opened o) es) e) (is : kind e ≡ 4)
+module _ (R : Option (List Snapshot)) (o : Opening) (es : List Event) (e : Event) (legal : IsLegal R (opened o) es) (right : IsRight R (after_all R (opened o) es) e) (is : kind e ≡ STOP_KIND)
     (f : Found R (opened o) (swept_at o) es) (x : Over (swept R o es) (reply e)) where
   legal_since : IsLegal R (opened o) (f.before ++ f.start ∷ f.since)
   legal_since = subst (λ xs. IsLegal R (opened o) xs) f.parts legal
@@ -281,7 +282,7 @@ module _ (R : Option (List Snapshot)) (o : Opening) (es : List Event) (e : Event
   }
 
 pub reports_right : (R : Option (List Snapshot)) (o : Opening) (es : List Event) (e : Event) → IsLegal R (opened o) (es ++ e ∷ []) → IsSwept R (opened o) (swept_at o) (es ++ e ∷ [])
-    → kind e ≡ 4 → (reply e ≡ Some (Refused NoMemory) → ⊥) → ReportsWhole R o es e
+    → kind e ≡ STOP_KIND → (reply e ≡ Some (Refused NoMemory) → ⊥) → ReportsWhole R o es e
 reports_right R o es e legal fits is off =
     let parts = legal_parts R (opened o) es (e ∷ []) legal in
     let x = over_of (swept R o es) (reply e) (swept R o es).sweep refl (ends_reported R o es e legal fits is off) in

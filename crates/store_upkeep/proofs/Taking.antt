@@ -4,6 +4,7 @@ use Rattle.std.specs.Prelude.{option_map}
 use Rattle.std.specs.Str.{bytes_eq}
 use Rattle.std.proofs.lemmas.Bool.{false≢true}
 use Rattle.std.proofs.lemmas.Slice.Eq.{bytes_eq-Decides}
+use Rattle.store_types.specs.declared.order.TheConstants.{PART_KIND}
 use Rattle.store_files.specs.Archive.{Snapshot}
 use Rattle.wire_commands.specs.declared.command.Command.TheVariants.{Append}
 use Rattle.wire_commands.specs.declared.reply.Reply.{Reply}
@@ -40,24 +41,24 @@ pass_is acts.Step n h = (refl, one_is n h)
 pass_is a n h = absurd (false≢true h)
 
 pub only_visits : (R : Option (List Snapshot)) (w : World) (s : Swept) (e : Event) (d : List ℕ) → IsThere s.touches d → (IsThere (swept_after R w s e).touches d → ⊥)
-    → (taken_by s e ≡ Some d) × (e.act ≡ acts.Step) × (kind e ≡ 1)
+    → (taken_by s e ≡ Some d) × (e.act ≡ acts.Step) × (kind e ≡ PART_KIND)
 unfolding swept_after
 only_visits R w s e d there gone = by_taken (taken_by s e) refl
   where
     stays : (taken_by s e ≡ Some d → ⊥) → ⊥
     stays off = gone (stays_there s e (passing s e) d off (touches_there e s.touches d there))
 
-    visit : taken_by s e ≡ Some d → (taken_by s e ≡ Some d) × (e.act ≡ acts.Step) × (kind e ≡ 1)
+    visit : taken_by s e ≡ Some d → (taken_by s e ≡ Some d) × (e.act ≡ acts.Step) × (kind e ≡ PART_KIND)
     visit taken =
         let at = taken_is s d s.sweep (is_pass (class_of e.act) (kind_of (kind e))) refl taken in
         let is = pass_is e.act (kind e) at.1 in
         (taken, is.0, is.1)
 
-    by_test : (x : List ℕ) (b : Bool) → bytes_eq x d ≡ b → taken_by s e ≡ Some x → (taken_by s e ≡ Some d) × (e.act ≡ acts.Step) × (kind e ≡ 1)
+    by_test : (x : List ℕ) (b : Bool) → bytes_eq x d ≡ b → taken_by s e ≡ Some x → (taken_by s e ≡ Some d) × (e.act ≡ acts.Step) × (kind e ≡ PART_KIND)
     by_test x true same taken = visit (taken ∙ ap (λ y. Some y) ((bytes_eq-Decides x d).0 same))
     by_test x false same taken = absurd (stays (λ here. true≢false (sym ((bytes_eq-Decides x d).1 (some_same x d (sym taken ∙ here))) ∙ same)))
 
-    by_taken : (o : Option (List ℕ)) → taken_by s e ≡ o → (taken_by s e ≡ Some d) × (e.act ≡ acts.Step) × (kind e ≡ 1)
+    by_taken : (o : Option (List ℕ)) → taken_by s e ≡ o → (taken_by s e ≡ Some d) × (e.act ≡ acts.Step) × (kind e ≡ PART_KIND)
     by_taken None is = absurd (stays (λ here. none_some d (sym is ∙ here)))
     by_taken (Some x) is = by_test x (bytes_eq x d) refl is
 

@@ -5,6 +5,7 @@ use Rattle.std.proofs.lemmas.Bool.{false≢true}
 use Rattle.store_types.specs.declared.refusal.Refusal.{Refusal}
 use Rattle.store_types.specs.declared.refusal.Refusal.TheVariants.{CollectorBusy}
 use Rattle.store_types.specs.Chain.Refusing.{◌>>=◌, if_none}
+use Rattle.store_types.specs.declared.order.TheConstants.{START_KIND}
 use Rattle.store_files.specs.Archive.{Snapshot}
 use Rattle.wire_commands.specs.declared.reply.Reply.{Reply}
 use Rattle.wire_commands.specs.declared.reply.Reply.TheVariants.{Done}
@@ -285,7 +286,7 @@ run R (e ∷ es) w s u a b legal h is stays next =
 
 -- ---- the start
 
-module _ (R : Option (List Snapshot)) (w : World) (s : Swept) (e : Event) (act_is : e.act ≡ acts.Start) (kind_is : kind e ≡ 3) where
+module _ (R : Option (List Snapshot)) (w : World) (s : Swept) (e : Event) (act_is : e.act ≡ acts.Start) (kind_is : kind e ≡ START_KIND) where
   no_pass : is_pass (class_of e.act) (kind_of (kind e)) ≡ false
   no_pass = ap (λ (a : Act). is_pass (class_of a) (kind_of (kind e))) act_is
 

@@ -4,34 +4,20 @@ use Rattle.std.specs.Str.{bytes_eq}
 use Rattle.std.proofs.lemmas.Slice.Eq.{bytes_eq-Decides}
 use Rattle.sha2.specs.Sha256.{sha256}
 use Rattle.store_types.specs.declared.names.Digest32.{Digest32}
-use Rattle.store_types.specs.declared.names.SnapshotKey.{SnapshotKey}
 use Rattle.store_types.specs.declared.refusal.Refusal.{Refusal}
-use Rattle.store_types.specs.declared.refusal.Refusal.TheVariants.{BadName, NoFile, UnknownChunk, BadOffset, WrongSize}
+use Rattle.store_types.specs.declared.refusal.Refusal.TheVariants.{UnknownChunk, BadOffset, WrongSize}
 use Rattle.store_types.specs.Chain.Refusing.{◌>>=◌, unless, or_else}
-use Rattle.store_types.specs.FileNames.{is_fixed_name, is_dynamic_name}
-use Rattle.store_files.specs.Archive.{Layout, dynamic, fixed, Archive, File, archive, blob, content_of, csum_by, piece_with}
+use Rattle.store_files.specs.Archive.{Layout, Archive, File, archive, blob, piece_with}
 use Rattle.store_model.specs.Store.{Begun, Writer, Store}
-use Rattle.store_model.specs.Uploads.{want_room}
-use Rattle.store_model.specs.Archives.{new_archive, want_sizes, want_number, fits_layout, free_number, want_entries, piece_named, pieces_named, want_facts, change_first, without_first}
+use Rattle.store_model.specs.Archives.{fits_layout, free_number, piece_named, pieces_named, change_first, without_first}
 use Rattle.store_model.specs.WriterSteps.{with_pool, with_file}
-use Rattle.store_model.specs.WriterCalls.{numbers, begin, new_fixed, new_dynamic, has_number, begun_at, with_pieces, append, close_index}
+use Rattle.store_model.specs.WriterCalls.{numbers, begin, has_number, with_pieces}
 use Rattle.store_model.proofs.Finding.{found_passes}
+use Rattle.store_model.proofs.Done.{ok_same, err_ok}
 use Rattle.store_history.specs.Sweeping.{digests_of}
 use Rattle.store_upkeep.specs.Safety.{In, HasAppended, MayAppend, IsOfBase}
 use Rattle.store_upkeep.proofs.Members.{in_append, in_map, map_append_in, in_map_left, find_in, insert_file_in, change_first_in, without_first_in}
 use Rattle.store_upkeep.proofs.Moving.{GoesOn}
-
--- ---- results
-
-pub ok_same : {A : Type 0} (x y : A) → ◌≡◌ {A = Result A Refusal} (Ok x) (Ok y) → x ≡ y
-ok_same x y e = cc
-
-pub err_ok : {A : Type 0} (refusal : Refusal) (x : A) → ◌≡◌ {A = Result A Refusal} (Err refusal) (Ok x) → ⊥
-err_ok refusal x e = cc
-
-pub or_else_is : {A : Type 0} (refusal : Refusal) (o : Option A) (x : A) → or_else refusal o ≡ Ok x → o ≡ Some x
-or_else_is refusal None x e = absurd (err_ok refusal x e)
-or_else_is refusal (Some y) x e = ap Some (ok_same y x e)
 
 -- ---- pieces that are named
 
@@ -106,7 +92,7 @@ module _ (pool : List (List ℕ)) (layout : Layout) where
           with_others entry entries piece (pieces_named find_piece (λ p. length p) layout (place + 1) (end + length piece) entries) (is piece refl) (rest (end + length piece))
       by_piece (Err refusal) is rest = tt
 
-named_by : (pool : List (List ℕ)) (layout : Layout) (end : ℕ) (entries : List (Digest32 × ℕ)) (pieces : List (List ℕ))
+pub named_by : (pool : List (List ℕ)) (layout : Layout) (end : ℕ) (entries : List (Digest32 × ℕ)) (pieces : List (List ℕ))
     → pieces_named (λ digest. piece_with digest pool) (λ p. length p) layout 0 end entries ≡ Ok pieces → AreNamed pool entries pieces
 unfolding Names
 named_by pool layout end entries pieces e = subst (Names pool entries) e (names_all pool layout 0 end entries)
@@ -136,26 +122,13 @@ module _ (s : Store) (Sent Touched : List ℕ → Type 0) (v : Writer) where
       by_part d (inl h) = inl (inl h)
       by_part d (inr h) = by_file d h.0 (record { name = name; content = blob contents }) h.2 refl (insert_file_in (record { name = name; content = blob contents }) v.files h.0 h.1)
 
-  -- ---- by the writer's own commands
-
-  pub Grows : {X : Type 0} → Result (Writer × X) Refusal → Type 0
-  Grows (Ok b) = GoesOn s Sent Touched v b.0
-  Grows (Err refusal) = Unit {0}
-
-  bound : {A X : Type 0} (x : Result A Refusal) (f : A → Result (Writer × X) Refusal) → ((a : A) → x ≡ Ok a → Grows (f a)) → Grows (x >>= f)
-  unfolding Grows
-  bound (Ok a) f h = h a refl
-  bound (Err refusal) f h = tt
-
-  pub grown_is : {X : Type 0} (r : Result (Writer × X) Refusal) (b : Writer × X) → Grows r → r ≡ Ok b → GoesOn s Sent Touched v b.0
-  unfolding Grows
-  grown_is {X} r b grows e = subst (λ (x : Result (Writer × X) Refusal). Grows x) e grows
+  -- ---- NEW_FIXED and NEW_DYNAMIC
 
   abbrev new_begun : List ℕ → Archive → Begun
   new_begun name a = record { number = free_number (numbers v); name = name; archive = a }
 
-  begins_archive : (name : List ℕ) (layout : Layout) (reserved m : ℕ) (key : SnapshotKey) → GoesOn s Sent Touched v (begin v name (new_archive layout reserved key name m))
-  begins_archive name layout reserved m key = record { start = refl; base = refl; keeps = λ d h. h; pool = λ d h. inl h; appended = by_part }
+  pub begins_archive : (name : List ℕ) (a : Archive) → a.pieces ≡ [] → GoesOn s Sent Touched v (begin v name a)
+  begins_archive name a none = record { start = refl; base = refl; keeps = λ d h. h; pool = λ d h. inl h; appended = by_part }
     where
       by_begun : (d : List ℕ) (b new : Begun) → (new.archive).pieces ≡ [] → In d (map sha256 (b.archive).pieces) → In b v.begun ⊎ ((b ≡ new) ⊎ ⊥)
           → HasAppended v d ⊎ (MayAppend v d × Touched d)
@@ -163,26 +136,13 @@ module _ (s : Store) (Sent Touched : List ℕ → Type 0) (v : Writer) where
       by_begun d b new none has (inr (inl e)) = absurd (subst (λ ps. In d (map sha256 ps)) none (subst (λ (c : Begun). In d (map sha256 (c.archive).pieces)) e has))
       by_begun d b new none has (inr (inr h)) = absurd h
 
-      by_part : (d : List ℕ) → HasAppended (begin v name (new_archive layout reserved key name m)) d → HasAppended v d ⊎ (MayAppend v d × Touched d)
-      by_part d (inl h) =
-          by_begun d h.0 (new_begun name (new_archive layout reserved key name m)) refl h.2 (in_append v.begun (new_begun name (new_archive layout reserved key name m) ∷ []) h.0 h.1)
+      by_part : (d : List ℕ) → HasAppended (begin v name a) d → HasAppended v d ⊎ (MayAppend v d × Touched d)
+      by_part d (inl h) = by_begun d h.0 (new_begun name a) none h.2 (in_append v.begun (new_begun name a ∷ []) h.0 h.1)
       by_part d (inr h) = inl (inr h)
-
-  pub grows_fixed : (name : List ℕ) (size chunk_size m : ℕ) → Grows (new_fixed v name size chunk_size m)
-  unfolding Grows new_fixed
-  grows_fixed name size chunk_size m =
-      bound (unless BadName (is_fixed_name name)) _ (λ a _. bound (want_room name v) _ (λ b _. bound (want_number (length v.begun)) _
-      (λ c _. bound (want_sizes size chunk_size) _ (λ d _. begins_archive name (fixed size chunk_size) 4016 m v.key))))
-
-  pub grows_dynamic : (name : List ℕ) (m : ℕ) → Grows (new_dynamic v name m)
-  unfolding Grows new_dynamic
-  grows_dynamic name m =
-      bound (unless BadName (is_dynamic_name name)) _ (λ a _. bound (want_room name v) _ (λ b _. bound (want_number (length v.begun)) _
-      (λ c _. begins_archive name dynamic 4032 m v.key)))
 
   -- ---- APPEND
 
-  appends : (number : ℕ) (entries : List (Digest32 × ℕ)) (pieces : List (List ℕ)) → AreNamed v.pool entries pieces → ((d : List ℕ) → In d (map (λ e. (e.0).0) entries) → Touched d)
+  pub appends : (number : ℕ) (entries : List (Digest32 × ℕ)) (pieces : List (List ℕ)) → AreNamed v.pool entries pieces → ((d : List ℕ) → In d (map (λ e. (e.0).0) entries) → Touched d)
       → GoesOn s Sent Touched v (record v { begun = change_first (has_number number) (with_pieces pieces) v.begun })
   appends number entries pieces named touched = record { start = refl; base = refl; keeps = λ d h. h; pool = λ d h. inl h; appended = by_part }
     where
@@ -203,16 +163,9 @@ module _ (s : Store) (Sent Touched : List ℕ → Type 0) (v : Writer) where
       by_part d (inl h) = by_begun d h.0 h.2 (change_first_in (has_number number) (with_pieces pieces) v.begun h.0 h.1)
       by_part d (inr h) = inl (inr h)
 
-  pub grows_append : (number : ℕ) (entries : List (Digest32 × ℕ)) → ((d : List ℕ) → In d (map (λ e. (e.0).0) entries) → Touched d) → Grows (append v number entries)
-  unfolding Grows append
-  grows_append number entries touched =
-      bound (or_else NoFile (begun_at number v)) _ (λ b _. bound (want_entries (length (b.archive).pieces) (length entries)) _
-      (λ c _. bound (pieces_named (λ digest. piece_with digest v.pool) (λ p. length p) (b.archive).layout 0 (length (content_of b.archive)) entries) _
-      (λ pieces is. appends number entries pieces (named_by v.pool (b.archive).layout (length (content_of b.archive)) entries pieces is) touched)))
-
   -- ---- CLOSE_INDEX
 
-  closes : (number : ℕ) (b : Begun) → In b v.begun
+  pub closes : (number : ℕ) (b : Begun) → In b v.begun
       → GoesOn s Sent Touched v (with_file b.name (archive b.archive) (record v { begun = without_first (has_number number) v.begun }))
   closes number b at = record { start = refl; base = refl; keeps = λ d h. h; pool = λ d h. inl h; appended = by_part }
     where
@@ -224,35 +177,3 @@ module _ (s : Store) (Sent Touched : List ℕ → Type 0) (v : Writer) where
           → HasAppended v d ⊎ (MayAppend v d × Touched d)
       by_part d (inl h) = inl (inl (h.0, without_first_in (has_number number) v.begun h.0 h.1, h.2))
       by_part d (inr h) = by_file d h.0 (record { name = b.name; content = archive b.archive }) h.2 refl (insert_file_in (record { name = b.name; content = archive b.archive }) v.files h.0 h.1)
-
-  pub grows_close : (number count size : ℕ) (csum : Digest32) → Grows (close_index v number count size csum)
-  unfolding Grows close_index
-  grows_close number count size csum =
-      bound (or_else NoFile (begun_at number v)) _ (λ b is. bound (want_facts (b.archive).layout (length (b.archive).pieces) (length (content_of b.archive)) (csum_by (b.archive).layout b.archive) count size csum) _
-      (λ c _. closes number b (find_in (has_number number) v.begun b (or_else_is NoFile (begun_at number v) b is))))
-
--- ---- an APPEND that was done names pieces of the pool alone
-
-abbrev ArePooled : List (List ℕ) → List (Digest32 × ℕ) → Type 0
-ArePooled pool entries = (d : List ℕ) → In d (map (λ e. (e.0).0) entries) → In d (map sha256 pool)
-
-Pooled : {X : Type 0} → List (List ℕ) → List (Digest32 × ℕ) → Result X Refusal → Type 0
-Pooled pool entries (Ok x) = ArePooled pool entries
-Pooled pool entries (Err refusal) = Unit {0}
-
-pooled_bound : {A X : Type 0} (pool : List (List ℕ)) (entries : List (Digest32 × ℕ)) (x : Result A Refusal) (f : A → Result X Refusal)
-    → ((a : A) → x ≡ Ok a → Pooled pool entries (f a)) → Pooled pool entries (x >>= f)
-unfolding Pooled
-pooled_bound pool entries (Ok a) f h = h a refl
-pooled_bound pool entries (Err refusal) f h = tt
-
-append_pooled : (v : Writer) (number : ℕ) (entries : List (Digest32 × ℕ)) → Pooled v.pool entries (append v number entries)
-unfolding Pooled append
-append_pooled v number entries =
-    pooled_bound v.pool entries (or_else NoFile (begun_at number v)) _ (λ b _. pooled_bound v.pool entries (want_entries (length (b.archive).pieces) (length entries)) _
-    (λ c _. pooled_bound v.pool entries (pieces_named (λ digest. piece_with digest v.pool) (λ p. length p) (b.archive).layout 0 (length (content_of b.archive)) entries) _
-    (λ pieces is. (named_by v.pool (b.archive).layout (length (content_of b.archive)) entries pieces is).all)))
-
-pub appended_pooled : (v : Writer) (number : ℕ) (entries : List (Digest32 × ℕ)) (b : Writer × Unit {0}) → append v number entries ≡ Ok b → ArePooled v.pool entries
-unfolding Pooled
-appended_pooled v number entries b e = subst (λ (x : Result (Writer × Unit {0}) Refusal). Pooled v.pool entries x) e (append_pooled v number entries)

@@ -5,6 +5,7 @@ use Rattle.store_types.specs.Names.{name_lt}
 use Rattle.store_files.specs.Archive.{Snapshot}
 use Rattle.wire_commands.specs.declared.reply.Reply.{Reply}
 use Rattle.store_types.specs.declared.refusal.Refusal.TheVariants.{NoMemory}
+use Rattle.store_types.specs.declared.order.TheConstants.{PART_KIND, START_KIND, STOP_KIND}
 use Rattle.wire_commands.specs.declared.reply.Reply.TheVariants.{Done, Refused}
 use Rattle.store_model.specs.Store.{Session, Writer, writer, session}
 use Rattle.atime_book.specs.Touches.{cutoff_of}
@@ -46,7 +47,7 @@ VisitsComeLast = (remote : Option (List Snapshot)) (o : Opening) (es : List Even
 abbrev pub OnlyVisitsTake : Type 0
 OnlyVisitsTake =
     (remote : Option (List Snapshot)) (w : World) (s : Swept) (e : Event) (d : List ℕ) → IsThere s.touches d
-    → (IsThere (swept_after remote w s e).touches d → ⊥) → (taken_by s e ≡ Some d) × (e.act ≡ Step) × (kind e ≡ 1)
+    → (IsThere (swept_after remote w s e).touches d → ⊥) → (taken_by s e ≡ Some d) × (e.act ≡ Step) × (kind e ≡ PART_KIND)
 
 -- ---- what was sent
 
@@ -98,7 +99,7 @@ taken_all remote w s (e ∷ es) = option_to_list (taken_by s e) ++ taken_all rem
 -- A collector starts with the first event, in this world. It is open through those behind it, and at their end its sweep is over.
 pub record IsWhole (remote : Option (List Snapshot)) (w : World) (s : Swept) (start : Event) (since : List Event) (sweep : Sweep) : Type 0 where
   pub act : start.act ≡ Start
-  pub kind_is : kind start ≡ 3
+  pub kind_is : kind start ≡ START_KIND
   pub stays : StaysOpen remote (after remote w start) (swept_after remote w s start) since
   pub sweep_is : (swept_all remote w s (start ∷ since)).sweep ≡ Some sweep
   pub over : is_over sweep ≡ true
@@ -144,7 +145,7 @@ LastTouchesStay =
 abbrev pub EndsAreReported : Type 0
 EndsAreReported =
     (remote : Option (List Snapshot)) (o : Opening) (es : List Event) (e : Event)
-    → IsLegal remote (opened o) (es ++ e ∷ []) → IsSwept remote (opened o) (swept_at o) (es ++ e ∷ []) → kind e ≡ 4 → (reply e ≡ Some (Refused NoMemory) → ⊥)
+    → IsLegal remote (opened o) (es ++ e ∷ []) → IsSwept remote (opened o) (swept_at o) (es ++ e ∷ []) → kind e ≡ STOP_KIND → (reply e ≡ Some (Refused NoMemory) → ⊥)
     → IsSomeAnd (swept remote o es).sweep (λ sweep. (is_over sweep ≡ true) × (reply e ≡ Some (report_of (swept remote o es) sweep)))
 
 -- The collector that ends behind these events, by e, started among them, on its lane. It has swept the whole since, and replies that sweep's report.
@@ -164,7 +165,7 @@ pub record ReportsWhole (remote : Option (List Snapshot)) (o : Opening) (es : Li
 abbrev pub ReportsAreRight : Type 0
 ReportsAreRight =
     (remote : Option (List Snapshot)) (o : Opening) (es : List Event) (e : Event)
-    → IsLegal remote (opened o) (es ++ e ∷ []) → IsSwept remote (opened o) (swept_at o) (es ++ e ∷ []) → kind e ≡ 4 → (reply e ≡ Some (Refused NoMemory) → ⊥)
+    → IsLegal remote (opened o) (es ++ e ∷ []) → IsSwept remote (opened o) (swept_at o) (es ++ e ∷ []) → kind e ≡ STOP_KIND → (reply e ≡ Some (Refused NoMemory) → ⊥)
     → ReportsWhole remote o es e
 
 -- the digests of the chunks that are there, each once

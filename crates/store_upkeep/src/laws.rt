@@ -3,8 +3,8 @@
 ghost use Rattle.store_upkeep.specs.Laws.{CountsAreOne, EndsAreReported, HistoriesAreSafe, LastTouchesStay, ListsChunks, NeededIsThere, OnlyVisitsTake, ReportsAreRight, SentIsThere, SentStays, TakenIsNotNeeded, ThereOrSent, VisitsComeLast, WholeSweepsLeaveRight};
 
 /// In a legal history, at each place: no running writer began before the cutoff of an open sweep; what it appended is not
-/// there, or was touched since it began; what finished snapshots have was touched at the cutoff or later, or is still to be
-/// marked; and each base, and each reader's snapshot, is finished.
+/// there, or was touched since it began; what finished snapshots have is not there, or was touched at the cutoff or later, or
+/// is still to be marked; and each base, and each reader's snapshot, is finished.
 pub fn histories_are_safe()
     ensures { HistoriesAreSafe }
 {}

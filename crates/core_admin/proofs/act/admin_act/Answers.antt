@@ -1,28 +1,28 @@
 use Rattle.std.proofs.Common.{Some, refl}
+use Rattle.store_history.proofs.Families.{manages_step, manages_untouching}
 use Rattle.core_state.specs.Settles.{reply_by}
 use Rattle.core_state.specs.Stops.{told}
 use Rattle.core_state.specs.Upkeeps.{touches_kept}
 use Rattle.core_state.proofs.Applying.{done_applies, done_keeps_all, refused_applies, refused_keeps_all}
 use Rattle.core_state.proofs.Touching.{untouched}
 use Rattle.core_state.proofs.Unreadables.{tells_refused}
-use Rattle.core_admin.proofs.ActLemmas.{admins_formed, admins_step, admins_untouching}
 use Rattle.core_admin.proofs.act.admin_act.Goals as goal
 
 pub returns-in-Answered-clause-applies : goal.returns-in-Answered-clause-applies
 returns-in-Answered-clause-applies g c =
-    refused_applies g.D.Disk g.C.Clock _ _ c.args.lane c.args.act _ c.requires.lane (admins_formed c.args.act c.requires.kind) (admins_step c.args.act c.requires.kind)
+    refused_applies g.D.Disk g.C.Clock _ _ c.args.lane c.args.act _ c.requires.lane c.requires.formed (manages_step c.args.act c.requires.kind)
     c.in-Answered.ensures.begun c.in-Answered.ensures.text c.in-Answered.ensures.memory
 
 pub returns-in-Answered-clause-keeps : goal.returns-in-Answered-clause-keeps
 returns-in-Answered-clause-keeps g c =
-    refused_keeps_all g.D.Disk g.C.Clock _ _ c.args.lane c.args.act _ (admins_step c.args.act c.requires.kind) c.in-Answered.ensures.begun c.in-Answered.ensures.memory
+    refused_keeps_all g.D.Disk g.C.Clock _ _ c.args.lane c.args.act _ (manages_step c.args.act c.requires.kind) c.in-Answered.ensures.begun c.in-Answered.ensures.memory
 
 pub returns-in-Answered-clause-unreadable : goal.returns-in-Answered-clause-unreadable
 returns-in-Answered-clause-unreadable g c = tells_refused g.D.Disk g.C.Clock.readings _ _ c.args.lane _ _ _ c.in-Answered.ensures.begun
 
 pub returns-in-At-clause-applies : goal.returns-in-At-clause-applies
 returns-in-At-clause-applies g c =
-    done_applies g.D.Disk g.C.Clock _ c.begin.new.core _ _ c.args.lane c.in-At.at c.args.act c.perform-ended.result _ c.requires.lane (admins_formed c.args.act c.requires.kind) (admins_step c.args.act c.requires.kind)
+    done_applies g.D.Disk g.C.Clock _ c.begin.new.core _ _ c.args.lane c.in-At.at c.args.act c.perform-ended.result _ c.requires.lane c.requires.formed (manages_step c.args.act c.requires.kind)
     c.in-At.ensures.begun c.in-At.ensures.filled
     (record {
       journal = refl;
@@ -30,13 +30,13 @@ returns-in-At-clause-applies g c =
       fault = refl;
       remote = refl;
       collector = refl;
-      upkeep = untouched c.args.act (Some (reply_by (told c.perform-ended.result))) c.in-At.at.moment (touches_kept c.begin.new.core.upkeep) (admins_untouching c.args.act c.requires.kind);
+      upkeep = untouched c.args.act (Some (reply_by (told c.perform-ended.result))) c.in-At.at.moment (touches_kept c.begin.new.core.upkeep) (manages_untouching c.args.act c.requires.kind);
     })
     c.perform-ended.ensures.does c.perform-ended.ensures.leaves c.settle.ensures
 
 pub returns-in-At-clause-keeps : goal.returns-in-At-clause-keeps
 returns-in-At-clause-keeps g c =
-    done_keeps_all g.D.Disk g.C.Clock _ c.begin.new.core _ _ c.args.lane c.in-At.at c.args.act c.perform-ended.result _ (admins_step c.args.act c.requires.kind)
+    done_keeps_all g.D.Disk g.C.Clock _ c.begin.new.core _ _ c.args.lane c.in-At.at c.args.act c.perform-ended.result _ (manages_step c.args.act c.requires.kind)
     c.in-At.ensures.begun c.in-At.ensures.filled
     (record {
       journal = refl;
@@ -44,6 +44,6 @@ returns-in-At-clause-keeps g c =
       fault = refl;
       remote = refl;
       collector = refl;
-      upkeep = untouched c.args.act (Some (reply_by (told c.perform-ended.result))) c.in-At.at.moment (touches_kept c.begin.new.core.upkeep) (admins_untouching c.args.act c.requires.kind);
+      upkeep = untouched c.args.act (Some (reply_by (told c.perform-ended.result))) c.in-At.at.moment (touches_kept c.begin.new.core.upkeep) (manages_untouching c.args.act c.requires.kind);
     })
     c.perform-ended.ensures.does c.perform-ended.ensures.leaves c.settle.ensures

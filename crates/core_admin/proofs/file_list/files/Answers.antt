@@ -27,8 +27,8 @@ returns-in_default-clause-does g c =
     refused_does g.D.Disk parts parts c.args._at (Plain (commands.Files c.args.snapshot.now)) BadName _ refl refl (same_kept parts) bad_name_has_text refl
     (λ s shows. files_refused s _ _ c.args.snapshot.now parts.catalogue.items shows.catalogue BadName (none_named c.args.snapshot.now parts.catalogue.items bad))
 
-pub returns-in_default-clause-by_kept : goal.returns-in_default-clause-by_kept
-returns-in_default-clause-by_kept g c =
+pub returns-in_default-clause-from_state : goal.returns-in_default-clause-from_state
+returns-in_default-clause-from_state g c =
     let bad : key_of c.args.snapshot.now ≡ None = search rules in
     let items = c.args.parts.now.catalogue.items in
     answers_refused c.args.snapshot.now items g.D.Disk c.args.parts.now.disk BadName (none_named c.args.snapshot.now items bad)
@@ -52,8 +52,8 @@ returns-in_default-snapshot_named-clause-does g c =
     refused_does g.D.Disk parts _ c.args._at (Plain (commands.Files c.args.snapshot.now)) NoSnapshot _ refl refl (record { catalogue = refl; sessions = refl; locks = refl }) no_snapshot_has_text refl
     (λ s shows. files_refused s _ _ c.args.snapshot.now parts.catalogue.items shows.catalogue NoSnapshot (none_kept c.args.snapshot.now parts.catalogue.items c.in-Ok.key named missing))
 
-pub returns-in_default-snapshot_named-clause-by_kept : goal.returns-in_default-snapshot_named-clause-by_kept
-returns-in_default-snapshot_named-clause-by_kept g c =
+pub returns-in_default-snapshot_named-clause-from_state : goal.returns-in_default-snapshot_named-clause-from_state
+returns-in_default-snapshot_named-clause-from_state g c =
     let items = c.args.parts.now.catalogue.items in
     let named : key_of c.args.snapshot.now ≡ Some c.in-Ok.key = search rules in
     let missing : kept_named c.in-Ok.key items ≡ None = search rules in
@@ -95,8 +95,8 @@ returns-in-Some-unreadable-clause-does g c =
     (unreadable_has_text name (omega (arith, short))) refl
     (λ s shows. absurd (none_some k.unreadable name (kept_whole items c.in-Ok.key k there s.snapshots shows.catalogue) damage))
 
-pub returns-in-Some-unreadable-clause-by_kept : goal.returns-in-Some-unreadable-clause-by_kept
-returns-in-Some-unreadable-clause-by_kept g c =
+pub returns-in-Some-unreadable-clause-from_state : goal.returns-in-Some-unreadable-clause-from_state
+returns-in-Some-unreadable-clause-from_state g c =
     let items = c.args.parts.now.catalogue.items in
     let k = c.in-Some.kept.now in
     let named : key_of c.args.snapshot.now ≡ Some c.in-Ok.key = search rules in
@@ -133,8 +133,8 @@ returns-in_err-rows-clause-leaves g c =
     stopped_leaves g.D.Disk c.args.parts.now _ c.args._at (Plain (commands.Files c.args.snapshot.now)) c.in_err-rows.field-0.0 _ _ c.from_residual-in_err-rows.ensures.1
     c.rows_read.ensures.reads (record { catalogue = refl; sessions = refl; locks = refl }) refl (called _ c.in-Some.kept.now c.in_err-rows.field-0.0 c.in_err-rows.ensures.named) no_end
 
-pub returns-in_err-rows-clause-by_kept : goal.returns-in_err-rows-clause-by_kept
-returns-in_err-rows-clause-by_kept g c =
+pub returns-in_err-rows-clause-from_state : goal.returns-in_err-rows-clause-from_state
+returns-in_err-rows-clause-from_state g c =
     let items = c.args.parts.now.catalogue.items in
     let named : key_of c.args.snapshot.now ≡ Some c.in-Ok.key = search rules in
     let is = found c.args.snapshot.now items c.deref.result.now c.in-Ok.key c.in-Some.kept.now named c.deref.ensures.value c.in-Some.ensures in
@@ -163,10 +163,10 @@ returns-clause-does g c =
 pub returns-clause-leaves : goal.returns-clause-leaves
 returns-clause-leaves g c =
     read_leaves g.D.Disk c.args.parts.now _ c.args._at (Plain (commands.Files c.args.snapshot.now)) _ _ c.rows_read.ensures.reads (record { catalogue = refl; sessions = refl; locks = refl })
-    (record { plain = tt; change = refl; listed = refl; goes_on = refl; writes = λ writes. cc }) (λ quiet. absurd (no_end quiet))
+    (record { plain = tt; change = refl; listed = refl; goes_on = refl; writes = λ writes. cc }) (λ no_disk_call. absurd (no_end no_disk_call))
 
-pub returns-clause-by_kept : goal.returns-clause-by_kept
-returns-clause-by_kept g c =
+pub returns-clause-from_state : goal.returns-clause-from_state
+returns-clause-from_state g c =
     let items = c.args.parts.now.catalogue.items in
     let named : key_of c.args.snapshot.now ≡ Some c.in-Ok.key = search rules in
     let is = found c.args.snapshot.now items c.deref.result.now c.in-Ok.key c.in-Some.kept.now named c.deref.ensures.value c.in-Some.ensures in

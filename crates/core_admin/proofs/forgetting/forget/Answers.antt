@@ -17,7 +17,7 @@ use Rattle.core_state.proofs.Texts.{bad_name_has_text, no_snapshot_has_text}
 use Rattle.core_admin.specs.Forgotten.{forget_told}
 use Rattle.core_admin.proofs.ForgetLemmas.{done_does, done_leaves, forget_refused, list_all-filter, snapshot_busy_has_text, told_done, told_refused, undone_leaves}
 use Rattle.core_admin.proofs.Freeing.{least_found}
-use Rattle.core_state.proofs.ByKept.{told_stopped}
+use Rattle.core_state.proofs.FromState.{told_stopped}
 use Rattle.core_admin.proofs.TakenOut.{bad, busy, forget_refuses, free, held, missing}
 use Rattle.core_admin.proofs.forgetting.forget.Goals as goal
 
@@ -32,8 +32,8 @@ returns-in_err-idle-clause-does g c =
     (busy_by_state (session_at old c.args.at.lane) r (λ r. IsTrue (answers_forget (Refused r))) (λ state. refl) (c.idle.ensures.value ∙ c.in_err-idle.was))
     (λ s shows. forget_refuses old s c.args.at.lane c.args.at.moment c.args.snapshot.now r shows c.requires told)
 
-pub returns-in_err-idle-clause-by_kept : goal.returns-in_err-idle-clause-by_kept
-returns-in_err-idle-clause-by_kept g c =
+pub returns-in_err-idle-clause-from_state : goal.returns-in_err-idle-clause-from_state
+returns-in_err-idle-clause-from_state g c =
     let old = c.args.parts.now in
     let r = c.in_err-idle.field-0.0 in
     let x = session_at old c.args.at.lane in
@@ -50,8 +50,8 @@ returns-in_default-clause-does g c =
     refused_does g.D.Disk old old c.args.at (Plain (Forget c.args.snapshot.now)) BadName _ refl refl (same_kept old) bad_name_has_text refl
     (λ s shows. forget_refuses old s c.args.at.lane c.args.at.moment c.args.snapshot.now BadName shows c.requires told)
 
-pub returns-in_default-clause-by_kept : goal.returns-in_default-clause-by_kept
-returns-in_default-clause-by_kept g c =
+pub returns-in_default-clause-from_state : goal.returns-in_default-clause-from_state
+returns-in_default-clause-from_state g c =
     let old = c.args.parts.now in
     let none : key_of c.args.snapshot.now ≡ None = search rules in
     told_refused c.args.snapshot.now (session_at old c.args.at.lane) old.catalogue.items old.locks BadName
@@ -68,8 +68,8 @@ returns-in_default-snapshot_named-clause-does g c =
     refused_does g.D.Disk old _ c.args.at (Plain (Forget c.args.snapshot.now)) NoSnapshot _ refl refl (record { catalogue = refl; sessions = refl; locks = refl }) no_snapshot_has_text refl
     (λ s shows. forget_refuses old s c.args.at.lane c.args.at.moment c.args.snapshot.now NoSnapshot shows c.requires told)
 
-pub returns-in_default-snapshot_named-clause-by_kept : goal.returns-in_default-snapshot_named-clause-by_kept
-returns-in_default-snapshot_named-clause-by_kept g c =
+pub returns-in_default-snapshot_named-clause-from_state : goal.returns-in_default-snapshot_named-clause-from_state
+returns-in_default-snapshot_named-clause-from_state g c =
     let old = c.args.parts.now in
     let named : key_of c.args.snapshot.now ≡ Some c.in-Ok.key = search rules in
     let none : kept_named c.in-Ok.key old.catalogue.items ≡ None = search rules in
@@ -89,8 +89,8 @@ returns-in-Err-clause-does g c =
     refused_does g.D.Disk old _ c.args.at (Plain (Forget c.args.snapshot.now)) (SnapshotBusy holder) _ refl refl (record { catalogue = refl; sessions = refl; locks = refl }) (snapshot_busy_has_text holder (search rules)) refl
     (λ s shows. forget_refuses old s c.args.at.lane c.args.at.moment c.args.snapshot.now (SnapshotBusy holder) shows c.requires told)
 
-pub returns-in-Err-clause-by_kept : goal.returns-in-Err-clause-by_kept
-returns-in-Err-clause-by_kept g c =
+pub returns-in-Err-clause-from_state : goal.returns-in-Err-clause-from_state
+returns-in-Err-clause-from_state g c =
     let old = c.args.parts.now in
     let holder = c.in-Err.field-0.lane in
     let named : key_of c.args.snapshot.now ≡ Some c.in-Ok.key = search rules in
@@ -127,8 +127,8 @@ invariant_of-parts-2 g c = let old = c.args.parts.now in record {
   finished_named = ap (list_all is_named_snapshot) c.take_out.ensures ∙ list_all-filter is_named_snapshot (λ (x : Listed). not (same_key (x.kept).key c.in-Ok.key)) old.catalogue.items old.finished_named;
 }
 
-pub returns-clause-by_kept : goal.returns-clause-by_kept
-returns-clause-by_kept g c =
+pub returns-clause-from_state : goal.returns-clause-from_state
+returns-clause-from_state g c =
     let old = c.args.parts.now in
     let key = c.in-Ok.key in
     let named : key_of c.args.snapshot.now ≡ Some key = search rules in

@@ -18,13 +18,13 @@ returns-in_default-clause-does g c =
     refused_does g.D.Disk parts parts c.args._at (Plain (commands.Group c.args.name.now)) BadName _ refl refl (same_kept parts) bad_name_has_text refl
     (λ s shows. group_refuses parts s shows _ _ c.args.name.now BadName (group_refused c.args.name.now parts.catalogue.items bad))
 
-pub returns-in_default-clause-by_kept : goal.returns-in_default-clause-by_kept
-returns-in_default-clause-by_kept g c =
+pub returns-in_default-clause-from_state : goal.returns-in_default-clause-from_state
+returns-in_default-clause-from_state g c =
     let bad : group_of c.args.name.now ≡ None = search rules in
     sym (ap reply_told (group_refused c.args.name.now c.args.parts.now.catalogue.items bad))
 
-pub returns-clause-by_kept : goal.returns-clause-by_kept
-returns-clause-by_kept g c =
+pub returns-clause-from_state : goal.returns-clause-from_state
+returns-clause-from_state g c =
     let named : group_of c.args.name.now ≡ Some c.in-Ok.group = search rules in
     let texts : c.in_ok-texts.texts ≡ texts_in c.in-Ok.group c.args.parts.now.catalogue.items = c.in_ok-texts.ensures.value ∙ ap (texts_in c.in-Ok.group) c.deref.ensures.value in
     ap (λ t. Keys t) texts ∙ sym (ap reply_told (group_keys c.args.name.now c.args.parts.now.catalogue.items c.in-Ok.group named))

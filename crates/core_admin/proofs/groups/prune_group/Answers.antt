@@ -11,7 +11,7 @@ use Rattle.core_state.specs.Wanted.{session_at}
 use Rattle.core_state.proofs.Commanding.{busy_by_state, read_does, reads_none, refused_does, same_kept}
 use Rattle.core_state.proofs.Texts.{bad_name_has_text, keys_has_text, too_many_has_text}
 use Rattle.core_admin.specs.Listings.{prune_told, texts_in}
-use Rattle.core_state.proofs.ByKept.{told_stopped}
+use Rattle.core_state.proofs.FromState.{told_stopped}
 use Rattle.core_admin.proofs.Told.{prune_answers, prune_busy, prune_keys, prune_many, prune_refuses, prune_unnamed}
 use Rattle.core_admin.proofs.groups.prune_group.Goals as goal
 
@@ -26,8 +26,8 @@ returns-in_err-idle-clause-does g c =
     (λ s shows. prune_refuses parts s shows c.args.at.lane c.args.at.moment c.args.name.now c.args.keep.now c.args._dry c.requires r
     (prune_busy c.args.name.now c.args.keep.now parts.catalogue.items (session_at parts c.args.at.lane) r (c.idle.ensures.value ∙ c.in_err-idle.was)))
 
-pub returns-in_err-idle-clause-by_kept : goal.returns-in_err-idle-clause-by_kept
-returns-in_err-idle-clause-by_kept g c =
+pub returns-in_err-idle-clause-from_state : goal.returns-in_err-idle-clause-from_state
+returns-in_err-idle-clause-from_state g c =
     let parts = c.args.parts.now in
     told_stopped (prune_told c.args.name.now c.args.keep.now (session_at parts c.args.at.lane) parts.catalogue.items) c.in_err-idle.field-0.0 _ c.from_residual.ensures.1
     (prune_busy c.args.name.now c.args.keep.now parts.catalogue.items (session_at parts c.args.at.lane) c.in_err-idle.field-0.0 (c.idle.ensures.value ∙ c.in_err-idle.was))
@@ -42,8 +42,8 @@ returns-in_default-clause-does g c =
     (λ s shows. prune_refuses parts s shows c.args.at.lane c.args.at.moment c.args.name.now c.args.keep.now c.args._dry c.requires BadName
     (prune_unnamed c.args.name.now c.args.keep.now parts.catalogue.items (session_at parts c.args.at.lane) (c.idle.ensures.value ∙ c.in_ok-idle.was) bad))
 
-pub returns-in_default-clause-by_kept : goal.returns-in_default-clause-by_kept
-returns-in_default-clause-by_kept g c =
+pub returns-in_default-clause-from_state : goal.returns-in_default-clause-from_state
+returns-in_default-clause-from_state g c =
     let bad : group_of c.args.name.now ≡ None = search rules in
     sym (ap reply_told (prune_unnamed c.args.name.now c.args.keep.now c.args.parts.now.catalogue.items _ (c.idle.ensures.value ∙ c.in_ok-idle.was) bad))
 
@@ -60,8 +60,8 @@ returns-then-not-counts_fit-clause-does g c =
     (λ s shows. prune_refuses parts s shows c.args.at.lane c.args.at.moment c.args.name.now c.args.keep.now c.args._dry c.requires (TooMany c.from-limit.result)
     (prune_many c.args.name.now c.args.keep.now parts.catalogue.items (session_at parts c.args.at.lane) c.in-Ok.group (c.idle.ensures.value ∙ c.in_ok-idle.was) named many ∙ ap (λ n. Err (TooMany n)) (sym limit)))
 
-pub returns-then-not-counts_fit-clause-by_kept : goal.returns-then-not-counts_fit-clause-by_kept
-returns-then-not-counts_fit-clause-by_kept g c =
+pub returns-then-not-counts_fit-clause-from_state : goal.returns-then-not-counts_fit-clause-from_state
+returns-then-not-counts_fit-clause-from_state g c =
     let named : group_of c.args.name.now ≡ Some c.in-Ok.group = search rules in
     let many : counts_fit c.args.keep.now ≡ false = search rules in
     let limit : c.from-limit.result ≡ 1000 = search rules in
@@ -69,8 +69,8 @@ returns-then-not-counts_fit-clause-by_kept g c =
 
 -- ---- the group's snapshots
 
-pub returns-clause-by_kept : goal.returns-clause-by_kept
-returns-clause-by_kept g c =
+pub returns-clause-from_state : goal.returns-clause-from_state
+returns-clause-from_state g c =
     let named : group_of c.args.name.now ≡ Some c.in-Ok.group = search rules in
     let fit : counts_fit c.args.keep.now ≡ true = search rules in
     let texts : c.in_ok-texts.texts ≡ texts_in c.in-Ok.group c.args.parts.now.catalogue.items = c.in_ok-texts.ensures.value ∙ ap (texts_in c.in-Ok.group) c.deref.ensures.value in

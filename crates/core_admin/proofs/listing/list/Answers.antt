@@ -19,12 +19,12 @@ pub returns-in_err-after-clause-leaves : goal.returns-in_err-after-clause-leaves
 returns-in_err-after-clause-leaves g c =
     list_stopped_leaves g.D.Disk c.args.parts.now c.args._at c.args.after.now c.in_err-after.field-0.0 _ c.from_residual.ensures.1 c.in_err-after.ensures.stop
 
-pub returns-in_err-after-clause-by_kept : goal.returns-in_err-after-clause-by_kept
-returns-in_err-after-clause-by_kept g c =
+pub returns-in_err-after-clause-from_state : goal.returns-in_err-after-clause-from_state
+returns-in_err-after-clause-from_state g c =
     list_stopped_told g.D.Disk c.args.parts.now c.args._at c.args.after.now c.in_err-after.field-0.0 _ c.from_residual.ensures.1 c.in_err-after.ensures.value
 
-pub returns-clause-by_kept : goal.returns-clause-by_kept
-returns-clause-by_kept g c =
+pub returns-clause-from_state : goal.returns-clause-from_state
+returns-clause-from_state g c =
     let is : want_after c.args.after.now ≡ Ok c.in_ok-after.after = c.in_ok-after.ensures.value in
     let rows : c.in_ok-rows.rows ≡ rows_behind c.in_ok-after.after c.args.parts.now.catalogue.items =
     c.in_ok-rows.ensures.value ∙ ap (λ o. rows_behind o c.deref.result.now) c.as_ref.ensures.value ∙ ap (rows_behind c.in_ok-after.after) c.deref.ensures.value in

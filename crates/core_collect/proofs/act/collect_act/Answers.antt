@@ -10,8 +10,8 @@ returns-in-Start-clause-applies g c = subst (λ a. ActApplies g.D.Disk g.C.Clock
 pub returns-in-Start-clause-keeps : goal.returns-in-Start-clause-keeps
 returns-in-Start-clause-keeps g c = subst (λ a. ActKeeps g.D.Disk c.args.core.now c.start.new.core c.args.lane a c.start.result) (sym c.in-Start.is) c.start.ensures.keeps
 
-pub returns-in-Start-clause-by_kept : goal.returns-in-Start-clause-by_kept
-returns-in-Start-clause-by_kept g c = subst (λ a. CoreAnswersBy g.D.Disk c.args.core.now c.start.new.core c.args.lane a c.start.result) (sym c.in-Start.is) c.start.ensures.told
+pub returns-in-Start-clause-from_state : goal.returns-in-Start-clause-from_state
+returns-in-Start-clause-from_state g c = subst (λ a. CoreAnswersBy g.D.Disk c.args.core.now c.start.new.core c.args.lane a c.start.result) (sym c.in-Start.is) c.start.ensures.told
 
 pub returns-in-Start-clause-unreadable : goal.returns-in-Start-clause-unreadable
 returns-in-Start-clause-unreadable g c =
@@ -24,8 +24,8 @@ returns-in-Step-clause-applies g c = subst (λ a. ActApplies g.D.Disk g.C.Clock 
 pub returns-in-Step-clause-keeps : goal.returns-in-Step-clause-keeps
 returns-in-Step-clause-keeps g c = subst (λ a. ActKeeps g.D.Disk c.args.core.now c.step.new.core c.args.lane a c.step.result) (sym c.in-Step.is) c.step.ensures.keeps
 
-pub returns-in-Step-clause-by_kept : goal.returns-in-Step-clause-by_kept
-returns-in-Step-clause-by_kept g c = subst (λ a. CoreAnswersBy g.D.Disk c.args.core.now c.step.new.core c.args.lane a c.step.result) (sym c.in-Step.is) c.step.ensures.told
+pub returns-in-Step-clause-from_state : goal.returns-in-Step-clause-from_state
+returns-in-Step-clause-from_state g c = subst (λ a. CoreAnswersBy g.D.Disk c.args.core.now c.step.new.core c.args.lane a c.step.result) (sym c.in-Step.is) c.step.ensures.told
 
 pub returns-in-Step-clause-unreadable : goal.returns-in-Step-clause-unreadable
 returns-in-Step-clause-unreadable g c =

@@ -15,7 +15,7 @@ use Rattle.core_state.specs.Shown.{shown_snapshot}
 use Rattle.core_state.specs.Wanted.{session_at}
 use Rattle.core_state.specs.declared.kept.Session.TheVariants.{Idle, Reader}
 use Rattle.core_state.specs.declared.stop.Stop.TheVariants.{Refused}
-use Rattle.core_state.proofs.ByKept.{stopped}
+use Rattle.core_state.proofs.FromState.{stopped}
 use Rattle.core_state.proofs.Commanding.{busy_by_state, busy_does, changed_does, idle_shown, refused_does, same_kept}
 use Rattle.core_state.proofs.Found.{kept_is, not_kept}
 use Rattle.core_state.proofs.Finding.{mapped, is_some}
@@ -50,8 +50,8 @@ returns-in_err-idle-clause-unreadable g c =
     tells_unread g.D.Disk old.disk _ (Refused _) _ c.from_residual.ensures.1
     (asks_busy c.args.snapshot.now f old.catalogue.items _ busy, busy_by_state f _ (λ r. (name : List ℕ) → r ≡ Unreadable name → ⊥) state_apart busy)
 
-pub returns-in_err-idle-clause-by_kept : goal.returns-in_err-idle-clause-by_kept
-returns-in_err-idle-clause-by_kept g c =
+pub returns-in_err-idle-clause-from_state : goal.returns-in_err-idle-clause-from_state
+returns-in_err-idle-clause-from_state g c =
     let old = c.args.parts.now in
     let lane = c.args.at.lane in
     stopped (λ r. ActOpens c.args.snapshot.now old old c.args.at r) _ _ c.from_residual.ensures.1
@@ -75,8 +75,8 @@ returns-in_default-clause-unreadable g c =
     let bad : key_of c.args.snapshot.now ≡ None = search rules in
     tells_refused c.args.snapshot.now (session_at old c.args.at.lane) items g.D.Disk old.disk BadName c.in_ok-idle.ensures.value (none_named c.args.snapshot.now items bad) bad_apart
 
-pub returns-in_default-clause-by_kept : goal.returns-in_default-clause-by_kept
-returns-in_default-clause-by_kept g c =
+pub returns-in_default-clause-from_state : goal.returns-in_default-clause-from_state
+returns-in_default-clause-from_state g c =
     let old = c.args.parts.now in
     let items = old.catalogue.items in
     let lane = c.args.at.lane in
@@ -105,8 +105,8 @@ returns-in_default-snapshot_named-clause-unreadable g c =
     let missing : kept_named c.in-Ok.key items ≡ None = search rules in
     tells_refused c.args.snapshot.now (session_at old c.args.at.lane) items g.D.Disk old.disk NoSnapshot c.in_ok-idle.ensures.value (none_kept c.args.snapshot.now items c.in-Ok.key named missing) none_apart
 
-pub returns-in_default-snapshot_named-clause-by_kept : goal.returns-in_default-snapshot_named-clause-by_kept
-returns-in_default-snapshot_named-clause-by_kept g c =
+pub returns-in_default-snapshot_named-clause-from_state : goal.returns-in_default-snapshot_named-clause-from_state
+returns-in_default-snapshot_named-clause-from_state g c =
     let old = c.args.parts.now in
     let items = old.catalogue.items in
     let lane = c.args.at.lane in
@@ -141,8 +141,8 @@ returns-in-Some-unreadable-clause-unreadable g c =
     let damage : k.unreadable ≡ Some c.in_ok-name.name = search rules in
     tells_damaged c.args.snapshot.now (session_at old c.args.at.lane) items g.D.Disk old.disk k c.in_ok-idle.ensures.value (named_is c.args.snapshot.now items c.in-Ok.key k named there) c.in_ok-name.name damage
 
-pub returns-in-Some-unreadable-clause-by_kept : goal.returns-in-Some-unreadable-clause-by_kept
-returns-in-Some-unreadable-clause-by_kept g c =
+pub returns-in-Some-unreadable-clause-from_state : goal.returns-in-Some-unreadable-clause-from_state
+returns-in-Some-unreadable-clause-from_state g c =
     let old = c.args.parts.now in
     let items = old.catalogue.items in
     let lane = c.args.at.lane in
@@ -185,8 +185,8 @@ returns-clause-unreadable g c =
     let whole : k.unreadable ≡ None = search rules in
     tells_whole c.args.snapshot.now (session_at old c.args.at.lane) items g.D.Disk old.disk k c.in_ok-idle.ensures.value (named_is c.args.snapshot.now items c.in-Ok.key k named there) whole
 
-pub returns-clause-by_kept : goal.returns-clause-by_kept
-returns-clause-by_kept g c =
+pub returns-clause-from_state : goal.returns-clause-from_state
+returns-clause-from_state g c =
     let old = c.args.parts.now in
     let items = old.catalogue.items in
     let lane = c.args.at.lane in

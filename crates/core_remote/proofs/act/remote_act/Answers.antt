@@ -15,8 +15,8 @@ pub returns-in-Answered-clause-keeps : goal.returns-in-Answered-clause-keeps
 returns-in-Answered-clause-keeps g c =
     refused_keeps g.D.Disk g.E.Disk g.C.Clock c.args.core.now c.begin.new.core c.args.lane c.args.act c.in-Answered.answer c.requires.kind c.in-Answered.ensures.begun
 
-pub returns-in-Answered-clause-by_kept : goal.returns-in-Answered-clause-by_kept
-returns-in-Answered-clause-by_kept g c =
+pub returns-in-Answered-clause-from_state : goal.returns-in-Answered-clause-from_state
+returns-in-Answered-clause-from_state g c =
     refused_tells g.D.Disk g.E.Disk g.C.Clock c.args.core.now c.begin.new.core c.args.lane c.args.act c.in-Answered.answer c.requires.kind c.in-Answered.ensures.begun
 
 pub returns-in-Answered-clause-by_remote : goal.returns-in-Answered-clause-by_remote
@@ -49,8 +49,8 @@ returns-in-At-clause-keeps g c =
     c.reach-ended.ensures.kind c.reach-ended.ensures.text
     (record { parts = e.parts; remote = e.remote; clock = e.clock; fault = e.fault; last = e.last; upkeep = e.upkeep; collector = e.collector; entries = e.entries; calls = e.calls; entry = e.entry; reply_is = e.reply_is; place = e.place; is_held = e.is_held; room = e.room; last_held = e.last_held })
 
-pub returns-in-At-clause-by_kept : goal.returns-in-At-clause-by_kept
-returns-in-At-clause-by_kept g c =
+pub returns-in-At-clause-from_state : goal.returns-in-At-clause-from_state
+returns-in-At-clause-from_state g c =
     let e = c.settle_read.ensures in
     done_tells g.D.Disk g.E.Disk g.C.Clock c.args.core.now c.settle_read.new.core c.args.lane c.args.act c.settle_read.result c.requires.kind c.begin.new.core c.in-At.at c.requires.lane c.requires.formed
     c.in-At.ensures.begun c.in-At.ensures.filled c.reach-ended.new.remote c.reach-ended.result c.reach-ended.ensures.tells c.reach-ended.ensures.stays c.reach-ended.ensures.failed c.reach-ended.ensures.unread c.reach-ended.ensures.tested c.reach-ended.ensures.gives

@@ -16,7 +16,7 @@ use Rattle.core_state.proofs.NamedLemmas.{list_all-set, list_all-at}
 use Rattle.core_state.proofs.Texts.{done_has_text}
 use Rattle.core_uploads.specs.Noted.{with_blob_noted}
 use Rattle.core_uploads.proofs.ChunkLemmas.{not_writing, unchecked}
-use Rattle.core_uploads.proofs.ChunkStep.{adds_taken, chunk_change, chunk_due, is_sent, knows, may_note, named_taken, puts_blob, sent_bytes, takes}
+use Rattle.core_uploads.proofs.ChunkStep.{adds_taken, chunk_change, chunk_passes, is_sent, knows, may_note, named_taken, puts_blob, sent_bytes, takes}
 use Rattle.core_uploads.proofs.KeepLemmas.{found_stays, found_writer}
 use Rattle.core_uploads.proofs.SteppedLemmas.{false_true}
 use Rattle.core_uploads.proofs.chunks.chunk.Goals as goal
@@ -73,7 +73,7 @@ returns-in_err-insert_blob-clause-leaves g c = let d = g.D.Disk in
     failed_leaves d old _ c.args.at (Chunk c.args.digest.now c.args.checked) c.insert_blob.result _ _ c.from_residual-in_err-insert_blob.ensures.1 c.in_err-insert_blob.was puts.same puts.unmoved
     (subst (LeavesChange d old.disk c.insert_blob.new.disk) (sym change) puts.crash)
     (record { catalogue = refl; sessions = refl; locks = refl }) refl (λ short closing. false_true closing)
-    (λ s h. chunk_due c.args.digest.now c.args.checked c.as_slice-blob.result.now (sent_bytes c.as_slice-blob.result.now (search rules)) (c.in-Ok.is ∙ ap (λ b. Ok b) (sym bytes)) c.requires.checked s c.args.at.lane)
+    (λ s h. chunk_passes c.args.digest.now c.args.checked c.as_slice-blob.result.now (sent_bytes c.as_slice-blob.result.now (search rules)) (c.in-Ok.is ∙ ap (λ b. Ok b) (sym bytes)) c.requires.checked s c.args.at.lane)
 
 pub returns-then-knows-clause-does : goal.returns-then-knows-clause-does
 returns-then-knows-clause-does g c = let d = g.D.Disk in
@@ -140,7 +140,7 @@ returns-in_err-take_chunk-clause-leaves g c = let d = g.D.Disk in
     failed_leaves d old _ c.args.at (Chunk c.args.digest.now c.args.checked) c.take_chunk.result _ _ c.from_residual-in_err-take_chunk.ensures.1 c.in_err-take_chunk.was puts.same puts.unmoved
     (subst (LeavesChange d old.disk c.take_chunk.new.disk) (sym change) puts.crash)
     (record { catalogue = refl; sessions = sessions; locks = refl }) refl (λ short closing. false_true closing)
-    (λ s h. chunk_due c.args.digest.now c.args.checked c.as_slice-blob.result.now c.take_chunk.ensures.bytes (c.in-Ok.is ∙ ap (λ b. Ok b) (sym bytes)) c.requires.checked s c.args.at.lane)
+    (λ s h. chunk_passes c.args.digest.now c.args.checked c.as_slice-blob.result.now c.take_chunk.ensures.bytes (c.in-Ok.is ∙ ap (λ b. Ok b) (sym bytes)) c.requires.checked s c.args.at.lane)
 
 pub returns-clause-does : goal.returns-clause-does
 returns-clause-does g c = let d = g.D.Disk in

@@ -1,43 +1,44 @@
 use Rattle.std.proofs.Common.{refl, sym, subst}
+use Rattle.store_history.proofs.Families.{writes_step}
 use Rattle.core_state.specs.Begins.{IsReady}
 use Rattle.core_state.specs.Unreadables.{TellsUnreadable}
 use Rattle.core_state.specs.Wanted.{session_at}
 use Rattle.core_state.proofs.Applying.{refused_applies, refused_keeps_all, done_applies, done_keeps_all}
 use Rattle.core_state.proofs.Unreadables.{tells_refused, tells_done}
 use Rattle.core_writer.specs.WriterActs.{asked_of_writer}
-use Rattle.core_writer.proofs.ActLemmas.{writers_done, writers_formed, writers_refused, writers_step}
+use Rattle.core_writer.proofs.ActLemmas.{writers_done, writers_refused}
 use Rattle.core_writer.proofs.act.writer_act.Goals as goal
 
 pub returns-in-Answered-clause-applies : goal.returns-in-Answered-clause-applies
 returns-in-Answered-clause-applies g c =
-    refused_applies g.D.Disk g.C.Clock _ _ c.args.lane c.args.act _ c.requires.lane (writers_formed c.args.act c.requires.kind) (writers_step c.args.act c.requires.kind)
+    refused_applies g.D.Disk g.C.Clock _ _ c.args.lane c.args.act _ c.requires.lane c.requires.formed (writes_step c.args.act c.requires.kind)
     c.in-Answered.ensures.begun c.in-Answered.ensures.text c.in-Answered.ensures.memory
 
 pub returns-in-Answered-clause-keeps : goal.returns-in-Answered-clause-keeps
 returns-in-Answered-clause-keeps g c =
-    refused_keeps_all g.D.Disk g.C.Clock _ _ c.args.lane c.args.act _ (writers_step c.args.act c.requires.kind) c.in-Answered.ensures.begun c.in-Answered.ensures.memory
+    refused_keeps_all g.D.Disk g.C.Clock _ _ c.args.lane c.args.act _ (writes_step c.args.act c.requires.kind) c.in-Answered.ensures.begun c.in-Answered.ensures.memory
 
-pub returns-in-Answered-clause-by_kept : goal.returns-in-Answered-clause-by_kept
-returns-in-Answered-clause-by_kept g c = writers_refused g.D.Disk g.C.Clock.readings _ _ c.args.lane c.args.act _ c.in-Answered.ensures.begun
+pub returns-in-Answered-clause-from_state : goal.returns-in-Answered-clause-from_state
+returns-in-Answered-clause-from_state g c = writers_refused g.D.Disk g.C.Clock.readings _ _ c.args.lane c.args.act _ c.in-Answered.ensures.begun
 
 pub returns-in-At-clause-applies : goal.returns-in-At-clause-applies
 returns-in-At-clause-applies g c =
-    done_applies g.D.Disk g.C.Clock _ c.begin.new.core _ _ c.args.lane c.in-At.at c.args.act c.perform-ended.result _ c.requires.lane (writers_formed c.args.act c.requires.kind) (writers_step c.args.act c.requires.kind)
+    done_applies g.D.Disk g.C.Clock _ c.begin.new.core _ _ c.args.lane c.in-At.at c.args.act c.perform-ended.result _ c.requires.lane c.requires.formed (writes_step c.args.act c.requires.kind)
     c.in-At.ensures.begun c.in-At.ensures.filled
     (record { journal = refl; clock = refl; fault = refl; remote = refl; collector = refl; upkeep = c.perform-ended.ensures.touches })
     c.perform-ended.ensures.does c.perform-ended.ensures.leaves c.settle.ensures
 
 pub returns-in-At-clause-keeps : goal.returns-in-At-clause-keeps
 returns-in-At-clause-keeps g c =
-    done_keeps_all g.D.Disk g.C.Clock _ c.begin.new.core _ _ c.args.lane c.in-At.at c.args.act c.perform-ended.result _ (writers_step c.args.act c.requires.kind)
+    done_keeps_all g.D.Disk g.C.Clock _ c.begin.new.core _ _ c.args.lane c.in-At.at c.args.act c.perform-ended.result _ (writes_step c.args.act c.requires.kind)
     c.in-At.ensures.begun c.in-At.ensures.filled
     (record { journal = refl; clock = refl; fault = refl; remote = refl; collector = refl; upkeep = c.perform-ended.ensures.touches })
     c.perform-ended.ensures.does c.perform-ended.ensures.leaves c.settle.ensures
 
-pub returns-in-At-clause-by_kept : goal.returns-in-At-clause-by_kept
-returns-in-At-clause-by_kept g c =
+pub returns-in-At-clause-from_state : goal.returns-in-At-clause-from_state
+returns-in-At-clause-from_state g c =
     writers_done g.D.Disk g.C.Clock.readings c.args.core.now c.begin.new.core _ _ c.args.lane c.in-At.at c.args.act c.perform-ended.result c.settle.result
-    c.in-At.ensures.begun c.perform-ended.ensures.by_kept c.settle.ensures
+    c.in-At.ensures.begun c.perform-ended.ensures.from_state c.settle.ensures
 
 pub returns-in-Answered-clause-unreadable : goal.returns-in-Answered-clause-unreadable
 returns-in-Answered-clause-unreadable g c = tells_refused g.D.Disk g.C.Clock.readings _ _ c.args.lane _ _ _ c.in-Answered.ensures.begun

@@ -17,7 +17,7 @@ use Rattle.core_state.specs.declared.kept.StoredFile.{StoredFile}
 use Rattle.core_state.specs.Named.{is_named}
 use Rattle.core_state.specs.Replies.{refuses_writer}
 use Rattle.core_state.specs.Wanted.{session_at}
-use Rattle.core_state.proofs.ByKept.{told_stopped}
+use Rattle.core_state.proofs.FromState.{told_stopped}
 use Rattle.core_state.proofs.Commanding.{busy_does, changed_does, refused_does, same_kept}
 use Rattle.core_state.proofs.NamedLemmas.{list_all-set}
 use Rattle.core_state.proofs.Texts.{bad_name_has_text, base_has_text}
@@ -33,8 +33,8 @@ returns-in_err-idle-clause-does g c =
     busy_does g.D.Disk c.args.parts.now c.args.at (Plain (OpenWriter c.args.snapshot.now)) _ _ c.from_residual.ensures.1 c.requires.lane c.in_err-idle.ensures.value c.in_err-idle.ensures.text
     (λ state. refl) (λ s. not_idle s c.args.at.lane c.args.at.moment c.args.snapshot.now _)
 
-pub returns-in_err-idle-clause-by_kept : goal.returns-in_err-idle-clause-by_kept
-returns-in_err-idle-clause-by_kept g c =
+pub returns-in_err-idle-clause-from_state : goal.returns-in_err-idle-clause-from_state
+returns-in_err-idle-clause-from_state g c =
     let old = c.args.parts.now in
     let lane = c.args.at.lane in
     told_stopped (writer_told c.args.snapshot.now lane (session_at old lane) old.catalogue.items old.locks) _ _ c.from_residual.ensures.1
@@ -47,8 +47,8 @@ returns-in_default-clause-does g c =
     refused_does g.D.Disk old old c.args.at (Plain (OpenWriter c.args.snapshot.now)) BadName _ refl refl (same_kept old) bad_name_has_text refl
     (λ s shows. bad_named old s c.args.at.lane c.args.at.moment c.args.snapshot.now shows c.requires.lane c.in_ok-idle.ensures.value bad)
 
-pub returns-in_default-clause-by_kept : goal.returns-in_default-clause-by_kept
-returns-in_default-clause-by_kept g c =
+pub returns-in_default-clause-from_state : goal.returns-in_default-clause-from_state
+returns-in_default-clause-from_state g c =
     let old = c.args.parts.now in
     let lane = c.args.at.lane in
     let bad : key_of c.args.snapshot.now ≡ None = search rules in
@@ -61,8 +61,8 @@ returns-in_err-begun-clause-does g c =
     early_does g.D.Disk refuses_writer old _ c.args.at (Plain (OpenWriter c.args.snapshot.now)) _ _ c.from_residual-in_err-begun.ensures.1 refl (record { catalogue = refl; sessions = refl; locks = c.in_err-begun.ensures.err }) c.in_err-begun.ensures.stop (λ refusal is. is)
     (λ s h. opening_refuses old s c.args.at.lane c.args.at.moment c.args.snapshot.now c.in-Ok.key _ _ c.requires.lane c.in_ok-idle.ensures.value named c.deref.ensures.value c.in_err-begun.ensures.value h.shows)
 
-pub returns-in_err-begun-clause-by_kept : goal.returns-in_err-begun-clause-by_kept
-returns-in_err-begun-clause-by_kept g c =
+pub returns-in_err-begun-clause-from_state : goal.returns-in_err-begun-clause-from_state
+returns-in_err-begun-clause-from_state g c =
     let old = c.args.parts.now in
     let lane = c.args.at.lane in
     let named : key_of c.args.snapshot.now ≡ Some c.in-Ok.key = search rules in
@@ -92,8 +92,8 @@ returns-clause-does g c =
     (subst (λ (x : backups.Session). Shows x.writer (new_writer c.in-Ok.key c.args.at.moment begun.base)) c.open_writer.ensures.opened c.open_writer.ensures.plain)
     (ap (λ t. Base t) told.1) h)
 
-pub returns-clause-by_kept : goal.returns-clause-by_kept
-returns-clause-by_kept g c =
+pub returns-clause-from_state : goal.returns-clause-from_state
+returns-clause-from_state g c =
     let old = c.args.parts.now in
     let lane = c.args.at.lane in
     let named : key_of c.args.snapshot.now ≡ Some c.in-Ok.key = search rules in

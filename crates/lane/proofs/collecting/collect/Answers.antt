@@ -38,7 +38,7 @@ returns-in-Some-clause-entered g c =
 
 pub sweep-requires-clause-sweeps : goal.sweep-requires-clause-sweeps
 sweep-requires-clause-sweeps g c = let kept = c.apply-reply.ensures.keeps in
-    opens_sweep c.args.core.now c.apply-reply.new.core c.args.lane c.apply-reply.result c.apply-reply.ensures.by_kept kept.reserve (kept.admin refl).0
+    opens_sweep c.args.core.now c.apply-reply.new.core c.args.lane c.apply-reply.result c.apply-reply.ensures.from_state kept.reserve (kept.admin refl).0
     (start_kind c.apply-reply.result (c.apply-reply.ensures.applies).told c.in-None.is)
 
 pub returns-in-None-clause-does : goal.returns-in-None-clause-does

@@ -15,12 +15,12 @@ use Rattle.core_state.specs.declared.state.Core.{Core}
 use Rattle.core_state.specs.Holds.{Holds}
 
 -- the tests of a FINISH or a FORGET had passed, and a CHUNK was to put a piece's blob
-abbrev pub IsDue : Act → Store → ℕ → Type 0
-IsDue (Plain Finish) s lane = IsOk (finish s lane)
-IsDue (Plain (Forget snapshot)) s lane = IsOk (forget s lane snapshot)
-IsDue (Chunk digest (Ok bytes)) s lane = IsChunk digest.0 bytes
-IsDue act s lane = Unit {0}
+abbrev pub PassesItsTests : Act → Store → ℕ → Type 0
+PassesItsTests (Plain Finish) s lane = IsOk (finish s lane)
+PassesItsTests (Plain (Forget snapshot)) s lane = IsOk (forget s lane snapshot)
+PassesItsTests (Chunk digest (Ok bytes)) s lane = IsChunk digest.0 bytes
+PassesItsTests act s lane = Unit {0}
 
 -- it is so where the disk failed in this act, and had not before
-abbrev pub DueAt : {D E C : Type 0} → Ghosts D → Core D E C → ℕ → Act → Answer → Type 0
-DueAt d old lane act answer = old.fault ≡ None → answer.reply ≡ Some (Refused DiskFault) → (s : Store) → Holds d old.parts s → IsDue act s lane
+abbrev pub PassedItsTestsAt : {D E C : Type 0} → Ghosts D → Core D E C → ℕ → Act → Answer → Type 0
+PassedItsTestsAt d old lane act answer = old.fault ≡ None → answer.reply ≡ Some (Refused DiskFault) → (s : Store) → Holds d old.parts s → PassesItsTests act s lane

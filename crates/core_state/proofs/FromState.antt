@@ -5,14 +5,15 @@ use Rattle.disk_trait.specs.declared.disk.DiskError.{DiskError}
 use Rattle.disk_trait.specs.declared.disk.DiskError.TheVariants as disks
 use Rattle.port_traits.specs.Readings.{Readings}
 use Rattle.store_types.specs.declared.refusal.Refusal.{Refusal}
+use Rattle.store_types.specs.declared.order.TheConstants.{COMMAND_KIND, MEMORY_KIND, FAULT_KIND}
 use Rattle.wire_commands.specs.declared.reply.Reply.{Reply}
 use Rattle.store_history.specs.declared.act.Answer.{Answer}
 use Rattle.core_state.specs.declared.entering.Place.{Place}
 use Rattle.core_state.specs.declared.state.Core.{Core}
 use Rattle.core_state.specs.declared.stop.Stop.{Stop}
 use Rattle.core_state.specs.declared.stop.Stop.TheVariants.{Refused}
-use Rattle.core_state.specs.Begins.{IsAdmitted, Refuses, short as is_short, halted as is_halted}
-use Rattle.core_state.specs.ByKept.{ActTells, ByKept, CoreTells, kept_reply}
+use Rattle.core_state.specs.Begins.{IsAdmitted, Refuses, short as is_out_of_memory, halted as is_halted}
+use Rattle.core_state.specs.FromState.{ActTells, FromState, CoreTells, kept_reply}
 use Rattle.core_state.specs.Replies.{reply_told}
 use Rattle.core_state.specs.Settles.{Settles, kind_by, reply_by}
 use Rattle.core_state.specs.Stops.{told}
@@ -34,15 +35,15 @@ told_stopped wanted refusal result stops is = stopped (λ r. IfOk (told r) (λ r
 
 -- an act that was refused before it was done is none that was done
 pub undone_kind : {D E C : Type 0} (d : Ghosts D) (readings : C → Option Readings) (old new : Core D E C) (lane : ℕ) (answer : Answer)
-    → Refuses d readings old new lane answer → (answer.entry).kind ≡ 0 → ⊥
-undone_kind d readings old new lane answer (is_short is) k =
-    let kind : (answer.entry).kind ≡ 2 = ap (λ x. x.kind) (is.entered).entry in
+    → Refuses d readings old new lane answer → (answer.entry).kind ≡ COMMAND_KIND → ⊥
+undone_kind d readings old new lane answer (is_out_of_memory is) k =
+    let kind : (answer.entry).kind ≡ MEMORY_KIND = ap (λ x. x.kind) (is.entered).entry in
     omega (arith, k, kind)
 undone_kind d readings old new lane answer (is_halted is) k =
-    let kind : (answer.entry).kind ≡ 5 = ap (λ x. x.kind) (is.entered).entry in
+    let kind : (answer.entry).kind ≡ FAULT_KIND = ap (λ x. x.kind) (is.entered).entry in
     omega (arith, k, kind)
 
-pub refused_tells : {D E C : Type 0} (d : Ghosts D) (readings : C → Option Readings) (old new : Core D E C) (lane : ℕ) (wanted : ByKept) (answer : Answer)
+pub refused_tells : {D E C : Type 0} (d : Ghosts D) (readings : C → Option Readings) (old new : Core D E C) (lane : ℕ) (wanted : FromState) (answer : Answer)
     → Refuses d readings old new lane answer → CoreTells wanted old lane answer
 refused_tells d readings old new lane wanted answer refuses k = absurd (undone_kind d readings old new lane answer refuses k)
 
@@ -52,7 +53,7 @@ told_by wanted (Err disks.NoMemory) is k = absurd (omega (arith, k))
 told_by wanted (Err disks.Failed) is k = absurd (omega (arith, k))
 
 -- an act that was done, as its command tells
-pub done_tells : {D E C : Type 0} (d : Ghosts D) (readings : C → Option Readings) (old mid acted new : Core D E C) (lane : ℕ) (at : Place) (wanted : ByKept) (result : Result Reply Stop) (answer : Answer)
+pub done_tells : {D E C : Type 0} (d : Ghosts D) (readings : C → Option Readings) (old mid acted new : Core D E C) (lane : ℕ) (at : Place) (wanted : FromState) (result : Result Reply Stop) (answer : Answer)
     → IsAdmitted readings old mid lane at → ActTells wanted mid.parts at result → Settles d acted new at.lane at.moment (told result) answer → CoreTells wanted old lane answer
 done_tells d readings old mid acted new lane at wanted result answer admitted tells e k =
     let before = ((admitted.ready).begun).parts in
