@@ -1,4 +1,5 @@
-ghost use Rattle.core_admin.specs.AdminActs.{IsAdmins};
+ghost use Rattle.std.specs.Prelude.{◌≡◌};
+ghost use Rattle.store_history.specs.Acts.{IsWellFormed, family_of};
 
 mod pages;
 
@@ -9,7 +10,7 @@ use crate::calls::{
 };
 use crate::fixtures::{DIGITS, FIRST, MANIFEST_PATH, MemoryCore, OTHER, SECOND, WITH_FILE, opened};
 use core_admin::admin_act;
-use core_state::{Act, Answer, Parts};
+use core_state::{Act, Answer, Family, Parts};
 use disk_trait::{Disk, MemoryDisk};
 use std::alloc::Global;
 use std::process::Abort;
@@ -175,7 +176,8 @@ fn try_act(
     expected: &[u8],
     entered: (u64, u8, u64),
 ) -> Result<(), Fail>
-    requires { IsAdmins act }
+    requires kind { family_of act ≡ Family.Manages }
+    requires formed { IsWellFormed act }
 {
     if !core.journal.room(6) {
         return Err("no room".into());

@@ -661,7 +661,7 @@ fn collection_of(alloc: Global, place: &Place) -> Result<Vec<Row>, AllocError> {
 
 /// What is done in all. So many of the acts come at an earlier place, and the rest at their own.
 fn woven(alloc: Global, table: &Beside, place: &Place, spot: Spot) -> Result<Vec<Row>, AllocError> {
-    let [_, from, early, to] = spot;
+    let [from, early, to, _] = spot;
     let collection = collection_of(alloc, place)?;
     let mut list: Vec<Row> = Vec::new(alloc);
     add(&mut list, table.before, 0, usize::MAX)?;
@@ -710,43 +710,78 @@ fn try_place(
 ) -> Result<(), Fail> {
     try_spot(rt, alloc, STILL, table, place, spot)?;
     try_spot(rt, alloc, FALLING, table, place, spot)?;
-    let [number, _, _, to] = spot;
+    let [_, _, to, _] = spot;
     let from = to.saturating_sub(1);
     for early in 1..=table.early {
-        try_spot(rt, alloc, STILL, table, place, [number, 0, early, to])?;
-        try_spot(rt, alloc, FALLING, table, place, [number, from, early, to])?;
+        try_spot(rt, alloc, STILL, table, place, [0, early, to, 0])?;
+        try_spot(rt, alloc, FALLING, table, place, [from, early, to, 0])?;
     }
     Ok(())
 }
 
-fn try_table(rt: &impl Abort, alloc: Global, number: usize, table: &Beside) -> Result<(), Fail> {
+fn try_table(rt: &impl Abort, alloc: Global, table: &Beside) -> Result<(), Fail> {
     for (to, place) in table.places.iter().enumerate() {
-        try_place(rt, alloc, table, place, [number, 0, 0, to])?;
-    }
-    Ok(())
-}
-
-fn try_tables(rt: &impl Abort, alloc: Global, tables: &[&Beside]) -> Result<(), Fail> {
-    for (number, table) in tables.iter().enumerate() {
-        try_table(rt, alloc, number, *table)?;
+        try_place(rt, alloc, table, place, [0, 0, to, 0])?;
     }
     Ok(())
 }
 
 #[test]
-fn writers_fall_at_every_place(rt: HostRuntime) -> Result<(), Fail> {
-    let tables = [&REUSED, &REUSED_ALONE, &WRITTEN, &FINISHED_AFTER, &SENT];
-    try_tables(&rt, rt.alloc(), &tables)
+fn a_writer_reuses(rt: HostRuntime) -> Result<(), Fail> {
+    try_table(&rt, rt.alloc(), &REUSED)
 }
 
 #[test]
-fn others_fall_at_every_place(rt: HostRuntime) -> Result<(), Fail> {
-    let tables = [&FORGOTTEN, &MADE_AGAIN, &OTHER_IS_OPEN, &OTHER_IS_REFUSED];
-    try_tables(&rt, rt.alloc(), &tables)
+fn a_writer_reuses_and_its_base_is_forgotten(rt: HostRuntime) -> Result<(), Fail> {
+    try_table(&rt, rt.alloc(), &REUSED_ALONE)
 }
 
 #[test]
-fn ends_fall_at_every_place(rt: HostRuntime) -> Result<(), Fail> {
-    let tables = [&SHORT, &SHORT_ELSEWHERE, &ENDED];
-    try_tables(&rt, rt.alloc(), &tables)
+fn a_writer_sends(rt: HostRuntime) -> Result<(), Fail> {
+    try_table(&rt, rt.alloc(), &WRITTEN)
+}
+
+#[test]
+fn a_writer_sends_and_finishes_after(rt: HostRuntime) -> Result<(), Fail> {
+    try_table(&rt, rt.alloc(), &FINISHED_AFTER)
+}
+
+#[test]
+fn a_writer_sends_what_is_gone(rt: HostRuntime) -> Result<(), Fail> {
+    try_table(&rt, rt.alloc(), &SENT)
+}
+
+#[test]
+fn a_snapshot_is_forgotten(rt: HostRuntime) -> Result<(), Fail> {
+    try_table(&rt, rt.alloc(), &FORGOTTEN)
+}
+
+#[test]
+fn a_snapshot_is_made_again(rt: HostRuntime) -> Result<(), Fail> {
+    try_table(&rt, rt.alloc(), &MADE_AGAIN)
+}
+
+#[test]
+fn another_collector_is_open(rt: HostRuntime) -> Result<(), Fail> {
+    try_table(&rt, rt.alloc(), &OTHER_IS_OPEN)
+}
+
+#[test]
+fn another_collector_is_refused(rt: HostRuntime) -> Result<(), Fail> {
+    try_table(&rt, rt.alloc(), &OTHER_IS_REFUSED)
+}
+
+#[test]
+fn memory_is_wanting(rt: HostRuntime) -> Result<(), Fail> {
+    try_table(&rt, rt.alloc(), &SHORT)
+}
+
+#[test]
+fn memory_is_wanting_elsewhere(rt: HostRuntime) -> Result<(), Fail> {
+    try_table(&rt, rt.alloc(), &SHORT_ELSEWHERE)
+}
+
+#[test]
+fn the_lane_ends(rt: HostRuntime) -> Result<(), Fail> {
+    try_table(&rt, rt.alloc(), &ENDED)
 }

@@ -697,7 +697,7 @@ fn opened(alloc: Global, row: &Collection<'_>) -> Result<MemoryCore, Fail> {
     opened_over(alloc, disk, row.clock, row.then)
 }
 
-/// Which of several tables, and what of it.
+/// What of a table.
 pub(crate) type Spot = [usize; 4];
 
 /// Does the acts one after another, and compares the frames of their replies, and their entries. Gives the answers as they are shown.
@@ -758,47 +758,53 @@ pub(crate) fn try_collection(
     Ok(parts.order)
 }
 
-fn try_collections(
-    rt: &impl Abort,
-    alloc: Global,
-    table: usize,
-    rows: &[&Collection<'_>],
-) -> Result<(), Fail> {
+fn try_collections(rt: &impl Abort, alloc: Global, rows: &[&Collection<'_>]) -> Result<(), Fail> {
     for (number, row) in rows.iter().enumerate() {
-        let _ = try_collection(rt, alloc, [table, number, 0, 0], *row)?;
+        let _ = try_collection(rt, alloc, [number, 0, 0, 0], *row)?;
     }
     Ok(())
 }
 
 #[test]
 fn unused_chunks_go_by_their_last_touch(rt: HostRuntime) -> Result<(), Fail> {
-    let rows = [&BY_CUTOFF, &BESIDE_WRITERS, &EARLY, &WITHOUT_BOOK, &STALE];
-    try_collections(&rt, rt.alloc(), 0, &rows)
+    let rows = [&BY_CUTOFF, &BESIDE_WRITERS];
+    try_collections(&rt, rt.alloc(), &rows)
+}
+
+#[test]
+fn unused_chunks_go_by_any_book(rt: HostRuntime) -> Result<(), Fail> {
+    let rows = [&EARLY, &WITHOUT_BOOK, &STALE];
+    try_collections(&rt, rt.alloc(), &rows)
 }
 
 #[test]
 fn chunks_are_collected_by_any_clock(rt: HostRuntime) -> Result<(), Fail> {
     let rows = [&FALLING, &FALLING_BEHIND_WRITER, &RISING];
-    try_collections(&rt, rt.alloc(), 1, &rows)
+    try_collections(&rt, rt.alloc(), &rows)
 }
 
 #[test]
 fn chunks_of_snapshots_are_marked(rt: HostRuntime) -> Result<(), Fail> {
-    let rows = [
-        &FORGOTTEN_BETWEEN,
-        &IN_TWO_MARKS,
-        &FORGOTTEN_HALF_MARKED,
-        taken_over(),
-        &THREE_INDEXES,
-        &THIRD_UNDECODED,
-    ];
-    try_collections(&rt, rt.alloc(), 2, &rows)
+    let rows = [taken_over(), &THREE_INDEXES, &THIRD_UNDECODED];
+    try_collections(&rt, rt.alloc(), &rows)
+}
+
+#[test]
+fn snapshots_are_forgotten_beside_marks(rt: HostRuntime) -> Result<(), Fail> {
+    let rows = [&FORGOTTEN_BETWEEN, &IN_TWO_MARKS, &FORGOTTEN_HALF_MARKED];
+    try_collections(&rt, rt.alloc(), &rows)
 }
 
 #[test]
 fn collections_end_over_any_folder(rt: HostRuntime) -> Result<(), Fail> {
-    let rows = [&WITHOUT_CHUNKS, &CUT_SHORT, &DAMAGED, &UNDECODED, &LITTERED];
-    try_collections(&rt, rt.alloc(), 3, &rows)
+    let rows = [&WITHOUT_CHUNKS, &DAMAGED, &LITTERED];
+    try_collections(&rt, rt.alloc(), &rows)
+}
+
+#[test]
+fn collections_are_cut_short(rt: HostRuntime) -> Result<(), Fail> {
+    let rows = [&CUT_SHORT, &UNDECODED];
+    try_collections(&rt, rt.alloc(), &rows)
 }
 
 /// The first snapshot's archive has `abc` alone.

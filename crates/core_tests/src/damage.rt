@@ -216,23 +216,40 @@ static SHORTER: Calls = &[
     (5, Call::Range(NAME, 2, 2), b"\x03\0\0\0\0de"),
 ];
 
-/// Each is asked of a reader of its own.
-fn try_asked(rt: &impl Abort, alloc: Global, asked: [Calls; 3]) -> Result<(), Fail> {
-    for calls in asked {
-        let mut parts = opened(rt, alloc, 3)?;
-        try_calls(rt, &mut parts, alloc, calls)?;
-    }
-    Ok(())
+/// They are asked of a reader of their own.
+fn try_asked(rt: &impl Abort, alloc: Global, calls: Calls) -> Result<(), Fail> {
+    let mut parts = opened(rt, alloc, 3)?;
+    try_calls(rt, &mut parts, alloc, calls)
 }
 
 #[test]
-fn damaged_chunks_are_told(rt: HostRuntime) -> Result<(), Fail> {
-    try_asked(&rt, rt.alloc(), [RANGES, IN_ORDER, CHUNKS])
+fn damaged_chunks_are_told_by_ranges(rt: HostRuntime) -> Result<(), Fail> {
+    try_asked(&rt, rt.alloc(), RANGES)
 }
 
 #[test]
-fn a_verify_reads(rt: HostRuntime) -> Result<(), Fail> {
-    try_asked(&rt, rt.alloc(), [ENTRIES, AS_THEY_STAND, PARTS])
+fn the_first_that_is_damaged_is_told(rt: HostRuntime) -> Result<(), Fail> {
+    try_asked(&rt, rt.alloc(), IN_ORDER)
+}
+
+#[test]
+fn damaged_chunks_are_told_by_digest(rt: HostRuntime) -> Result<(), Fail> {
+    try_asked(&rt, rt.alloc(), CHUNKS)
+}
+
+#[test]
+fn a_verify_reads_entries(rt: HostRuntime) -> Result<(), Fail> {
+    try_asked(&rt, rt.alloc(), ENTRIES)
+}
+
+#[test]
+fn a_verify_reads_files_as_they_stand(rt: HostRuntime) -> Result<(), Fail> {
+    try_asked(&rt, rt.alloc(), AS_THEY_STAND)
+}
+
+#[test]
+fn a_verify_reads_parts(rt: HostRuntime) -> Result<(), Fail> {
+    try_asked(&rt, rt.alloc(), PARTS)
 }
 
 #[test]

@@ -1,5 +1,6 @@
+ghost use Rattle.std.specs.Prelude.{◌≡◌};
 ghost use Rattle.store_history.specs.declared.act.Act.TheVariants.{Plain};
-ghost use Rattle.core_reader.specs.ReaderActs.{IsReaders};
+ghost use Rattle.store_history.specs.Acts.{family_of};
 
 use crate::asserts::same;
 use crate::calls::{
@@ -8,7 +9,7 @@ use crate::calls::{
 };
 use crate::fixtures::{FIRST, MANIFEST, MANIFEST_PATH, MemoryCore, OTHER, SECOND, opened};
 use core_reader::reader_act;
-use core_state::{Act, Answer};
+use core_state::{Act, Answer, Family};
 use std::alloc::Global;
 use std::process::Abort;
 use std::test::Fail;
@@ -83,7 +84,7 @@ fn try_act(
     expected: &[u8],
     entered: (u64, u8, u64),
 ) -> Result<(), Fail>
-    requires { IsReaders (Plain command) }
+    requires { family_of (Plain command) ≡ Family.Reads }
 {
     if !core.journal.room(6) {
         return Err("no room".into());

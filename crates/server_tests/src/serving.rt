@@ -1,40 +1,17 @@
-mod archives;
-mod beside;
 mod collections;
-mod damaged;
-mod disk_faults;
-mod fixed;
-mod folders;
 pub mod frames;
-mod listings;
-mod long_names;
-mod manifests;
 mod memory;
 mod openings;
 mod port_faults;
-mod prunes;
-mod pull_faults;
 mod pulls;
-mod ranges;
-mod restore_faults;
-mod reuse;
-mod stopped_acts;
-mod stops;
-mod syncs;
 mod talks;
 mod verifies;
 
 use crate::asserts::same;
-use archives::{
-    CHUNKS, CHUNKS_REPLIES, EMPTY_ARCHIVE, EMPTY_ARCHIVE_REPLIES, OPEN_INDEX, OPEN_INDEX_REPLIES,
-    SENT_AGAIN, SENT_AGAIN_REPLIES, SENT_TWICE,
-};
 use disk_trait::{Disk, MemoryDisk};
 use lane::{Ending, LaneReport, Port};
-use listings::{BACKED_UP, BACKED_UP_REPLIES};
 use pbs_server::{Plan, Served, Status, WordFault, plan_words, serve};
 use port_traits::{FreeGate, MemSink, MemSource, SetClock, Sink};
-use prunes::{PRUNED, PRUNED_REPLIES};
 use std::alloc::{AllocError, Global};
 use std::process::Abort;
 use std::test::Fail;
@@ -58,38 +35,6 @@ const UNFINISHED: &[u8] =
 
 const UNFINISHED_REPLIES: &[u8] =
     b"\x02\0\0\0\0\0\x01\0\0\0\0\x01\0\0\0\0\x1d\0\0\0\0\x1bhost/a/2020-01-15T06:30:03Z\x01\0\0\0\0\x01\0\0\0\0\x01\0\0\0\0";
-
-/// A snapshot with `a.conf.blob`, the blob of `123456789`, which is downloaded from 0, 21 and 22.
-const RESTORE: &[u8] =
-    b"\x1d\0\0\0\x0a\x1bhost/a/2020-01-15T06:30:03Z\"\0\0\0\x11\x0ba.conf.blobB\xab8\x07\xbe\x83p\xa1&9\xf4\xcb123456789\xe9\0\0\0\x11\x0findex.json.blobB\xab8\x07\xbe\x83p\xa1\xe34\xfd\xda{\"backup-id\":\"a\",\"backup-time\":1579069803,\"backup-type\":\"host\",\"files\":[{\"crypt-mode\":\"none\",\"csum\":\"69dcb4830c28203c26a1dade2d893d7f1d13cdba5eb39e348b008f3a5a0fb688\",\"filename\":\"a.conf.blob\",\"size\":21}]}\x01\0\0\0\x12\x1d\0\0\0\x14\x1bhost/a/2020-01-15T06:30:03Z\x15\0\0\0\x15\x0ba.conf.blob\0\0\0\0\0\0\0\0\x15\0\0\0\x15\x0ba.conf.blob\x15\0\0\0\0\0\0\0\x15\0\0\0\x15\x0ba.conf.blob\x16\0\0\0\0\0\0\0";
-
-const RESTORE_REPLIES: &[u8] =
-    b"\x02\0\0\0\0\0\x01\0\0\0\0\x01\0\0\0\0\x01\0\0\0\0\x01\0\0\0\0\x1e\0\0\0\0\x15\0\0\0\0\0\0\0B\xab8\x07\xbe\x83p\xa1&9\xf4\xcb123456789\x09\0\0\0\0\x15\0\0\0\0\0\0\0\x09\0\0\0\x16\x15\0\0\0\0\0\0\0";
-
-/// ABORT without a session; the upload of `a.conf.blob`, CLOSE_READER, and ABORT; the upload of a snapshot with its manifest
-/// alone, OPEN_READER of it, ABORT, and CLOSE_READER twice.
-const CLOSED: &[u8] =
-    b"\x01\0\0\0\x13\x1d\0\0\0\x0a\x1bhost/a/2020-01-15T06:30:03Z\"\0\0\0\x11\x0ba.conf.blobB\xab8\x07\xbe\x83p\xa1&9\xf4\xcb123456789\x01\0\0\0\x18\x01\0\0\0\x13\x1d\0\0\0\x0a\x1bhost/a/2020-01-15T06:30:03Zg\0\0\0\x11\x0findex.json.blobB\xab8\x07\xbe\x83p\xa1\xb2\x94\x08E{\"backup-id\":\"a\",\"backup-time\":1579069803,\"backup-type\":\"host\",\"files\":[]}\x01\0\0\0\x12\x1d\0\0\0\x14\x1bhost/a/2020-01-15T06:30:03Z\x01\0\0\0\x13\x01\0\0\0\x18\x01\0\0\0\x18";
-
-const CLOSED_REPLIES: &[u8] =
-    b"\x02\0\0\0\x03\0\x02\0\0\0\0\0\x01\0\0\0\0\x02\0\0\0\x03\x01\x01\0\0\0\0\x02\0\0\0\0\0\x01\0\0\0\0\x01\0\0\0\0\x01\0\0\0\0\x02\0\0\0\x03\x02\x01\0\0\0\0\x02\0\0\0\x03\0";
-
-/// Uploads: eleven bytes of the empty blob, a wrong CRC, a compressed blob, the blob of `123456789`, and the empty blob.
-const BLOBS: &[u8] =
-    b"\x1d\0\0\0\x0a\x1bhost/a/2020-01-15T06:30:03Z\x13\0\0\0\x11\x06a.blobB\xab8\x07\xbe\x83p\xa1\0\0\0\x1d\0\0\0\x11\x06a.blobB\xab8\x07\xbe\x83p\xa1'9\xf4\xcb123456789\x1d\0\0\0\x11\x06a.blob1\xb9XBo\xb6\xa3\x7f&9\xf4\xcb123456789\x1d\0\0\0\x11\x06a.blobB\xab8\x07\xbe\x83p\xa1&9\xf4\xcb123456789\x14\0\0\0\x11\x06b.blobB\xab8\x07\xbe\x83p\xa1\0\0\0\0";
-
-const BLOBS_REPLIES: &[u8] =
-    b"\x02\0\0\0\0\0\x02\0\0\0\x0b\x01\x0a\0\0\0\x0b\x07'9\xf4\xcb&9\xf4\xcb\x02\0\0\0\x0b\x02\x01\0\0\0\0\x01\0\0\0\0";
-
-/// OPEN_READER of `host/a/2020-01-15T06:30:03Z`, and DOWNLOAD of its manifest.
-const NO_READER: &[u8] =
-    b"\x1d\0\0\0\x14\x1bhost/a/2020-01-15T06:30:03Z\x19\0\0\0\x15\x0findex.json.blob\0\0\0\0\0\0\0\0";
-
-/// BadFrame at 0.
-const BAD_AT_0: &[u8] = b"\x09\0\0\0\x01\0\0\0\0\0\0\0\0";
-
-/// WrongState of a lane without a session, and BadFrame at 5.
-const BAD_AT_5: &[u8] = b"\x02\0\0\0\x03\0\x09\0\0\0\x01\x05\0\0\0\0\0\0\0";
 
 /// A session, its replies, and where its frames and replies end, command by command.
 #[derive(Clone, Copy)]
@@ -131,30 +76,6 @@ const TO_BYE: Session = Session {
         (6, 245, 64),
     ],
     reads: 245,
-};
-
-/// It aborts an upload, and then has nothing to abort.
-const ABORTED: Session = Session {
-    input: b"\x1d\0\0\0\x0a\x1bhost/a/2020-01-15T06:30:03Z\"\0\0\0\x11\x0ba.conf.blobB\xab8\x07\xbe\x83p\xa1&9\xf4\xcb123456789\x01\0\0\0\x13\x01\0\0\0\x13",
-    replies: b"\x02\0\0\0\0\0\x01\0\0\0\0\x01\0\0\0\0\x02\0\0\0\x03\0",
-    marks: &[(1, 33, 6), (2, 71, 11), (3, 76, 16), (4, 81, 22)],
-    reads: 82,
-};
-
-/// It sends the piece `abc` twice, closes an index with it, and aborts: the chunk stays.
-const STORED: Session = Session {
-    input: b"\x1d\0\0\0\x0a\x1bhost/a/2020-01-15T06:30:03Z\x0b\0\0\0\x0d\x09root.didx0\0\0\0\x0e\xbax\x16\xbf\x8f\x01\xcf\xeaAA@\xde]\xae\"#\xb0\x03a\xa3\x96\x17z\x9c\xb4\x10\xffa\xf2\0\x15\xadB\xab8\x07\xbe\x83p\xa1\xc2A$5abc0\0\0\0\x0e\xbax\x16\xbf\x8f\x01\xcf\xeaAA@\xde]\xae\"#\xb0\x03a\xa3\x96\x17z\x9c\xb4\x10\xffa\xf2\0\x15\xadB\xab8\x07\xbe\x83p\xa1\xc2A$5abc,\0\0\0\x0f\0\x01\0\xbax\x16\xbf\x8f\x01\xcf\xeaAA@\xde]\xae\"#\xb0\x03a\xa3\x96\x17z\x9c\xb4\x10\xffa\xf2\0\x15\xad\0\0\0\0\0\0\0\02\0\0\0\x10\0\x01\0\0\0\0\0\0\0\x03\0\0\0\0\0\0\0\x80\xa6r\x15\xaf\xf0\xc5\x85\xb6\xc0U\xe3\x8a\xa0Kv\xd4\xb2\x08\xe2\xd0\xc3\xeb1\xbf\xd0(\"\xaeb\xe1\xc0\x01\0\0\0\x13",
-    replies: b"\x02\0\0\0\0\0\x02\0\0\0\0\0\x01\0\0\0\0\x01\0\0\0\0\x01\0\0\0\0\x01\0\0\0\0\x01\0\0\0\0",
-    marks: &[
-        (1, 33, 6),
-        (2, 48, 12),
-        (3, 100, 17),
-        (4, 152, 22),
-        (5, 200, 27),
-        (6, 254, 32),
-        (7, 259, 37),
-    ],
-    reads: 260,
 };
 
 /// Files by name and size, in byte order of the names.
@@ -309,92 +230,6 @@ fn front(bytes: &[u8], count: u64) -> &[u8] {
     &bytes[..bytes.len().min(count as usize)]
 }
 
-/// Sessions that end at BYE or between two frames, with their replies and the kinds of their entries.
-static CLEAN: [(&[u8], &[u8], &[u8]); 15] = [
-    (b"", b"", &[6]),
-    (b"\x01\0\0\0\x3f", b"\x01\0\0\0\0", &[6]),
-    // FINISH without a session
-    (b"\x01\0\0\0\x12", b"\x02\0\0\0\x03\0", &[0, 6]),
-    // OPEN_READER of a snapshot that isn't there, and DOWNLOAD without a session
-    (NO_READER, b"\x01\0\0\0\x08\x02\0\0\0\x03\0", &[0, 0, 6]),
-    (READ_BACK, READ_BACK_REPLIES, &[0, 0, 0, 0, 0, 6]),
-    (UNFINISHED, UNFINISHED_REPLIES, &[0, 0, 0, 0, 0, 0, 6]),
-    (RESTORE, RESTORE_REPLIES, &[0, 0, 0, 0, 0, 0, 0, 0, 6]),
-    (BLOBS, BLOBS_REPLIES, &[0, 0, 0, 0, 0, 0, 6]),
-    (
-        CLOSED,
-        CLOSED_REPLIES,
-        &[0, 0, 0, 0, 0, 0, 0, 0, 0, 0, 0, 0, 6],
-    ),
-    (
-        EMPTY_ARCHIVE,
-        EMPTY_ARCHIVE_REPLIES,
-        &[0, 0, 0, 0, 0, 0, 0, 0, 6],
-    ),
-    (CHUNKS, CHUNKS_REPLIES, &[0, 0, 0, 0, 0, 0, 0, 6]),
-    (OPEN_INDEX, OPEN_INDEX_REPLIES, &[0, 0, 0, 0, 0, 0, 0, 0, 6]),
-    (SENT_AGAIN, SENT_AGAIN_REPLIES, &[0, 0, 0, 0, 0, 6]),
-    (BACKED_UP, BACKED_UP_REPLIES, &[0, 0, 0, 0, 6]),
-    // the second PRUNE is two steps
-    (
-        PRUNED,
-        PRUNED_REPLIES,
-        &[0, 0, 0, 0, 0, 0, 0, 0, 0, 0, 0, 6],
-    ),
-];
-
-/// Sessions that come to a place without a command, with their replies, the kinds of their entries, how many bytes are taken,
-/// and the place.
-static BROKEN: [(&[u8], &[u8], &[u8], u64, u64); 12] = [
-    // an unknown code, an empty body, and a frame that the end of the input cuts
-    (b"\x01\0\0\0\x63", BAD_AT_0, &[6], 5, 0),
-    (b"\0\0\0\0", BAD_AT_0, &[6], 4, 0),
-    (b"\x05\0\0\0\x0a", BAD_AT_0, &[6], 5, 0),
-    (b"\x1d\0\0\0\x0a", BAD_AT_0, &[6], 5, 0),
-    // BYE with a byte more
-    (b"\x02\0\0\0\x3f\0", BAD_AT_0, &[6], 6, 0),
-    // lengths over the limit
-    (
-        b"\x01\x04\0\x01",
-        b"\x05\0\0\0\x02\x01\x04\0\x01",
-        &[6],
-        4,
-        0,
-    ),
-    (
-        b"\xff\xff\xff\xff",
-        b"\x05\0\0\0\x02\xff\xff\xff\xff",
-        &[6],
-        4,
-        0,
-    ),
-    // behind a command, with more behind it, which is not read as a command
-    (
-        b"\x01\0\0\0\x12\x01\0\0\0\x63\x01\0\0\0\x12",
-        BAD_AT_5,
-        &[0, 6],
-        10,
-        5,
-    ),
-    (b"\x01\0\0\0\x12\0\0\0\0", BAD_AT_5, &[0, 6], 9, 5),
-    // LIST without a text, and an empty body behind LIST; a PRUNE that is neither dry nor not
-    (b"\x01\0\0\0\x1e", BAD_AT_0, &[6], 5, 0),
-    (
-        b"\x02\0\0\0\x1e\0\0\0\0\0",
-        b"\x03\0\0\0\0\0\0\x09\0\0\0\x01\x06\0\0\0\0\0\0\0",
-        &[0, 6],
-        10,
-        6,
-    ),
-    (
-        b"\x15\0\0\0!\x06host/a\0\0\0\0\0\0\x02\0\0\0\0\0\x02",
-        BAD_AT_0,
-        &[6],
-        25,
-        0,
-    ),
-];
-
 /// Serves a session on an empty disk.
 fn try_source(
     rt: &(impl Abort + Threads + Sync),
@@ -408,76 +243,6 @@ fn try_source(
     }];
     let served = run_on(rt, alloc, &mut ports, MemoryDisk::new(alloc))?;
     assert_run(rt, told_to(&ports)?, &served, left)
-}
-
-/// Serves a session, whole and one byte a read.
-fn try_session(
-    rt: &(impl Abort + Threads + Sync),
-    alloc: Global,
-    input: &[u8],
-    left: &Left<'_>,
-) -> Result<(), Fail> {
-    try_source(rt, alloc, source_of(alloc, input)?, left)?;
-    try_source(rt, alloc, source_of(alloc, input)?.at_most(1), left)
-}
-
-/// What opening calls on an empty folder: sync, a list of all names, and the size of the book.
-const OPENING: u64 = 3;
-
-/// The counts of the disk's calls beside the entries, those of opening first: FINISH installs and syncs, DOWNLOAD asks the size and reads; CHUNK asks the size,
-/// whether the session knows the chunk or not, and installs only where no file was there.
-static COUNTED: [(&[u8], &[u64]); 3] = [
-    (READ_BACK, &[3, 3, 7, 7, 9, 9]),
-    (SENT_AGAIN, &[3, 7, 7, 7, 8, 8]),
-    (SENT_TWICE, &[3, 7, 8, 8]),
-];
-
-#[test]
-fn calls_are_counted(rt: HostRuntime) -> Result<(), Fail> {
-    let alloc = rt.alloc();
-    for (input, calls) in &COUNTED {
-        let (_output, served) = run_session(&rt, alloc, input, MemoryDisk::new(alloc))?;
-        same(&rt, served.report.calls.as_slice(), *calls);
-    }
-    Ok(())
-}
-
-#[test]
-fn sessions_are_served(rt: HostRuntime) -> Result<(), Fail> {
-    for (input, replies, kinds) in &CLEAN {
-        let report = LaneReport {
-            taken: input.len() as u64,
-            given: replies.len() as u64,
-            ending: Ending::Clean,
-        };
-        let left = Left {
-            status: Status::Ok,
-            report,
-            replies,
-            kinds,
-        };
-        try_session(&rt, rt.alloc(), input, &left)?;
-    }
-    Ok(())
-}
-
-#[test]
-fn what_is_no_command_ends_a_session(rt: HostRuntime) -> Result<(), Fail> {
-    for (input, replies, kinds, taken, place) in &BROKEN {
-        let report = LaneReport {
-            taken: *taken,
-            given: replies.len() as u64,
-            ending: Ending::Broken { place: *place },
-        };
-        let left = Left {
-            status: Status::BadFrame,
-            report,
-            replies,
-            kinds,
-        };
-        try_session(&rt, rt.alloc(), input, &left)?;
-    }
-    Ok(())
 }
 
 /// Serves a session that ends with an upload of so many zeros, behind these bytes.

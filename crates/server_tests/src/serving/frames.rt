@@ -2,16 +2,10 @@
 
 use super::talks::Steps;
 
-/// OPEN_WRITER and OPEN_READER of `host/a/2020-01-15T06:30:03Z`, a second later, and of `host/b/2020-01-15T06:30:03Z`.
+/// OPEN_WRITER of `host/a/2020-01-15T06:30:03Z`, and a second later.
 pub const OPEN: &[u8] = b"\x1d\0\0\0\x0a\x1bhost/a/2020-01-15T06:30:03Z";
 
 pub const OPEN_LATER: &[u8] = b"\x1d\0\0\0\x0a\x1bhost/a/2020-01-15T06:30:04Z";
-
-pub const OPEN_OTHER: &[u8] = b"\x1d\0\0\0\x0a\x1bhost/b/2020-01-15T06:30:03Z";
-
-pub const READ: &[u8] = b"\x1d\0\0\0\x14\x1bhost/a/2020-01-15T06:30:03Z";
-
-pub const READ_LATER: &[u8] = b"\x1d\0\0\0\x14\x1bhost/a/2020-01-15T06:30:04Z";
 
 /// NEW_DYNAMIC of `root.didx`.
 pub const NEW: &[u8] = b"\x0b\0\0\0\x0d\x09root.didx";
@@ -22,9 +16,6 @@ pub const SEND_ABC: &[u8] =
 
 pub const SEND_DE: &[u8] =
     b"/\0\0\0\x0e\x95\x9aE\xd4No\xcfX6\x1e\xd0\x04h\x15V\xfeP\x12\x9f!\x09\xe8\x17\xde\xc0\x98\xc0\x0c\x9e]%xB\xab8\x07\xbe\x83p\xa1\x8b)\x90}de";
-
-pub const SEND_XYZ: &[u8] =
-    b"0\0\0\0\x0e6\x08\xbc\xa1\xe4N\xa6\xc4\xd2h\xebm\xb0\"`&\x98\x92\xc0\xb4+\x86\xbb\xf1\xe7zo\xa1l<\x92\x82B\xab8\x07\xbe\x83p\xa1g\xba\x8e\xebxyz";
 
 /// APPEND of `abc` and `de` to index 0, and its CLOSE_INDEX.
 pub const APPEND_BOTH: &[u8] =
@@ -39,29 +30,6 @@ pub const LIST_BOTH: &[u8] =
 
 pub const FINISH: &[u8] = b"\x01\0\0\0\x12";
 
-pub const ABORT: &[u8] = b"\x01\0\0\0\x13";
-
-pub const CLOSE_READER: &[u8] = b"\x01\0\0\0\x18";
-
-/// DOWNLOAD of this index from its end on, and the reply.
-pub const FROM_END: &[u8] = b"\x13\0\0\0\x15\x09root.didxP\x10\0\0\0\0\0\0";
-
-pub const AT_END: &[u8] = b"\x09\0\0\0\0P\x10\0\0\0\0\0\0";
-
-/// RANGE of all five bytes.
-pub const ALL_FIVE: &[u8] = b"\x17\0\0\0\x17\x09root.didx\0\0\0\0\0\0\0\0\x05\0\0\0";
-
-/// GET_CHUNK of a piece, and its blob.
-pub const GET_ABC: &[u8] =
-    b"!\0\0\0\x16\xbax\x16\xbf\x8f\x01\xcf\xeaAA@\xde]\xae\"#\xb0\x03a\xa3\x96\x17z\x9c\xb4\x10\xffa\xf2\0\x15\xad";
-
-pub const GET_DE: &[u8] =
-    b"!\0\0\0\x16\x95\x9aE\xd4No\xcfX6\x1e\xd0\x04h\x15V\xfeP\x12\x9f!\x09\xe8\x17\xde\xc0\x98\xc0\x0c\x9e]%x";
-
-pub const BLOB_ABC: &[u8] = b"\x10\0\0\0\0B\xab8\x07\xbe\x83p\xa1\xc2A$5abc";
-
-pub const BLOB_DE: &[u8] = b"\x0f\0\0\0\0B\xab8\x07\xbe\x83p\xa1\x8b)\x90}de";
-
 /// The reply of a command that is done; of the first OPEN_WRITER of a group; of OPEN_WRITER over the first snapshot.
 pub const DONE: &[u8] = b"\x01\0\0\0\0";
 
@@ -69,29 +37,7 @@ pub const NO_BASE: &[u8] = b"\x02\0\0\0\0\0";
 
 pub const BASE: &[u8] = b"\x1d\0\0\0\0\x1bhost/a/2020-01-15T06:30:03Z";
 
-/// The number of a second index; that of a first is spelled as an empty text is.
-pub const SECOND: &[u8] = b"\x02\0\0\0\0\x01";
-
 pub const FIRST: &[u8] = NO_BASE;
-
-/// Refusals.
-pub const NO_SESSION: &[u8] = b"\x02\0\0\0\x03\0";
-
-pub const IN_WRITER: &[u8] = b"\x02\0\0\0\x03\x01";
-
-pub const IN_READER: &[u8] = b"\x02\0\0\0\x03\x02";
-
-pub const BAD_NAME: &[u8] = b"\x01\0\0\0\x04";
-
-pub const NO_SNAPSHOT: &[u8] = b"\x01\0\0\0\x08";
-
-pub const NO_FILE: &[u8] = b"\x01\0\0\0\x09";
-
-pub const EXISTS: &[u8] = b"\x01\0\0\0\x0a";
-
-pub const NOT_ALLOWED: &[u8] = b"\x01\0\0\0\x14";
-
-pub const UNKNOWN: &[u8] = b"\x05\0\0\0\x0e\0\0\0\0";
 
 /// OPEN_WRITER, and the archive `root.didx` of the pieces `abc` and `de`.
 pub const ROOT_SENT: Steps = &[
@@ -102,3 +48,19 @@ pub const ROOT_SENT: Steps = &[
     (APPEND_BOTH, DONE),
     (CLOSE_BOTH, DONE),
 ];
+
+/// The blob of `123456789`, and that of a manifest that lists the archive alone.
+pub const CONF: &[u8] = b"B\xab8\x07\xbe\x83p\xa1&9\xf4\xcb123456789";
+
+pub const ROOT_LISTED: &[u8] =
+    b"B\xab8\x07\xbe\x83p\xa1\xd7D#\x81{\"backup-id\":\"a\",\"backup-time\":1579069803,\"backup-type\":\"host\",\"files\":[{\"crypt-mode\":\"none\",\"csum\":\"da464aae3d9f63d06f308710062b5db41996b1e36990b92ecc693440e6660151\",\"filename\":\"root.didx\",\"size\":5}]}";
+
+/// LIST from the first snapshot on, FORGET of the first, and the keys of a group of it alone.
+pub const LIST: &[u8] = b"\x02\0\0\0\x1e\0";
+
+pub const FORGET: &[u8] = b"\x1d\0\0\0 \x1bhost/a/2020-01-15T06:30:03Z";
+
+pub const ONE_KEY: &[u8] = b"\x1f\0\0\0\0\x01\0\x1bhost/a/2020-01-15T06:30:03Z";
+
+/// A SYNC of `host/a`.
+pub const SYNC: &[u8] = b"\x08\0\0\0#\x06host/a";

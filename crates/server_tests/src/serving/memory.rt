@@ -1,9 +1,7 @@
 //! A growth is refused, as `rt try --test --fail-alloc N` does.
 
-use super::frames::{BASE, DONE, NO_BASE, OPEN_LATER, ROOT_SENT};
-use super::listings::{FORGET, ONE_KEY};
+use super::frames::*;
 use super::pulls::{LONG_ARCHIVES, long_remote};
-use super::syncs::SYNC;
 use super::talks::talk_of;
 use super::verifies::VERIFIED_LAST;
 use super::*;
@@ -112,11 +110,11 @@ const SHORT_AND_DONE: &[u8] = b"\x01\0\0\0\x1c\x01\0\0\0\0";
 /// wanting for one, the close is the next.
 fn was_closed(rt: &impl Abort, order: &[Entry]) -> bool {
     let mut was_short = false;
-    let mut is_short = false;
+    let mut is_out_of_memory = false;
     for (place, entry) in order.iter().enumerate() {
-        same(rt, is_short && entry.kind != 0, false);
-        is_short = entry.kind == 2 && 8 < place && place < 14;
-        was_short = was_short || is_short;
+        same(rt, is_out_of_memory && entry.kind != 0, false);
+        is_out_of_memory = entry.kind == 2 && 8 < place && place < 14;
+        was_short = was_short || is_out_of_memory;
     }
     was_short
 }
@@ -155,11 +153,11 @@ fn a_verify_lacks_memory(rt: HostRuntime) -> Result<(), Fail> {
 /// ABORT is the next.
 fn was_aborted(rt: &impl Abort, order: &[Entry]) -> bool {
     let mut was_short = false;
-    let mut is_short = false;
+    let mut is_out_of_memory = false;
     for (place, entry) in order.iter().enumerate() {
-        same(rt, is_short && entry.kind != 0, false);
-        is_short = entry.kind == 2 && 2 < place && place < 13;
-        was_short = was_short || is_short;
+        same(rt, is_out_of_memory && entry.kind != 0, false);
+        is_out_of_memory = entry.kind == 2 && 2 < place && place < 13;
+        was_short = was_short || is_out_of_memory;
     }
     was_short
 }

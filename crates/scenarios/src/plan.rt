@@ -1,0 +1,158 @@
+//! What the next session is to send and to be told, and which calls of its ends fail.
+
+use crate::bytes::{bytes_of, shown};
+use crate::differs::Differs;
+use crate::words::{number_of, numbers_of, split};
+use port_traits::{MemSource, SetClock};
+use std::alloc::{AllocError, Global};
+
+/// A reply that is wanted, and the line that says so.
+#[derive(Drop)]
+struct Wanted {
+    line: usize,
+    bytes: Vec<u8>,
+}
+
+/// A session that is to be served.
+#[derive(Drop)]
+pub struct Plan {
+    alloc: Global,
+    pub sent: Vec<u8>,
+    wanted: Vec<Wanted>,
+    /// What the clock reads, the last one for ever. It stands, where no line says so.
+    clock: Vec<u64>,
+    /// Which calls of the disk fail, or behind how many all do; and of the remote.
+    pub fails: Vec<u64>,
+    pub stops: Option<u64>,
+    pub remote_fails: Vec<u64>,
+    /// The most bytes that a read gives.
+    gives: usize,
+}
+
+/// Where the clock stands.
+const STANDING: u64 = 1_600_000_000;
+
+impl Plan {
+    /// Nothing is sent, the clock stands, and nothing fails.
+    pub fn new(alloc: Global) -> Plan {
+        Plan {
+            alloc,
+            sent: Vec::new(alloc),
+            wanted: Vec::new(alloc),
+            clock: Vec::new(alloc),
+            fails: Vec::new(alloc),
+            stops: None,
+            remote_fails: Vec::new(alloc),
+            gives: usize::MAX,
+        }
+    }
+
+    /// Does what a line says of the session, if it says something of it.
+    pub fn obey(&mut self, line: usize, word: &str, rest: &str) -> Result<bool, Differs> {
+        match word.as_bytes() {
+            b">" => self.send(rest)?,
+            b">>" => self.send_raw(rest)?,
+            b"<" => self.want(line, rest)?,
+            b"clock" => self.clock = numbers_of(self.alloc, rest)?,
+            b"fails" => self.fails = numbers_of(self.alloc, rest)?,
+            b"stops" => self.stops = Some(number_of(rest)?),
+            b"remote-fails" => self.remote_fails = numbers_of(self.alloc, rest)?,
+            b"gives" => self.gives = number_of(rest)? as usize,
+            _ => return Ok(false),
+        }
+        Ok(true)
+    }
+
+    /// Sends a command as a frame. The word in front of it is for readers.
+    fn send(&mut self, text: &str) -> Result<(), Differs> {
+        let frame = framed(self.alloc, text)?;
+        self.sent.extend_from_slice(&frame)?;
+        Ok(())
+    }
+
+    fn send_raw(&mut self, text: &str) -> Result<(), Differs> {
+        let bytes = bytes_of(self.alloc, text)?;
+        self.sent.extend_from_slice(&bytes)?;
+        Ok(())
+    }
+
+    /// Wants a reply as a frame. The word in front of it is for readers.
+    fn want(&mut self, line: usize, text: &str) -> Result<(), Differs> {
+        let bytes = framed(self.alloc, text)?;
+        self.wanted.push(Wanted { line, bytes })?;
+        Ok(())
+    }
+
+    /// The replies are those that are wanted, one behind another.
+    pub fn compare(&self, told: &[u8]) -> Result<(), Differs> {
+        let mut rest = told;
+        for Wanted { line, bytes } in &self.wanted {
+            match rest.strip_prefix(bytes.as_slice()) {
+                Some(behind) => rest = behind,
+                None => return Err(Differs::Told(*line, shown(self.alloc, rest)?)),
+            }
+        }
+        if rest.is_empty() {
+            return Ok(());
+        }
+        Err(Differs::Found(shown(self.alloc, rest)?))
+    }
+
+    /// The replies are those that are wanted up to a command at which the disk fails: that is told it, and each behind it that this
+    /// entry was the first to fail. A session that is not opened is told nothing.
+    pub fn compare_failed(&self, told: &[u8], entry: u64) -> Result<(), Differs> {
+        let mut rest = told;
+        let mut wanted = Vec::new(self.alloc);
+        for Wanted { bytes, .. } in &self.wanted {
+            match rest.strip_prefix(bytes.as_slice()) {
+                Some(behind) if wanted.is_empty() => rest = behind,
+                _ => push_failed(&mut wanted, entry)?,
+            }
+        }
+        if told.is_empty() || rest == wanted.as_slice() {
+            return Ok(());
+        }
+        Err(Differs::Found(shown(self.alloc, rest)?))
+    }
+
+    /// The moment of each act, where no line sets the clock.
+    pub fn moment(&self) -> Option<u64> {
+        if self.clock.is_empty() {
+            Some(STANDING)
+        } else {
+            None
+        }
+    }
+
+    pub fn clock(&self) -> Result<SetClock, AllocError> {
+        let mut readings = self.clock.clone()?;
+        let last = readings.pop().unwrap_or(STANDING);
+        Ok(SetClock::new(readings, last))
+    }
+
+    pub fn source(&self) -> Result<MemSource, AllocError> {
+        let source = MemSource::new(self.sent.clone()?, Vec::new(self.alloc));
+        Ok(source.at_most(self.gives.max(1)))
+    }
+}
+
+/// Adds the reply DiskFault, and behind it Halted with the entry's number.
+fn push_failed(bytes: &mut Vec<u8>, entry: u64) -> Result<(), AllocError> {
+    if bytes.is_empty() {
+        return bytes.extend_from_slice(b"\x01\0\0\0\x1a");
+    }
+    bytes.extend_from_slice(b"\x09\0\0\0\x1b")?;
+    bytes.extend_from_slice(&entry.to_le_bytes())
+}
+
+/// The frame of a command or reply, behind the word that is for readers.
+fn framed(alloc: Global, text: &str) -> Result<Vec<u8>, Differs> {
+    let (_, body) = split(text);
+    let body = bytes_of(alloc, body)?;
+    let Ok(length) = u32::try_from(body.len()) else {
+        return Err(Differs::Unread);
+    };
+    let mut frame = length.to_le_bytes().to_vec(alloc)?;
+    frame.extend_from_slice(&body)?;
+    Ok(frame)
+}

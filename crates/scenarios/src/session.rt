@@ -1,0 +1,208 @@
+//! A session is served, and what it leaves is kept for the lines behind it.
+
+use crate::differs::Differs;
+use crate::plan::Plan;
+use crate::words::{push_number, same};
+use core_opening::OpenFault;
+use disk_trait::{Disk, FailingDisk, MemoryDisk};
+use lane::Port;
+use pbs_server::{RunReport, Served, Status, serve};
+use port_traits::{FreeGate, MemSink};
+use std::alloc::{AllocError, Global};
+use std::thread::Threads;
+use store_types::Entry;
+
+/// Both disks.
+#[derive(Drop)]
+pub struct Disks {
+    pub disk: MemoryDisk,
+    pub remote: Option<MemoryDisk>,
+}
+
+/// What a disk counts: its calls before and behind a session, and its faults in it.
+#[derive(Clone, Copy)]
+pub struct Counts {
+    pub before: u64,
+    pub after: u64,
+    pub faults: u64,
+}
+
+/// What a session left, beside the disks.
+#[derive(Drop)]
+pub struct Left {
+    pub status: Status,
+    /// The status, and where not all of the input was taken, how much of it; or how opening failed.
+    pub ended: String,
+    pub order: Vec<Entry>,
+    pub report: RunReport,
+    pub told: Vec<u8>,
+    pub disk: Counts,
+    pub remote: Counts,
+}
+
+/// A disk as it reads, as one of its own.
+pub fn copy_of(alloc: Global, disk: &MemoryDisk) -> Result<MemoryDisk, AllocError> {
+    disk.crashed(alloc, 1)
+}
+
+type Failed = FailingDisk<MemoryDisk>;
+
+/// The words `run root session`.
+fn words(alloc: Global) -> Result<Vec<String>, AllocError> {
+    let mut words = Vec::new(alloc);
+    for word in ["run", "root", "session"] {
+        words.push(String::from_str(alloc, word)?)?;
+    }
+    Ok(words)
+}
+
+/// Serves it on disks that fail as they should, and gives what it told, too.
+fn serve_on<R: Threads + Sync>(
+    rt: &R,
+    alloc: Global,
+    plan: &Plan,
+    disk: Failed,
+    remote: Option<Failed>,
+) -> Result<(Served<Failed, Failed>, Vec<u8>), AllocError> {
+    let source = plan.source()?;
+    let sink = MemSink::new(alloc, Vec::new(alloc));
+    let clock = plan.clock()?;
+    let words = words(alloc)?;
+    let mut journal = MemSink::new(alloc, Vec::new(alloc));
+    let mut ports = [Port { source, sink }];
+    let served = serve(
+        rt,
+        alloc,
+        &words,
+        &mut ports,
+        disk,
+        remote,
+        clock,
+        &mut journal,
+        &FreeGate,
+    );
+    let told = ports[0].sink.as_bytes().to_vec(alloc)?;
+    Ok((served, told))
+}
+
+/// Both disks, which fail as it is planned.
+fn failing(plan: &Plan, disks: Disks) -> Result<(Failed, Option<Failed>), AllocError> {
+    let disk = match plan.stops {
+        None => FailingDisk::at_calls(disks.disk, plan.fails.clone()?),
+        Some(count) => FailingDisk::stopping_after(disks.disk, count),
+    };
+    let remote = match disks.remote {
+        None => None,
+        Some(remote) => Some(FailingDisk::at_calls(remote, plan.remote_fails.clone()?)),
+    };
+    Ok((disk, remote))
+}
+
+fn counted(before: u64, disk: &Failed) -> Counts {
+    Counts {
+        before,
+        after: disk.calls(),
+        faults: disk.faults(),
+    }
+}
+
+/// A remote's calls, and how often it was written.
+fn counts_of(remote: &Option<MemoryDisk>) -> (u64, usize) {
+    match remote {
+        Some(remote) => (remote.calls(), remote.steps().len()),
+        None => (0, 0),
+    }
+}
+
+/// A remote, and what it counted.
+fn handed_back(before: u64, remote: Option<Failed>) -> (Counts, Option<MemoryDisk>) {
+    match remote {
+        Some(remote) => (counted(before, &remote), Some(remote.into_inner())),
+        None => {
+            let none = Counts {
+                before: 0,
+                after: 0,
+                faults: 0,
+            };
+            (none, None)
+        }
+    }
+}
+
+/// How it ended, as a line `ends` says it.
+fn ended(
+    alloc: Global,
+    served: &Served<Failed, Failed>,
+    sent: usize,
+) -> Result<String, AllocError> {
+    let mut text = String::from_str(alloc, served.status.name())?;
+    if let [report] = served.report.lanes.as_slice() {
+        if report.taken != sent as u64 {
+            push_number(&mut text, report.taken)?;
+        }
+    }
+    match served.report.not_opened {
+        Some(OpenFault::NotSynced) => text.push_str(" unsynced")?,
+        Some(_) => text.push_str(" unopened")?,
+        None => {}
+    }
+    Ok(text)
+}
+
+/// Serves the session that is planned. The remote is not written.
+pub fn serve_plan<R: Threads + Sync>(
+    rt: &R,
+    alloc: Global,
+    plan: &Plan,
+    disks: Disks,
+) -> Result<(Left, Disks), Differs> {
+    let before = disks.disk.calls();
+    let (remote_before, steps) = counts_of(&disks.remote);
+    let (disk, remote) = failing(plan, disks)?;
+    let (served, told) = serve_on(rt, alloc, plan, disk, remote)?;
+    let ended = ended(alloc, &served, plan.sent.len())?;
+    let (remote_counts, remote) = handed_back(remote_before, served.remote);
+    if counts_of(&remote).1 != steps {
+        return Err(Differs::Found(String::from_str(alloc, "a write of the remote")?));
+    }
+    let left = Left {
+        status: served.status,
+        ended,
+        order: served.order,
+        report: served.report,
+        told,
+        disk: counted(before, &served.disk),
+        remote: remote_counts,
+    };
+    let disk = served.disk.into_inner();
+    Ok((left, Disks { disk, remote }))
+}
+
+impl Left {
+    /// What holds of every session: each entry is of lane 0, of this moment where it is known, and has its count of calls; as many
+    /// bytes were given as were told.
+    pub fn is_usual(&self, moment: Option<u64>) -> bool {
+        for entry in &self.order {
+            let wanted = moment.unwrap_or(entry.moment);
+            if entry.lane != 0 || entry.moment != wanted {
+                return false;
+            }
+        }
+        let given = match self.report.lanes.as_slice() {
+            [report] => report.given == self.told.len() as u64,
+            _ => true,
+        };
+        given && self.order.len() == self.report.calls.len()
+    }
+
+    /// It was served as the plan says, and ended so.
+    pub fn compare(&self, alloc: Global, plan: &Plan, ended: &str) -> Result<(), Differs> {
+        plan.compare(&self.told)?;
+        same(self.ended.clone()?, ended)?;
+        if self.is_usual(plan.moment()) {
+            return Ok(());
+        }
+        let text = String::from_str(alloc, "another lane, moment or count of calls")?;
+        Err(Differs::Found(text))
+    }
+}

@@ -1,0 +1,220 @@
+//! A datastore and the remote as a scenario goes on, line by line.
+
+use crate::bytes::bytes_of;
+use crate::checks::holds;
+use crate::differs::Differs;
+use crate::plan::Plan;
+use crate::session::{Disks, Left, copy_of, serve_plan};
+use crate::stops::{Found, Sweep};
+use crate::words::{number_of, split};
+use disk_trait::{Disk, MemoryDisk};
+use std::alloc::{AllocError, Global};
+use std::mem;
+use std::thread::Threads;
+
+/// Disks that scenarios left for later ones, by name.
+pub type Kept = Vec<(String, MemoryDisk)>;
+
+/// What stands, and what is planned. Lines speak of one disk, the datastore's at first.
+#[derive(Drop)]
+pub struct Stage {
+    pub alloc: Global,
+    /// The scenario's name.
+    pub name: String,
+    pub disk: MemoryDisk,
+    /// The other disk: the remote's, where there is one, or the datastore's, while lines speak of the remote's.
+    pub other: Option<MemoryDisk>,
+    is_there: bool,
+    plan: Plan,
+    /// What may be found behind it, where its disk stops. Lines speak of the last of them.
+    sweep: Sweep,
+    /// What the last session left.
+    left: Option<Left>,
+}
+
+/// A file's name, which may have any letters.
+pub fn name_of(alloc: Global, text: &str) -> Result<String, Differs> {
+    match String::from_utf8(bytes_of(alloc, text)?) {
+        Ok(name) => Ok(name),
+        Err(_) => Err(Differs::Unread),
+    }
+}
+
+impl Stage {
+    /// An empty datastore without a remote.
+    pub fn new(alloc: Global, name: &str) -> Result<Stage, AllocError> {
+        Ok(Stage {
+            alloc,
+            name: String::from_str(alloc, name)?,
+            disk: MemoryDisk::new(alloc),
+            other: None,
+            is_there: false,
+            plan: Plan::new(alloc),
+            sweep: Sweep::new(alloc),
+            left: None,
+        })
+    }
+
+    /// Does what a line says, or tests it.
+    pub fn obey<R: Threads + Sync>(
+        &mut self,
+        rt: &R,
+        kept: &mut Kept,
+        number: usize,
+        line: &str,
+    ) -> Result<(), Differs> {
+        let (word, rest) = split(line);
+        match word.as_bytes() {
+            b"ends" => self.serve(rt, rest),
+            b"sweep" => self.sweep(rt, number_of(rest)?),
+            _ => self.prepare(kept, number, word, rest),
+        }
+    }
+
+    /// Does what a line says of the disks.
+    fn prepare(
+        &mut self,
+        kept: &mut Kept,
+        number: usize,
+        word: &str,
+        rest: &str,
+    ) -> Result<(), Differs> {
+        match word.as_bytes() {
+            b"put" => self.put(rest),
+            b"gone" => self.remove(rest),
+            b"there" => self.turn(true),
+            b"here" => self.turn(false),
+            b"crash" => self.crash(rest),
+            b"keep" => self.keep(kept, rest),
+            b"from" => self.begin(kept, rest),
+            b"found" => self.find(rest),
+            b"name" => self.add_name(rest),
+            b"whole" => self.leave(rest),
+            _ => self.plan_or_test(number, word, rest),
+        }
+    }
+
+    fn plan_or_test(&mut self, number: usize, word: &str, rest: &str) -> Result<(), Differs> {
+        if self.next_plan().obey(number, word, rest)? {
+            return Ok(());
+        }
+        let Some(left) = self.left.take() else {
+            return Err(Differs::Unread);
+        };
+        let ended = holds(self, &left, word, rest);
+        self.left = Some(left);
+        ended
+    }
+
+    /// The session that lines speak of.
+    fn next_plan(&mut self) -> &mut Plan {
+        match self.sweep.founds.last_mut() {
+            Some(found) => &mut found.plan,
+            None => &mut self.plan,
+        }
+    }
+
+    fn put(&mut self, text: &str) -> Result<(), Differs> {
+        let (name, bytes) = split(text);
+        let name = name_of(self.alloc, name)?;
+        let bytes = bytes_of(self.alloc, bytes)?;
+        if name.len() > 255 {
+            return Err(Differs::Unread);
+        }
+        self.disk.put(self.alloc, name.as_str(), &bytes)?;
+        Ok(())
+    }
+
+    fn remove(&mut self, text: &str) -> Result<(), Differs> {
+        let name = name_of(self.alloc, text)?;
+        if self.disk.remove(name.as_str())? {
+            return Ok(());
+        }
+        Err(Differs::Unread)
+    }
+
+    /// Lines speak of the remote from here on, or of the datastore.
+    fn turn(&mut self, is_there: bool) -> Result<(), Differs> {
+        if self.is_there == is_there {
+            return Err(Differs::Unread);
+        }
+        let other = self.other.take().unwrap_or(MemoryDisk::new(self.alloc));
+        self.other = Some(mem::replace(&mut self.disk, other));
+        self.is_there = is_there;
+        Ok(())
+    }
+
+    fn crash(&mut self, text: &str) -> Result<(), Differs> {
+        let Ok(choice) = u8::try_from(number_of(text)?) else {
+            return Err(Differs::Unread);
+        };
+        self.disk = self.disk.crashed(self.alloc, choice)?;
+        Ok(())
+    }
+
+    fn keep(&self, kept: &mut Kept, name: &str) -> Result<(), Differs> {
+        let name = String::from_str(self.alloc, name)?;
+        kept.push((name, copy_of(self.alloc, &self.disk)?))?;
+        Ok(())
+    }
+
+    fn begin(&mut self, kept: &Kept, name: &str) -> Result<(), Differs> {
+        for (known, disk) in kept {
+            if known.as_str() == name {
+                self.disk = copy_of(self.alloc, disk)?;
+                return Ok(());
+            }
+        }
+        Err(Differs::Unread)
+    }
+
+    fn find(&mut self, text: &str) -> Result<(), Differs> {
+        self.sweep.founds.push(Found::new(self.alloc, text)?)?;
+        Ok(())
+    }
+
+    fn add_name(&mut self, text: &str) -> Result<(), Differs> {
+        let name = String::from_str(self.alloc, text)?;
+        match self.sweep.founds.last_mut() {
+            Some(found) => found.names.push(name)?,
+            None => return Err(Differs::Unread),
+        }
+        Ok(())
+    }
+
+    /// A crash may leave this file, of this size.
+    fn leave(&mut self, text: &str) -> Result<(), Differs> {
+        let (name, size) = split(text);
+        let name = name_of(self.alloc, name)?;
+        self.sweep.whole.push((name, number_of(size)?))?;
+        Ok(())
+    }
+
+    /// Stops the session that is planned at each of its calls.
+    fn sweep<R: Threads + Sync>(&mut self, rt: &R, calls: u64) -> Result<(), Differs> {
+        let alloc = self.alloc;
+        let mut plan = mem::replace(&mut self.plan, Plan::new(alloc));
+        let sweep = mem::replace(&mut self.sweep, Sweep::new(alloc));
+        let disk = copy_of(alloc, &self.disk)?;
+        let remote = self.other.take();
+        sweep.try_calls(rt, alloc, &mut plan, &Disks { disk, remote }, calls)
+    }
+
+    /// Serves the session that is planned: on the datastore beside the remote, if any; on the remote alone.
+    fn serve<R: Threads + Sync>(&mut self, rt: &R, ended: &str) -> Result<(), Differs> {
+        let plan = mem::replace(&mut self.plan, Plan::new(self.alloc));
+        let disk = mem::replace(&mut self.disk, MemoryDisk::new(self.alloc));
+        let other = self.other.take();
+        let (remote, beside) = if self.is_there {
+            (None, other)
+        } else {
+            (other, None)
+        };
+        let (left, disks) = serve_plan(rt, self.alloc, &plan, Disks { disk, remote })?;
+        self.disk = disks.disk;
+        self.other = disks.remote.or(beside);
+        left.compare(self.alloc, &plan, ended)?;
+        self.left = Some(left);
+        Ok(())
+    }
+}

@@ -1,0 +1,215 @@
+"""Scenarios as the program `scenarios` reads them, from the words of `examples/session.py`. docs/SCENARIOS.md has the form."""
+import re, session
+
+COMMANDS = (
+    "OPEN_WRITER PREVIOUS NEW_FIXED NEW_DYNAMIC CHUNK APPEND CLOSE_INDEX BLOB FINISH ABORT OPEN_READER DOWNLOAD GET_CHUNK RANGE "
+    "CLOSE_READER LIST FILES FORGET PRUNE VERIFY SYNC GC GROUP BYE"
+)
+WORDS = {getattr(session, name): name for name in COMMANDS.split()}
+# One byte, or 32 of them, a dozen times or more.
+REPEATED = re.compile(rb"(.)\1{11,}|(.{32})\2{11,}", re.S)
+
+
+def plainly(data):
+    """Letters and signs as they are, others by two digits behind a backslash."""
+    return "".join(chr(it) if 32 < it < 127 and it != 92 else f"\\{it:02x}" for it in data)
+
+
+def spelled(data):
+    """Bytes so, and what is repeated by its count and digits in braces."""
+    out, at = [], 0
+    for run in REPEATED.finditer(data):
+        group = run.group(1) or run.group(2)
+        out += [plainly(data[at : run.start()]), f"\\{{{len(run.group()) // len(group)} {group.hex()}}}"]
+        at = run.end()
+    return "".join(out) + plainly(data[at:])
+
+
+def command_word(body):
+    return WORDS.get(body[0], "unknown") if body else "empty"
+
+
+def reply_word(body):
+    return session.REFUSALS.get(body[0], "Ok")
+
+
+# Lines. Each of these gives a list of them.
+
+
+def place(name, data):
+    return [f"put {plainly(name.encode())} {spelled(data)}".rstrip()]
+
+
+def gone(name):
+    return [f"gone {name}"]
+
+
+def change(name, data):
+    """A file gets these bytes, or goes."""
+    return gone(name) if data is None else place(name, data)
+
+
+def there(*lines):
+    """These lines speak of the remote."""
+    return ["there", *flat(lines), "here"]
+
+
+def start_from(name):
+    return [f"from {name}"]
+
+
+def keep(name):
+    return [f"keep {name}"]
+
+
+def asked(command):
+    return [f"> {command_word(command)} {spelled(command)}"]
+
+
+def turn(command, reply):
+    return asked(command) + told(reply)
+
+
+def sent(turns):
+    return flat(turn(command, reply) for command, reply in turns)
+
+
+def talk(turns, status="Ok"):
+    """A session of these commands and replies, which ends so."""
+    return sent(turns) + [f"ends {status}"]
+
+
+def raw(data):
+    """Bytes that are sent as they are."""
+    return [f">> {spelled(data)}"]
+
+
+def told(reply):
+    return [f"< {reply_word(reply)} {spelled(reply)}"]
+
+
+def ends(status, taken, sent):
+    """It ends so, once so many bytes of those that were sent are taken."""
+    return [f"ends {status}" if taken == sent else f"ends {status} {taken}"]
+
+
+def not_opened(cause):
+    """Opening fails: the first sync (`unsynced`), or another call (`unopened`)."""
+    return [f"ends DiskFault {cause}"]
+
+
+def placed(place):
+    """No command stands there."""
+    return [f"place {place}"]
+
+
+def found(since, until, turns, names):
+    """Behind so many acts that were done, and up to so many, a later session is told this, and these files stand beside chunks."""
+    return [f"found {since} {until}", *sent(turns), *(f"name {name}" for name in names)]
+
+
+def whole(files):
+    """A crash leaves these files, by name and size, and else temporary ones."""
+    return [f"whole {name} {size}" for name, size in files]
+
+
+def sweep(calls):
+    """The session's disk fails at each of so many calls, and stops before each."""
+    return [f"sweep {calls}"]
+
+
+def kinds(*numbers):
+    return ["kinds " + " ".join(map(str, numbers))]
+
+
+def entries(count):
+    return [f"entries {count}"]
+
+
+def made(count):
+    """How many calls the disk has had."""
+    return [f"made {count}"]
+
+
+def remote_made(count):
+    return [f"remote-made {count}"]
+
+
+def faults(count):
+    """How often the disk failed."""
+    return [f"faults {count}"]
+
+
+def remote_faults(count):
+    return [f"remote-faults {count}"]
+
+
+def gives(count):
+    return [f"gives {count}"]
+
+
+def same():
+    return ["same"]
+
+
+def clock(*readings):
+    return ["clock " + " ".join(map(str, readings))]
+
+
+def fails(*numbers):
+    """Calls of the disk with these numbers, from 0."""
+    return ["fails " + " ".join(map(str, numbers))]
+
+
+def remote_fails(*numbers):
+    return ["remote-fails " + " ".join(map(str, numbers))]
+
+
+def stops(count):
+    """So does every call of the disk behind so many."""
+    return [f"stops {count}"]
+
+
+def crash(choice):
+    return [f"crash {choice}"]
+
+
+def saved(is_saved=True):
+    return ["saved yes" if is_saved else "saved no"]
+
+
+def calls(*counts):
+    return ["calls " + " ".join(map(str, counts))]
+
+
+def writes(letters):
+    return [f"writes {letters}"]
+
+
+def bytes_at(name, data):
+    return [f"bytes {name} {spelled(data)}"]
+
+
+def files_there(files):
+    """These files stand, by name and size."""
+    return [f"file {plainly(name.encode())} {size}" for name, size in files]
+
+
+def files_left(files):
+    """These files stand, by name and size, and no other but the book."""
+    return files_there(files) + [f"files {len(files)}"]
+
+
+def flat(parts):
+    return [line for part in parts for line in part]
+
+
+def scenario(name, *parts):
+    return [f"= {name}", *flat(parts), ""]
+
+
+def text_of(module):
+    """The file of a module's scenarios, behind what its first line says."""
+    says = [f"# {line}" for line in module.__doc__.strip().split("\n")]
+    head = [*says, "# Written by tests/make-tables from tests/scenarios. docs/SCENARIOS.md has the form.", ""]
+    return "\n".join(head + flat(module.SCENARIOS))

@@ -1,0 +1,204 @@
+"""Folders as earlier runs left them, or with other files, opened again: what is told of them, what stays, and how an opening fails."""
+from scenarios.archives import OVER
+from scenarios.backups import *
+
+NO_SESSION, IN_WRITER = wrong_state(0), wrong_state(1)
+A_THIRD = "host/a/2020-01-15T06:30:05Z"
+A_CONF, A_ROOT, LATER_PLAIN = f"{A}/a.conf.blob", f"{A}/root.didx", f"{A_LATER}/{MANIFEST}"
+CONF = blob(b"123456789")
+ROOT_LISTED = blob(manifest(A, listed("root.didx", 5, BOTH_CSUM)))
+GET_ABC = get_chunk(sha256(b"abc"))
+ONE_DAMAGED = rows((A, None))
+
+# A second run lists what the first finished, restores it, and takes no snapshot of the same second.
+FILES_FOUND = file_rows(("a.conf.blob", 21, sha256(CONF)), (MANIFEST, 344, sha256(blob(manifest(A, *BOTH_LISTED)))), ("root.didx", 5, BOTH_CSUM))
+FOUND = [
+    (LIST, rows((A, 3))),
+    (GROUP, keys(A)),
+    (files(A), FILES_FOUND),
+    (open_writer(A), not_newer(A)),
+    (open_reader(A), DONE),
+    (download("a.conf.blob"), part(CONF)),
+    (GET_ABC, not_allowed()),
+    FROM_END,
+    (GET_ABC, rest(blob(b"abc"))),
+    ALL_FIVE,
+    (close_reader(), DONE),
+]
+# It backs up over the first and forgets that; a third run restores the second's.
+FORGOTTEN = [(LIST, rows((A, 3), (A_LATER, 2))), (forget(A), DONE), (LIST, rows((A_LATER, 2)))]
+LEFT = [(LIST, rows((A_LATER, 2))), (open_reader(A), no_snapshot()), (open_reader(A_LATER), DONE), FROM_END, ALL_FIVE]
+LATER_LEFT = [(DE, 14), (ABC, 15), (LATER_PLAIN, 213), (f"{A_LATER}/root.didx", 4176)]
+
+# The snapshot is damaged: it is told so, it is no base, its second counts, and it can be forgotten.
+MANIFEST_DAMAGED = [
+    (LIST, ONE_DAMAGED),
+    (GROUP, keys(A)),
+    (files(A), unreadable(PLAIN)),
+    (open_reader(A), unreadable(PLAIN)),
+    (GET_ABC, NO_SESSION),
+    (open_writer(A), not_newer(A)),
+    (open_writer(A_LATER), base()),
+    (open_reader(A), IN_WRITER),
+    (abort(), DONE),
+    (forget(A), DONE),
+    (LIST, rows()),
+    (open_reader(A), no_snapshot()),
+]
+FILE_MISSING = [
+    (LIST, ONE_DAMAGED),
+    (files(A), unreadable(A_CONF)),
+    (open_reader(A), unreadable(A_CONF)),
+    (open_writer(A_LATER), base()),
+    (abort(), DONE),
+    (forget(A), DONE),
+    (LIST, rows()),
+]
+# No index is read at opening: the snapshot is whole as far as that tells.
+INDEX_DAMAGED = [
+    (LIST, rows((A, 2))),
+    (open_reader(A), DONE),
+    (download("root.didx"), unreadable(A_ROOT)),
+    (ALL_FIVE[0], not_allowed()),
+    (close_reader(), DONE),
+    (open_writer(A_LATER), base(A)),
+    (previous("root.didx"), unreadable(A_ROOT)),
+    (abort(), DONE),
+    (forget(A), DONE),
+]
+# The newer of two is damaged: the next must be later, and is over the older.
+NEWER_DAMAGED = [
+    (LIST, rows((A, 1), (A_LATER, None))),
+    (GROUP, keys(A, A_LATER)),
+    (open_writer(A_LATER), not_newer(A_LATER)),
+    (open_writer(A_THIRD), base(A)),
+    (abort(), DONE),
+    (prune("host/a", last=1), marks((A_LATER, 1), (A, 0))),
+    (open_writer(A_THIRD), base()),
+    (abort(), DONE),
+    (forget(A_LATER), DONE),
+    (open_writer(A), base()),
+]
+
+# What stands in a folder before a run, the run, and what stands there then.
+FOLDERS = [
+    # what the manifest may have listed stays until the next opening
+    ("the manifest is none", [(A_CONF, CONF), (PLAIN, b"abc")], MANIFEST_DAMAGED, [(A_CONF, 21)]),
+    # those that are there go, and one that is not listed stays until the next opening
+    (
+        "a listed file is missing",
+        [(f"{A}/b.blob", CONF), (PLAIN, blob(manifest(A, *BOTH_LISTED))), (A_ROOT, b"abc")],
+        FILE_MISSING,
+        [(f"{A}/b.blob", 21)],
+    ),
+    ("the index is none", [(PLAIN, ROOT_LISTED), (A_ROOT, b"abc")], INDEX_DAMAGED, []),
+    ("the newer manifest is none", [plain(A), (LATER_PLAIN, b"abc")], NEWER_DAMAGED, []),
+    (
+        "a snapshot that was not finished",
+        [(ABC, b"abc"), (A_CONF, CONF), (f"{PLAIN}.tmp", blob(manifest(A))), (A_ROOT, b"abc")],
+        [(LIST, rows()), (open_reader(A), no_snapshot()), (open_writer(A), base())],
+        [(ABC, 3)],
+    ),
+]
+# Names of other forms stay, but for those with `.tmp`; a book that is none is written over.
+OTHER_NAMES = [
+    ".chunks/ba78/ba78",
+    ".chunks/other/names/abc",
+    f"{A}/notes.txt",
+    f"{A}/x/{MANIFEST}",
+    "host/a/notes.blob",
+    "notes.txt",
+]
+GOING = [".chunks/959a.tmp", ".chunks/book", "notes.tmp"]
+# A manifest that lists more than 63 files makes its snapshot damaged. It is forgotten with all of them.
+MANY = [f"x{number}.blob" for number in range(10, 74)]
+MANY_LISTED = blob(manifest(A, *(listed(it, 12, sha256(blob(b""))) for it in MANY)))
+# Names of 255 bytes: what they begin and end with, with `x` between, and whether they stay.
+LONG = [
+    ("", "", True),
+    ("", ".tmp", False),
+    (".chunks/", "", True),
+    (".chunks/ba78/", ".tmp", False),
+    (f"{A}/", ".blob", True),
+    (f"{A}/", ".blob.tmp", False),
+    ("host/", f"/2020-01-15T06:30:03Z/{MANIFEST}", True),
+    ("host/", f"/2020-01-15T06:30:03Z/{MANIFEST}.tmp", False),
+]
+
+# A snapshot, what is left of another, and a temporary file.
+OPENED = [(PLAIN, ROOT_LISTED), (A_ROOT, b"abc"), (f"{A_LATER}/a.conf.blob", CONF), ("notes.tmp", b"abc")]
+OPENED_SIZES = [(name, len(data)) for name, data in OPENED]
+# Which of them stand once its disk has failed that call of opening: sync, a list of all names, two removals, the manifest's size, the
+# manifest, the size of the file that it lists, and the book's. The book is then saved by three.
+STANDING = [4, 4, 4, 3, 2, 2, 2, 2]
+OPEN_CALLS = len(STANDING)
+
+
+def folder(name, before, turns, left):
+    return scenario(name, flat(place(*it) for it in before), talk(turns), files_left(left))
+
+
+def long_name(front, end, stays):
+    name = front + "x" * (255 - len(front) - len(end)) + end
+    left = [(name, 3)] if stays else []
+    return folder(f"a name of 255 bytes: {front}x..{end}", [(name, b"abc")], [(LIST, rows())], left)
+
+
+def failed_opening(call, count, line):
+    """No command is read."""
+    return scenario(
+        f"an opening fails: {line[0]}",
+        flat(place(*it) for it in OPENED),
+        crash(1),
+        line,
+        asked(LIST),
+        not_opened("unopened" if call else "unsynced"),
+        entries(0),
+        faults(1),
+        files_left([*OPENED_SIZES[:2], *OPENED_SIZES[2:][4 - count :]]),
+    )
+
+
+SCENARIOS = [
+    scenario(
+        "later runs go on",
+        talk([*ROOT_SENT, *FIRST_RUN]),
+        talk([*FOUND, *OVER, *FORGOTTEN]),
+        talk(LEFT),
+        files_left(LATER_LEFT),
+    ),
+    *(folder(*it) for it in FOLDERS),
+    folder(
+        "names of other forms",
+        sorted((it, b"a") for it in OTHER_NAMES + GOING),
+        [(LIST, rows()), (GROUP, NONE_THERE)],
+        [(it, 1) for it in OTHER_NAMES],
+    ),
+    folder(
+        "a manifest that lists 64 files",
+        [(PLAIN, MANY_LISTED), *((f"{A}/{it}", b"abc") for it in MANY)],
+        MANIFEST_DAMAGED,
+        [],
+    ),
+    *(long_name(*it) for it in LONG),
+    *(
+        failed_opening(call, count, line)
+        for call, count in enumerate(STANDING)
+        for line in (fails(call), stops(call))
+    ),
+    scenario(
+        "an opening is stopped",
+        flat(place(*it) for it in OPENED),
+        crash(1),
+        sent([(LIST, rows((A, 2)))]),
+        found(0, 99, INDEX_DAMAGED, []),
+        sweep(OPEN_CALLS + 3),
+    ),
+    scenario(
+        "its writing calls",
+        flat(place(*it) for it in OPENED),
+        ends("Ok", 0, 0),
+        writes("sdd psr"),
+        made(OPEN_CALLS + 3),
+    ),
+]
