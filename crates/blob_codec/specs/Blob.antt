@@ -23,6 +23,10 @@ encrypted_compressed_magic = 230 ∷ 89 ∷ 27 ∷ 191 ∷ 11 ∷ 191 ∷ 216 �
 abbrev pub data_limit : ℕ
 data_limit = 16_777_216
 
+-- the most bytes of a blob: its header and the most data
+abbrev pub blob_limit : ℕ
+blob_limit = 16_777_228
+
 -- the bytes of the blob of these data
 unfoldable pub blob : List ℕ → List ℕ
 blob bytes = magic ++ to_le_bytes w32 (crc bytes) ++ bytes

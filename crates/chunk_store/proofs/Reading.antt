@@ -5,14 +5,14 @@ use Rattle.std.specs.FinMap.{get}
 use Rattle.std.proofs.lemmas.Bool.{ltb-true, lt-ltb, le-ltb}
 use Rattle.sha2.specs.Sha256.{sha256}
 use Rattle.disk_trait.specs.Files.{Files}
-use Rattle.blob_codec.specs.Blob.{blob, data_of}
+use Rattle.blob_codec.specs.Blob.{blob, data_of, blob_limit}
 use Rattle.blob_codec.proofs.Reading.{HasParts-from_data_of}
 use Rattle.store_types.specs.declared.names.Digest32.{Digest32}
 use Rattle.store_types.specs.declared.refusal.BadBlob.{BadBlob}
 use Rattle.store_types.specs.declared.refusal.ChunkFault.{ChunkFault}
 use Rattle.store_types.specs.declared.refusal.ChunkFault.TheVariants.{Nothing, NotABlob}
 use Rattle.store_files.specs.Folder.{chunk_name}
-use Rattle.chunk_store.specs.Faults.{IsDamageAsked, IsNotDamaged, bytes_in, blob_limit}
+use Rattle.chunk_store.specs.Faults.{IsDamageAsked, IsNotDamaged, bytes_in}
 use Rattle.chunk_store.specs.Pieces.{IsHeld, by_data, found_at, found_in, piece_in}
 use Rattle.chunk_store.specs.declared.chunk.LoadFault.{LoadFault}
 use Rattle.chunk_store.specs.declared.chunk.LoadFault.TheVariants.{Damaged, Failed, NoMemory}

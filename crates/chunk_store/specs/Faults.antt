@@ -10,6 +10,7 @@ use Rattle.disk_trait.specs.declared.disk.DiskError.TheVariants as disk
 use Rattle.store_types.specs.declared.names.Digest32.{Digest32}
 use Rattle.store_types.specs.declared.refusal.ChunkFault.{ChunkFault}
 use Rattle.store_types.specs.declared.refusal.ChunkFault.TheVariants.{Nothing, NotABlob}
+use Rattle.blob_codec.specs.Blob.{blob_limit}
 use Rattle.store_files.specs.Folder.{chunk_name}
 use Rattle.chunk_store.specs.Pieces.{found_at, IsHeld}
 use Rattle.chunk_store.specs.declared.chunk.LoadFault.{LoadFault}
@@ -36,10 +37,6 @@ TellsDamage d disk digest result = d.honest disk → IfErr result (λ e. (asked 
 -- the chunk is the piece with this digest
 abbrev pub LoadsPiece : {D E : Type 0} → Ghosts D → D → List ℕ → Result (List ℕ) E → Type 0
 LoadsPiece d disk digest result = d.honest disk → IfOk result (λ chunk. found_at (d.content disk) digest ≡ Ok chunk)
-
--- the most bytes that the blob of a piece has: its header and 16,777,216
-abbrev pub blob_limit : ℕ
-blob_limit = 16_777_228
 
 -- the bytes of a chunk's file, or why it is not read: nothing is there, or it is too long for a blob
 unfoldable pub bytes_in : Option (List ℕ) → Result (List ℕ) ChunkFault

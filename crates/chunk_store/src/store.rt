@@ -4,7 +4,7 @@ ghost use Rattle.std.specs.Prelude.{◌≡◌, ◌≤◌, ◌⊎◌, length, IfO
 ghost use Rattle.sha2.specs.Sha256.{sha256};
 ghost use Rattle.disk_trait.specs.Disk.{Serves, Ticks, MayGo};
 ghost use Rattle.disk_trait.specs.Effects.{OnlyReads, StepsOn, KeepsFiles, DiskTells, DiskDrops, DiskNoneKeeps};
-ghost use Rattle.blob_codec.specs.Blob.{blob as blob_of};
+ghost use Rattle.blob_codec.specs.Blob.{blob as blob_of, blob_limit};
 ghost use Rattle.store_files.specs.Folder.{IsPiece, chunk_name};
 ghost use Rattle.chunk_store.specs.declared.chunk.LoadFault.TheVariants.{Damaged};
 ghost use Rattle.chunk_store.specs.Faults.{CallsBySize, IsDamageAsked, LoadsHeld, LoadsPiece, ReadsBytes, TellsDamage};
@@ -12,14 +12,14 @@ ghost use Rattle.chunk_store.specs.Pieces.{IsChunk, KeepsPresent, OkAdds, OkAdds
 
 use crate::chunk::{Chunk, LoadFault, check};
 use crate::name::ChunkName;
-use blob_codec::encode;
+use blob_codec::{DATA_LIMIT, HEADER_SIZE, encode};
 use disk_trait::{Disk, DiskError, Failed};
 use file_install::install;
 use std::alloc::Global;
 use store_types::{ChunkFault, Digest32};
 
 /// The most bytes that the blob of a piece has.
-const BLOB_LIMIT: u64 = 16_777_228;
+const BLOB_LIMIT: u64 = (HEADER_SIZE + DATA_LIMIT) as u64;
 
 /// Installs a piece's blob under its digest. Where a file is there, nothing is written, whatever it holds.
 ///
@@ -88,7 +88,7 @@ pub fn read<D: Disk>(disk: &mut D, alloc: Global, digest: &Digest32) -> Result<V
     ensures calls { CallsBySize D.Disk disk.old disk.new digest.now result }
     ensures bytes { ReadsBytes D.Disk disk.old digest.now result }
     // on any disk
-    ensures size { IfOk result (λ bytes. length bytes.items ≤ 16_777_228) }
+    ensures size { IfOk result (λ bytes. length bytes.items ≤ blob_limit) }
     ensures asked { IfErr result (IsDamageAsked digest.now) }
 {
     let name = ChunkName::of(digest);

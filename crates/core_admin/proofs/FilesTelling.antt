@@ -207,9 +207,9 @@ called P k stop is = refused_as (λ r. r ≡ Unreadable (manifest_path k.key)) (
 
 -- ---- the act
 
-module _ {D : Type 0} (d : Ghosts D) (old : Parts D) (s : Store) (lane moment : ℕ) (text : List ℕ) (k : Kept) (h : Holds d old s) (is : named_kept text old.catalogue.items ≡ Ok k) where
+module _ {D : Type 0} (d : Ghosts D) (old : Parts D) (s : Store) (lane moment : ℕ) (text : List ℕ) (k : Kept) (h : Holds d old s) (is : named_kept text old.catalogue.listed ≡ Ok k) where
   files_step : HasBytes (d.content old.disk) (manifest_path k.key) → outcome s lane moment (FilesOf text) ≡ (rows_read (d.content old.disk) k >>= λ rows. tells s (Files rows))
-  files_step are = files_read s lane moment text old.catalogue.items (h.shows).catalogue (d.content old.disk) k ((h.files).snapshots).each ((h.files).snapshots).files is are
+  files_step are = files_read s lane moment text old.catalogue.listed (h.shows).catalogue (d.content old.disk) k ((h.files).snapshots).each ((h.files).snapshots).files is are
 
   pub files_stop : (stop : Stop) → IfTold {A = List FileRow} (Err stop) (HasBytes (d.content old.disk) (manifest_path k.key)) → Gives (λ rows. rows) (Err stop) (rows_read (d.content old.disk) k)
       → IfRefused (λ refusal. outcome s lane moment (FilesOf text) ≡ Err refusal) stop

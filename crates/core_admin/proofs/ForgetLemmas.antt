@@ -1,8 +1,6 @@
 -- What a FORGET answers, and what it leaves, by what was found.
-use Rattle.std.proofs.Common.{◌≡◌, ◌<◌, ◌^◌, ℕ, Bool, true, false, cond, map, List, [], ◌∷◌, Some, None, Result, Ok, Err, IsErrOf, IsErrAnd, inl, inr, refl, sym, ap, subst, ◌∙◌, arith}
-use Rattle.std.proofs.lemmas.Bool.{and_parts, and_from}
+use Rattle.std.proofs.Common.{◌≡◌, ◌<◌, ◌^◌, ℕ, true, false, map, List, [], ◌∷◌, Some, None, Result, Ok, Err, IsErrOf, IsErrAnd, inl, inr, refl, sym, ap, subst, ◌∙◌, arith}
 use Rattle.std.specs.FinMap.{get, remove}
-use Rattle.std.specs.List.{filter, list_all}
 use Rattle.std.specs.Result.{result_ok}
 use Rattle.sha2.specs.Sha256.{sha256}
 use Rattle.disk_trait.specs.Disk.{Serves, Steps, Same, Now, After}
@@ -52,14 +50,6 @@ pub snapshot_busy_has_text : (lane : ℕ) → lane < 2 ^ 32 → ReplyHasText (Re
 unfolding reply_text refusal_text
 snapshot_busy_has_text lane lt = (lt, omega arith)
 
-pub list_all-filter : {A : Type 0} (p q : A → Bool) (xs : List A) → list_all p xs ≡ true → list_all p (filter q xs) ≡ true
-list_all-filter p q [] h = refl
-list_all-filter p q (x ∷ xs) h = let both = and_parts (p x) (list_all p xs) h in by_test (q x) both.0 (list_all-filter p q xs both.1)
-  where
-    by_test : (b : Bool) → p x ≡ true → list_all p (filter q xs) ≡ true → list_all p (cond b (x ∷ filter q xs) (filter q xs)) ≡ true
-    by_test true first rest = and_from (p x) (list_all p (filter q xs)) first rest
-    by_test false first rest = rest
-
 -- ---- what is told
 
 abbrev done_of : Result SnapshotKey Refusal → Result Reply Refusal
@@ -93,7 +83,7 @@ never : false ≡ true → ⊥
 never e = cc
 
 module _ {D : Type 0} (d : Ghosts D) (old new : Parts D) (at : Place) (text : List ℕ) (key : SnapshotKey) (k : Kept) (names : List (List ℕ))
-    (named : key_of text ≡ Some key) (there : kept_named key old.catalogue.items ≡ Some k) (names_are : names ≡ names_beside k.files) where
+    (named : key_of text ≡ Some key) (there : kept_named key old.catalogue.listed ≡ Some k) (names_are : names ≡ names_beside k.files) where
   abbrev paths : List (List ℕ)
   paths = map (file_path key) names
 
@@ -102,28 +92,28 @@ module _ {D : Type 0} (d : Ghosts D) (old new : Parts D) (at : Place) (text : Li
 
   change_is : change_at old at.lane act ≡ forgets (manifest_path key) paths
   change_is =
-      ap (λ r. forgotten (result_ok r)) (named_is text old.catalogue.items key k named there)
-      ∙ ap (λ (q : SnapshotKey). forgets (manifest_path q) (map (file_path q) (names_beside k.files))) (kept_key old.catalogue.items key k there)
+      ap (λ r. forgotten (result_ok r)) (named_is text old.catalogue.listed key k named there)
+      ∙ ap (λ (q : SnapshotKey). forgets (manifest_path q) (map (file_path q) (names_beside k.files))) (kept_key old.catalogue.listed key k there)
       ∙ ap (λ (ns : List (List ℕ)). forgets (manifest_path key) (map (file_path key) ns)) (sym names_are)
 
   goes : Steps d.calls d.images old.disk new.disk (Forgets (manifest_path key) paths) → LeavesChange d old.disk new.disk (change_at old at.lane act)
   goes first = inr (subst (λ (change : Change). Steps d.calls d.images old.disk new.disk (MayLeave change (d.content old.disk))) (sym change_is) first)
 
   -- done: just its files are gone, its manifest first and for good
-  pub done_leaves : new.catalogue.items ≡ without_listed key old.catalogue.items → new.sessions.items ≡ old.sessions.items → new.locks ≡ old.locks
+  pub done_leaves : new.catalogue.listed ≡ without_listed key old.catalogue.listed → new.sessions.items ≡ old.sessions.items → new.locks ≡ old.locks
       → (d.honest old.disk → d.content new.disk ≡ without (manifest_path key ∷ paths) (d.content old.disk))
       → Steps d.calls d.images old.disk new.disk (Forgets (manifest_path key) paths)
       → Now d.calls d.images new.disk (After d.calls d.images old.disk (ForgetsFirm (d.content old.disk) (manifest_path key) paths))
       → ActLeaves d old new at act (Ok Done)
   done_leaves c l locks gone first firm =
       writes_leaves d old new at act Done tt refl (λ h. gone h ∙ sym (ap (λ (change : Change). after change (d.content old.disk)) change_is)) (goes first)
-      (subst (λ (change : Change). IsFirm d old.disk new.disk change) (sym change_is) firm) (c ∙ sym (ap (λ o. without_named o old.catalogue.items) named)) (λ _. (l, locks))
+      (subst (λ (change : Change). IsFirm d old.disk new.disk change) (sym change_is) firm) (c ∙ sym (ap (λ o. without_named o old.catalogue.listed) named)) (λ _. (l, locks))
       (λ s h p held. inl (stood_before (manifest_path key ∷ paths) (d.content old.disk) (chunk_name (sha256 p)) _ (sym (ap (λ m. get m (chunk_name (sha256 p))) (gone h.honest)) ∙ held)))
       (λ e. absurd (never e)) (λ e. absurd (never e))
 
-  pub done_does : (failed : Type 0) → Serves d.honest d.faults old.disk new.disk failed → at.lane < 64 → to_forget text (session_at old at.lane) old.catalogue.items old.locks ≡ Ok key
+  pub done_does : (failed : Type 0) → Serves d.honest d.faults old.disk new.disk failed → at.lane < 64 → to_forget text (session_at old at.lane) old.catalogue.listed old.locks ≡ Ok key
       → least_sharer old.locks key ≡ None → IsKey key → (d.honest old.disk → d.content new.disk ≡ without (manifest_path key ∷ paths) (d.content old.disk))
-      → new.catalogue.items ≡ without_listed key old.catalogue.items → new.sessions.items ≡ old.sessions.items → new.locks ≡ old.locks
+      → new.catalogue.listed ≡ without_listed key old.catalogue.listed → new.sessions.items ≡ old.sessions.items → new.locks ≡ old.locks
       → ActDoes d old new at act (Ok Done)
   done_does failed serves lt told free is gone c l locks =
       writes_does d old new at act Done failed serves done_has_text refl tt
@@ -132,7 +122,7 @@ module _ {D : Type 0} (d : Ghosts D) (old new : Parts D) (at : Place) (text : Li
 
   -- its files were not removed: want of memory comes before the first call that changes the disk
   pub undone_leaves : {A : Type 0} (removed : Result A DiskError) (e : DiskError) (result : Result Reply Stop) → IsErrAnd result (λ x. x ≡ stop_of e) → removed ≡ Err e → SameKept old new
-      → at.lane < 64 → to_forget text (session_at old at.lane) old.catalogue.items old.locks ≡ Ok key
+      → at.lane < 64 → to_forget text (session_at old at.lane) old.catalogue.listed old.locks ≡ Ok key
       → Steps d.calls d.images old.disk new.disk (Forgets (manifest_path key) paths)
       → (IsErrOf removed NoMemory → SameContent d old.disk new.disk) → (IsErrOf removed NoMemory → Steps d.calls d.images old.disk new.disk Same)
       → ActLeaves d old new at act result

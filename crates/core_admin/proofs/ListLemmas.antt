@@ -36,7 +36,7 @@ module _ {D : Type 0} (d : Ghosts D) (parts : Parts D) (at : Place) (text : List
   list_stopped_does (Refused r) result stops is gives =
       refused_does d parts parts at act r result stops refl (same_kept parts) (subst (λ q. ReplyHasText (replies.Refused q)) (sym is) bad_name_has_text)
       (subst (λ q. IsTrue (may_answer act (replies.Refused q))) (sym is) refl)
-      (λ s shows. list_refuses parts s shows at.lane at.moment text r (list_refused text parts.catalogue.items r gives))
+      (λ s shows. list_refuses parts s shows at.lane at.moment text r (list_refused text parts.catalogue.listed r gives))
   list_stopped_does NoMemory result stops is gives = short_does d parts parts at act result stops refl (same_kept parts)
   list_stopped_does DiskFailed result stops is gives = absurd is
 
@@ -45,11 +45,11 @@ module _ {D : Type 0} (d : Ghosts D) (parts : Parts D) (at : Place) (text : List
   list_stopped_leaves NoMemory result stops is = short_leaves d parts parts at act result stops refl (same_kept parts) never
   list_stopped_leaves DiskFailed result stops is = absurd is
 
-  told_by_stop : (stop : Stop) → After stop → IfOk (told (Err stop)) (λ reply. reply ≡ reply_told (list_told text parts.catalogue.items))
-  told_by_stop (Refused r) gives = sym (ap reply_told (list_refused text parts.catalogue.items r gives))
+  told_by_stop : (stop : Stop) → After stop → IfOk (told (Err stop)) (λ reply. reply ≡ reply_told (list_told text parts.catalogue.listed))
+  told_by_stop (Refused r) gives = sym (ap reply_told (list_refused text parts.catalogue.listed r gives))
   told_by_stop NoMemory gives = tt
   told_by_stop DiskFailed gives = tt
 
-  pub list_stopped_told : (stop : Stop) (result : Result Reply Stop) → Stops result stop → After stop → IfOk (told result) (λ reply. reply ≡ reply_told (list_told text parts.catalogue.items))
+  pub list_stopped_told : (stop : Stop) (result : Result Reply Stop) → Stops result stop → After stop → IfOk (told result) (λ reply. reply ≡ reply_told (list_told text parts.catalogue.listed))
   list_stopped_told stop result stops gives =
-      stopped (λ r. IfOk (told r) (λ reply. reply ≡ reply_told (list_told text parts.catalogue.items))) result stop stops (told_by_stop stop gives)
+      stopped (λ r. IfOk (told r) (λ reply. reply ≡ reply_told (list_told text parts.catalogue.listed))) result stop stops (told_by_stop stop gives)

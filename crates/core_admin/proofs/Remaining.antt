@@ -84,11 +84,11 @@ sound_without s key free h = record {
 -- ---- the parts show it
 
 pub shows_without : {D : Type 0} (old new : Parts D) (s : Store) (key : SnapshotKey) → snapshot_holder s key ≡ None
-    → new.catalogue.items ≡ without_listed key old.catalogue.items → new.sessions.items ≡ old.sessions.items → new.locks ≡ old.locks → Shows old s → Shows new (forgot s key)
+    → new.catalogue.listed ≡ without_listed key old.catalogue.listed → new.sessions.items ≡ old.sessions.items → new.locks ≡ old.locks → Shows old s → Shows new (forgot s key)
 shows_without old new s key free c l k h = record {
   catalogue =
       ap (λ items. map (λ x. x.kept) items) c
-      ∙ sym (filter_map_to (λ (x : Listed). x.kept) (λ (x : Kept). not (same_key x.key key)) old.catalogue.items)
+      ∙ sym (filter_map_to (λ (x : Listed). x.kept) (λ (x : Kept). not (same_key x.key key)) old.catalogue.listed)
       ∙ ap (filter (λ (x : Kept). not (same_key x.key key))) h.catalogue
       ∙ filter_map_to shown_snapshot (λ (x : Kept). not (same_key x.key key)) s.snapshots;
   sessions = l ∙ h.sessions ∙ sym (sessions_still key s.snapshots s.sessions (λ i. reads_other s key i free));

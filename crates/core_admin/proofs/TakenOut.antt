@@ -163,33 +163,33 @@ module _ (m n : Files) (key : SnapshotKey) (x : Snapshot) (is : IsSnapshot x) (g
 -- ---- the act
 
 module _ {D : Type 0} (old : Parts D) (s : Store) (lane moment : ℕ) (text : List ℕ) where
-  pub forget_refuses : (r : Refusal) → Shows old s → lane < 64 → to_forget text (session_at old lane) old.catalogue.items old.locks ≡ Err r → outcome s lane moment (Forget text) ≡ Err r
+  pub forget_refuses : (r : Refusal) → Shows old s → lane < 64 → to_forget text (session_at old lane) old.catalogue.listed old.locks ≡ Err r → outcome s lane moment (Forget text) ≡ Err r
   forget_refuses r shows lt told =
-      refused s lane moment text old.catalogue.items old.locks shows.catalogue shows.locks (session_at old lane) r (session_shown old s lane shows lt) told
+      refused s lane moment text old.catalogue.listed old.locks shows.catalogue shows.locks (session_at old lane) r (session_shown old s lane shows lt) told
 
   -- the store takes it out, whatever becomes of its files
-  pub forget_passes : (key : SnapshotKey) → Shows old s → lane < 64 → to_forget text (session_at old lane) old.catalogue.items old.locks ≡ Ok key → IsOk (forget s lane text)
+  pub forget_passes : (key : SnapshotKey) → Shows old s → lane < 64 → to_forget text (session_at old lane) old.catalogue.listed old.locks ≡ Ok key → IsOk (forget s lane text)
   unfolding outcome
   forget_passes key shows lt told =
-      subst IsOk (sym (done s lane moment text old.catalogue.items old.locks shows.catalogue shows.locks (session_at old lane) key (session_shown old s lane shows lt) told)) refl
+      subst IsOk (sym (done s lane moment text old.catalogue.listed old.locks shows.catalogue shows.locks (session_at old lane) key (session_shown old s lane shows lt) told)) refl
 
 module _ {D : Type 0} (d : Ghosts D) (old new : Parts D) (s : Store) (lane moment : ℕ) (text : List ℕ) where
-  pub forget_step : (key : SnapshotKey) (k : Kept) → Holds d old s → lane < 64 → to_forget text (session_at old lane) old.catalogue.items old.locks ≡ Ok key
-      → kept_named key old.catalogue.items ≡ Some k → least_sharer old.locks key ≡ None → IsKey key
+  pub forget_step : (key : SnapshotKey) (k : Kept) → Holds d old s → lane < 64 → to_forget text (session_at old lane) old.catalogue.listed old.locks ≡ Ok key
+      → kept_named key old.catalogue.listed ≡ Some k → least_sharer old.locks key ≡ None → IsKey key
       → (d.honest old.disk → d.content new.disk ≡ without (manifest_path key ∷ map (file_path key) (names_beside k.files)) (d.content old.disk))
-      → new.catalogue.items ≡ without_listed key old.catalogue.items → new.sessions.items ≡ old.sessions.items → new.locks ≡ old.locks
+      → new.catalogue.listed ≡ without_listed key old.catalogue.listed → new.sessions.items ≡ old.sessions.items → new.locks ≡ old.locks
       → (after : Store) × (outcome s lane moment (Forget text) ≡ Ok (after, Done)) × Shows new after × IsOnDisk (d.content new.disk) after
   forget_step key k h lt told there none named gone c l locks =
       let shown = (h.shows).catalogue in
       let sound = (h.shows).sound in
       let is = session_shown old s lane h.shows lt in
-      let is_none = no_holder s lane moment text old.catalogue.items old.locks shown (h.shows).locks key none in
-      let y = mapped shown_snapshot (snapshot_named key s.snapshots) k (sym (kept_is old.catalogue.items s.snapshots key shown) ∙ there) in
+      let is_none = no_holder s lane moment text old.catalogue.listed old.locks shown (h.shows).locks key none in
+      let y = mapped shown_snapshot (snapshot_named key s.snapshots) k (sym (kept_is old.catalogue.listed s.snapshots key shown) ∙ there) in
       let whole : IsSnapshot y.0 = found_whole s.snapshots key y.0 sound.each y.1 in
       let files : d.content new.disk ≡ without (manifest_path key ∷ map (file_path key) (names_beside (shown_files (y.0).key (y.0).files))) (d.content old.disk)
       = gone h.honest ∙ ap (λ (k : Kept). without (manifest_path key ∷ map (file_path key) (names_beside k.files)) (d.content old.disk)) y.2 in (
         forgot s key,
-        done s lane moment text old.catalogue.items old.locks shown (h.shows).locks (session_at old lane) key is told,
+        done s lane moment text old.catalogue.listed old.locks shown (h.shows).locks (session_at old lane) key is told,
         shows_without old new s key is_none c l locks h.shows,
         disk_without (d.content old.disk) (d.content new.disk) s key y.0 (names_of (d.content old.disk) (d.content new.disk) key y.0 whole files) y.1 named
             (are_plain (d.content old.disk) (d.content new.disk) key y.0 whole files) (takes (d.content old.disk) (d.content new.disk) key y.0 whole files) sound h.files,

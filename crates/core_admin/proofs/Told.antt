@@ -178,7 +178,7 @@ by_reply s step told reply is e = is ∙ ap (λ t. t >>= tells s) e
 
 module _ {D : Type 0} (parts : Parts D) (s : Store) (shows : Shows parts s) (lane moment : ℕ) (text : List ℕ) where
   abbrev found : List Listed
-  found = parts.catalogue.items
+  found = parts.catalogue.listed
 
   lists : outcome s lane moment (ListAll text) ≡ (list_told text found >>= tells s)
   lists = list_is found s shows.catalogue lane moment text (has_few s (shows.sound).each)

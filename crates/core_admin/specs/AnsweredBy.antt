@@ -34,9 +34,9 @@ AnswersBy d disk _ session catalogue locks reply = Unit {0}
 
 -- a command is answered so, by what the core keeps before it, and its disk
 abbrev pub ActAnswersBy : {D : Type 0} → Ghosts D → Parts D → Place → Act → Result Reply Stop → Type 0
-ActAnswersBy d old at act result = IfOk (told result) (AnswersBy d old.disk act (session_at old at.lane) old.catalogue.items old.locks)
+ActAnswersBy d old at act result = IfOk (told result) (AnswersBy d old.disk act (session_at old at.lane) old.catalogue.listed old.locks)
 
 -- the core answers so an act that was done
 abbrev pub CoreAnswersBy : {D E C : Type 0} → Ghosts D → Core D E C → ℕ → Act → Answer → Type 0
 CoreAnswersBy d old lane act answer =
-    (answer.entry).kind ≡ COMMAND_KIND → IfSome answer.reply (AnswersBy d (old.parts).disk act (session_at old.parts lane) (old.parts).catalogue.items (old.parts).locks)
+    (answer.entry).kind ≡ COMMAND_KIND → IfSome answer.reply (AnswersBy d (old.parts).disk act (session_at old.parts lane) (old.parts).catalogue.listed (old.parts).locks)

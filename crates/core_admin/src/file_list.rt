@@ -20,7 +20,7 @@ ghost use Rattle.core_admin.specs.AnsweredBy.{ActAnswersBy};
 ghost use Rattle.core_admin.specs.FileRows.{row_shown, rows_shown, sized_row};
 ghost use Rattle.core_admin.specs.FilesTold.{GivesRows, HasBytes, IsFileRow, ListsThere, TellsOfBytes, asked_files};
 
-use core_state::{Kept, Parts, Place, Stop, StoredFile, snapshot_named};
+use core_state::{Kept, Parts, Place, Stop, StoredFile};
 use disk_trait::{Disk, DiskError};
 use manifest::{FileFact, Manifest};
 use sha2::{Digest, Sha256};
@@ -181,7 +181,7 @@ pub fn files<D: Disk>(
     let Ok(key) = SnapshotKey::parse(alloc, snapshot)? else {
         return Err(Stop::Refused(Refusal::BadName));
     };
-    let Some(kept) = snapshot_named(&parts.catalogue, &key) else {
+    let Some(kept) = parts.catalogue.named(&key) else {
         return Err(Stop::Refused(Refusal::NoSnapshot));
     };
     if let Some(name) = &kept.unreadable {

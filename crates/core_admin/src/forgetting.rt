@@ -3,12 +3,11 @@
 ghost use Rattle.std.specs.Prelude.{◌≡◌, ◌<◌, IfOk};
 ghost use Rattle.wire_commands.specs.declared.command.Command.TheVariants.{Forget};
 ghost use Rattle.store_history.specs.declared.act.Act.TheVariants.{Plain};
-ghost use Rattle.core_state.specs.Catalogue.{without_listed};
 ghost use Rattle.core_state.specs.Changes.{names_beside as names_of_kept};
 ghost use Rattle.core_state.specs.Commands.{PlainDoes, PlainLeaves};
 ghost use Rattle.core_admin.specs.AnsweredBy.{ActAnswersBy};
 
-use core_state::{Kept, Listed, Parts, Place, Stop, StoredFile, snapshot_named};
+use core_state::{Parts, Place, Stop, StoredFile};
 use disk_trait::Disk;
 use lock_book::LaneHolds;
 use std::alloc::{AllocError, Global};
@@ -26,13 +25,6 @@ fn names_beside(alloc: Global, files: &[StoredFile]) -> Result<Vec<FileName>, Al
         }
     }
     Ok(names)
-}
-
-/// The catalogue is without the snapshot. It takes no memory.
-fn take_out(catalogue: &mut Vec<Listed>, key: &SnapshotKey)
-    ensures { catalogue.new.items ≡ without_listed key.now catalogue.old.items }
-{
-    catalogue.retain(|listed| listed.kept.key != *key);
 }
 
 /// Removes a snapshot that no lane holds: its manifest for good, and only then its other files.
@@ -56,7 +48,7 @@ pub fn forget<D: Disk>(
     let Ok(key) = SnapshotKey::parse(alloc, snapshot)? else {
         return Err(Stop::Refused(Refusal::BadName));
     };
-    let Some(kept) = snapshot_named(&parts.catalogue, &key) else {
+    let Some(kept) = parts.catalogue.named(&key) else {
         return Err(Stop::Refused(Refusal::NoSnapshot));
     };
     if let Err(LaneHolds { lane }) = parts.locks.free_for_removal(&key) {
@@ -64,6 +56,6 @@ pub fn forget<D: Disk>(
     }
     let names = names_beside(alloc, kept.files.as_slice())?;
     snapshot_files::forget(&mut parts.disk, alloc, &key, &names)?;
-    take_out(&mut parts.catalogue, &key);
+    parts.catalogue.take_out(&key);
     Ok(Reply::Done)
 }

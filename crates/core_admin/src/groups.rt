@@ -58,7 +58,7 @@ pub fn group<D: Disk>(
     let Ok(group) = GroupKey::parse(alloc, name)? else {
         return Err(Stop::Refused(Refusal::BadName));
     };
-    let texts = texts_in(alloc, &parts.catalogue, &group)?;
+    let texts = texts_in(alloc, parts.catalogue.as_slice(), &group)?;
     Ok(Reply::Keys(texts))
 }
 
@@ -100,6 +100,6 @@ pub fn prune_group<D: Disk>(
         let limit = u32::from(COUNT_LIMIT);
         return Err(Stop::Refused(Refusal::TooMany { limit }));
     }
-    let texts = texts_in(alloc, &parts.catalogue, &group)?;
+    let texts = texts_in(alloc, parts.catalogue.as_slice(), &group)?;
     Ok(Reply::Keys(texts))
 }

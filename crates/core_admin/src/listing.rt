@@ -106,6 +106,6 @@ pub fn list<D: Disk>(
     ensures from_state { ActAnswersBy D.Disk parts.now _at (Plain (ListAll after.now)) result }
 {
     let after = key_after(alloc, after)?;
-    let rows = rows_behind(alloc, &parts.catalogue, after.as_ref())?;
+    let rows = rows_behind(alloc, parts.catalogue.as_slice(), after.as_ref())?;
     Ok(Reply::Listing(rows))
 }

@@ -96,7 +96,7 @@ start_kind d old new answer name (start_as_any cause) is = as_any_kind d old new
 pub start_unreadable : {D E C : Type 0} (d : Ghosts D) (old new : Core D E C) (lane : ℕ) (answer : Answer) → StartHasCause d old new Start answer → StartTells old new lane answer
     → CollectUnreadable d old lane Start answer
 start_unreadable d old new lane answer cause tells =
-    tells_known d (old.parts).disk (asked_of_collector Start lane old.collector (session_at old.parts lane) (old.parts).catalogue.items) (answer.entry).kind answer.reply
+    tells_known d (old.parts).disk (asked_of_collector Start lane old.collector (session_at old.parts lane) (old.parts).catalogue.listed) (answer.entry).kind answer.reply
     (λ name is. let (refusal, said, by) = tells.refused (start_kind d old new answer name cause is) in
     ap (λ o. asked_by (refusal_of o)) by ∙ ap (λ r. asked_by (Some r)) (same_refused refusal (refusals.Unreadable name) (sym said ∙ is)))
     (λ a zero at. let (refusal, said, by) = tells.refused zero in

@@ -146,9 +146,9 @@ fixed_then c e p further start cutoff indexes = record { start = start ∙ furth
 
 module _ {D : Type 0} (d : Ghosts D) (old new : Parts D) (u v : Upkeep) (c e f : Collector) (at : Place) where
   -- it is not ended early
-  unended : (f : Collector) → f.ended ≡ None → PassesOn d old.disk old.catalogue.items u.book v.book c f at.moment stays
-      → PassesOrEnds d old.disk old.catalogue.items u.book v.book c f at.moment stays f.ended
-  unended f still passes = subst (PassesOrEnds d old.disk old.catalogue.items u.book v.book c f at.moment stays) (sym still) passes
+  unended : (f : Collector) → f.ended ≡ None → PassesOn d old.disk old.catalogue.listed u.book v.book c f at.moment stays
+      → PassesOrEnds d old.disk old.catalogue.listed u.book v.book c f at.moment stays f.ended
+  unended f still passes = subst (PassesOrEnds d old.disk old.catalogue.listed u.book v.book c f at.moment stays) (sym still) passes
 
   pub marked_does : OnlyReads d old.disk new.disk (IsErrOf {T = Bool} (Ok true) unread.DiskFailed) → SameKept old new → FindsNext d old c e (Ok true) → MarksSome u.book v.book e f at.moment → v.undated ≡ u.undated
       → is_over c.plan ≡ false → c.ended ≡ None → CollectDoes d old new u v c f at (Ok None)
@@ -179,17 +179,17 @@ module _ {D : Type 0} (d : Ghosts D) (old new : Parts D) (u v : Upkeep) (c e f :
 module _ {D : Type 0} (d : Ghosts D) (old new : Parts D) (u : Upkeep) (c e : Collector) (at : Place) where
   -- the search shows what the collector showed
   still_shows : (result : Result Bool Unread) → FindsNext d old c e result → (acts : ℕ) (s : Store) (w : Swept) → StandsBeside d old u acts (Some c) s w.touches w.sweep
-      → ShowsOpen acts old.catalogue.items s.snapshots (Some e) w.sweep
+      → ShowsOpen acts old.catalogue.listed s.snapshots (Some e) w.sweep
   still_shows result finds acts s w beside = by_sweep w.sweep beside.shows
     where
-      by_sweep : (o : Option Sweep) → IsSomeAnd o (ShowsSweep acts old.catalogue.items s.snapshots c) → IsSomeAnd o (ShowsSweep acts old.catalogue.items s.snapshots e)
+      by_sweep : (o : Option Sweep) → IsSomeAnd o (ShowsSweep acts old.catalogue.listed s.snapshots c) → IsSomeAnd o (ShowsSweep acts old.catalogue.listed s.snapshots e)
       by_sweep None shows = absurd shows
       by_sweep (Some sweep) shows = (finds.shows acts s sweep beside.holds shows).0
 
   never_unread : (path : List ℕ) → FindsNext d old c e (Err (unread.Unreadable path)) → (acts : ℕ) (s : Store) (w : Swept) → StandsBeside d old u acts (Some c) s w.touches w.sweep → ⊥
   never_unread path finds acts s w beside = by_sweep w.sweep beside.shows
     where
-      by_sweep : (o : Option Sweep) → IsSomeAnd o (ShowsSweep acts old.catalogue.items s.snapshots c) → ⊥
+      by_sweep : (o : Option Sweep) → IsSomeAnd o (ShowsSweep acts old.catalogue.listed s.snapshots c) → ⊥
       by_sweep None shows = shows
       by_sweep (Some sweep) shows = (finds.shows acts s sweep beside.holds shows).1
 
@@ -205,7 +205,7 @@ module _ {D : Type 0} (d : Ghosts D) (old new : Parts D) (u : Upkeep) (c e : Col
     content = λ _ honest. reads.same honest;
     crash = same_leaves d old.disk new.disk stays reads.crash;
     touches = inr (None, refl, same_touches (touches_kept u));
-    by_plan = (going, refl, subst (PassesOrEnds d old.disk old.catalogue.items u.book u.book c f at.moment stays) (sym ended) (refl, refl));
+    by_plan = (going, refl, subst (PassesOrEnds d old.disk old.catalogue.listed u.book u.book c f at.moment stays) (sym ended) (refl, refl));
     early = λ before le early. none_later u.book before at.moment le early;
     fits = λ before le in_time early. tt;
     lane = lane ∙ (finds.further).lane;
@@ -286,7 +286,7 @@ module _ {D : Type 0} (d : Ghosts D) (old new : Parts D) (mid : D) (u v : Upkeep
       inr (none, (names, is, record { few = are.few; lists = λ honest. subst (λ m. Lists m names) (reads.same honest) (are.lists ((reads.serves).kept.0 honest)) }))
 
   -- and what is lost of it by its plan
-  loses : (change : Change) → DropsFirst d mid u.book e.plan change → LosesFirst d old.disk old.catalogue.items u.book c change
+  loses : (change : Change) → DropsFirst d mid u.book e.plan change → LosesFirst d old.disk old.catalogue.listed u.book c change
   loses change drop = record {
     going = going;
     passed = (finds.found).0;
@@ -341,7 +341,7 @@ module _ {D : Type 0} (d : Ghosts D) (old new : Parts D) (mid : D) (u v : Upkeep
         by_plan = (
           going,
           ap (λ us. record v { undated = us }) undated,
-          subst (PassesOrEnds d old.disk old.catalogue.items u.book v.book c f at.moment x.change) (sym still)
+          subst (PassesOrEnds d old.disk old.catalogue.listed u.book v.book c f at.moment x.change) (sym still)
               (record { passed = (finds.found).0; mid = e; finds = (finds.found).1; does = inr (finds.all_marked refl, ((x.done).0, listed_as (x.done).0 (x.done).1, (x.done).2)) }),
         );
         early = λ before le early. visited_early u.book v.book (x.done).0 f.plan x.change (next_visit (x.done).0) at.moment first (none_later u.book before at.moment le early);
@@ -387,7 +387,7 @@ module _ {D : Type 0} (d : Ghosts D) (old new : Parts D) (mid : D) (u v : Upkeep
     content = λ calm. absurd (calm refl);
     crash = crash (Err disks.Failed) serves x;
     touches = same_upkeep u v (x.unswept refl) undated;
-    by_plan = ⊎_elim {C = FailsByPlan d old.disk old.catalogue.items u.book c at.moment x.change} (λ (none : x.change ≡ stays). inl none) (λ (drop : DropsFirst d mid u.book e.plan x.change). inr (inl (loses x.change drop))) x.going;
+    by_plan = ⊎_elim {C = FailsByPlan d old.disk old.catalogue.listed u.book c at.moment x.change} (λ (none : x.change ≡ stays). inl none) (λ (drop : DropsFirst d mid u.book e.plan x.change). inr (inl (loses x.change drop))) x.going;
     early = λ before le early. subst (λ b. NoneAfter b at.moment) (sym (x.unswept refl)) (none_later u.book before at.moment le early);
     fits = λ before le in_time early. tt;
     lane = lane ∙ (finds.further).lane;

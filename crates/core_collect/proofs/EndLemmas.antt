@@ -110,11 +110,11 @@ module _ {D : Type 0} (d : Ghosts D) (old new : Parts D) (u : Upkeep) (c : Colle
       saved : SameStore (d.content old.disk) (d.content new.disk)
       saved = subst (SameStore (d.content old.disk)) (sym (ends.installed (beside.holds).honest)) (same_installed (d.content old.disk) (book_text (as_of moment u.book)))
 
-      by_sweep : (o : Option Sweep) → IsSomeAnd o (ShowsSweep acts old.catalogue.items s.snapshots c) → IsSomeAnd o (λ sweep. (is_over sweep ≡ true) × (report_reply report ≡ report_of w sweep))
+      by_sweep : (o : Option Sweep) → IsSomeAnd o (ShowsSweep acts old.catalogue.listed s.snapshots c) → IsSomeAnd o (λ sweep. (is_over sweep ≡ true) × (report_reply report ≡ report_of w sweep))
       by_sweep None shows = absurd shows
       by_sweep (Some sweep) shows = (
-        sym (over_is acts old.catalogue.items c s sweep shows) ∙ over,
-        report_is u acts old.catalogue.items s c w sweep beside.touches_are able shows report ends.report,
+        sym (over_is acts old.catalogue.listed c s sweep shows) ∙ over,
+        report_is u acts old.catalogue.listed s c w sweep beside.touches_are able shows report ends.report,
       )
 
   ends_wanting : DiskWantKeeps d old.disk new.disk wanting → IsTheSweeps d new u acts c s w moment (Err stops.NoMemory)

@@ -53,12 +53,12 @@ module _ {D : Type 0} (d : Ghosts D) (old new : Parts D) (u v : Upkeep) (c e f :
   abbrev StandsBy : Sweep → List Unmarked → Type 0
   StandsBy sweep us = StandsBeside d new v acts (Some f) s (touches_by sweep us) (Some (passed w sweep us))
 
-  module _ (sweep : Sweep) (shown : ShowsSweep acts old.catalogue.items s.snapshots e sweep) (b : BeginsWith old.catalogue.items s.snapshots e sweep.unmarked) where
+  module _ (sweep : Sweep) (shown : ShowsSweep acts old.catalogue.listed s.snapshots e sweep) (b : BeginsWith old.catalogue.listed s.snapshots e sweep.unmarked) where
     abbrev first : Unmarked
     first = record { key = (b.kept).key; name = (b.index).name; digests = map (λ (x : Digest32). x.0) (entries_left e) }
 
     abbrev us : List Unmarked
-    us = first ∷ behind_next old.catalogue.items s.snapshots e.plan
+    us = first ∷ behind_next old.catalogue.listed s.snapshots e.plan
 
     which : (q : List ℕ) → is_among q (marked_now e) ≡ is_one_of q (next_marks us)
     which q = among_is q (marked_now e) ∙ ap (is_one_of q) (sym (take-map (λ (x : Digest32). x.0) mark_limit (entries_left e)))
@@ -82,7 +82,7 @@ module _ {D : Type 0} (d : Ghosts D) (old new : Parts D) (u v : Upkeep) (c e f :
       touches_are = touches;
       present = present;
       shows = subst (λ q. ShowsSweep acts q s.snapshots f (passed w sweep us)) (sym kept.catalogue)
-          (marked_shows old.catalogue.items s.snapshots acts w sweep u.book v.book e f moment marks shown b);
+          (marked_shows old.catalogue.listed s.snapshots acts w sweep u.book v.book e f moment marks shown b);
     }
 
     not_over : is_done sweep.unmarked sweep.to_visit ≡ false
@@ -91,7 +91,7 @@ module _ {D : Type 0} (d : Ghosts D) (old new : Parts D) (u v : Upkeep) (c e f :
     is_next : StandsBy sweep sweep.unmarked
     is_next = subst (StandsBy sweep) (sym b.begins) stands
 
-  by_sweep : (o : Option Sweep) → IsSomeAnd o (ShowsSweep acts old.catalogue.items s.snapshots c)
+  by_sweep : (o : Option Sweep) → IsSomeAnd o (ShowsSweep acts old.catalogue.listed s.snapshots c)
       → IsSomeAnd o (λ sweep. (is_done sweep.unmarked sweep.to_visit ≡ false) × (f.ended ≡ None) × StandsBy sweep sweep.unmarked)
   by_sweep None none = none
   by_sweep (Some sweep) shown =

@@ -100,7 +100,7 @@ module _ {D : Type 0} (d : Ghosts D) (parts : Parts D) where
   m = d.content parts.disk
 
   abbrev catalogue : List Listed
-  catalogue = parts.catalogue.items
+  catalogue = parts.catalogue.listed
 
   -- no index is next
   pub none_settles : (c : Collector) → next_index c.plan ≡ None → SettlesNext d parts c c (Ok false)
@@ -299,9 +299,9 @@ pub record HasPassed {D : Type 0} (d : Ghosts D) (parts now : Parts D) (old c : 
   pub passed : ℕ
   pub plan : c.plan ≡ passed_by passed old.plan
   pub entries : c.entries.items ≡ at_hand_after passed old.entries.items
-  pub skipped : d.honest parts.disk → (n : ℕ) → n < passed → StandsAt (d.content parts.disk) parts.catalogue.items old n passed_over
-  pub let_go : 0 < passed → MayPass parts.catalogue.items old
-  pub unread : d.honest parts.disk → next_unreadable (d.content parts.disk) parts.catalogue.items old ≡ next_unreadable (d.content parts.disk) parts.catalogue.items c
+  pub skipped : d.honest parts.disk → (n : ℕ) → n < passed → StandsAt (d.content parts.disk) parts.catalogue.listed old n passed_over
+  pub let_go : 0 < passed → MayPass parts.catalogue.listed old
+  pub unread : d.honest parts.disk → next_unreadable (d.content parts.disk) parts.catalogue.listed old ≡ next_unreadable (d.content parts.disk) parts.catalogue.listed c
 
 module _ {D : Type 0} (d : Ghosts D) (parts now : Parts D) (old c : Collector) (h : HasPassed d parts now old c) where
   holds_now : (s : Store) → Holds d parts s → Holds d now s
@@ -319,27 +319,27 @@ module _ {D : Type 0} (d : Ghosts D) (parts now : Parts D) (old c : Collector) (
   }
 
   -- what the parts of now say is said of those before
-  shows_then : (e : Collector) (result : Result Bool Unread) (acts : ℕ) (s : Store) (sweep : Sweep) → ShowsStill d now c e (IsSettled now.catalogue.items e result) → Holds d parts s
-      → ShowsSweep acts parts.catalogue.items s.snapshots old sweep → ShowsSweep acts parts.catalogue.items s.snapshots e sweep × IsSettled parts.catalogue.items e result s.snapshots sweep
+  shows_then : (e : Collector) (result : Result Bool Unread) (acts : ℕ) (s : Store) (sweep : Sweep) → ShowsStill d now c e (IsSettled now.catalogue.listed e result) → Holds d parts s
+      → ShowsSweep acts parts.catalogue.listed s.snapshots old sweep → ShowsSweep acts parts.catalogue.listed s.snapshots e sweep × IsSettled parts.catalogue.listed e result s.snapshots sweep
   shows_then e result acts s sweep next holds shown =
       let was = (h.shows acts s sweep holds shown).0 in
       let is = next acts s sweep (holds_now s holds) (subst (λ q. ShowsSweep acts q s.snapshots c sweep) (sym (h.kept).catalogue) was) in
       (subst (λ q. ShowsSweep acts q s.snapshots e sweep) (h.kept).catalogue is.0, subst (λ q. IsSettled q e result s.snapshots sweep) (h.kept).catalogue is.1)
 
-  unread_as : (e : Collector) → d.honest parts.disk → next_unreadable (d.content now.disk) now.catalogue.items e ≡ next_unreadable (d.content parts.disk) parts.catalogue.items e
+  unread_as : (e : Collector) → d.honest parts.disk → next_unreadable (d.content now.disk) now.catalogue.listed e ≡ next_unreadable (d.content parts.disk) parts.catalogue.listed e
   unread_as e honest = ap₂ (λ f q. next_unreadable f q e) ((h.reads).same honest) (h.kept).catalogue
 
   honest_now : d.honest parts.disk → d.honest now.disk
   honest_now honest = ((h.reads).serves).kept.0 honest
 
   -- how the index that is next stands, by what it stood at first
-  stands_as : (how : Standing) → d.honest parts.disk → StandsAt (d.content now.disk) now.catalogue.items c 0 how → StandsAt (d.content parts.disk) parts.catalogue.items old h.passed how
+  stands_as : (how : Standing) → d.honest parts.disk → StandsAt (d.content now.disk) now.catalogue.listed c 0 how → StandsAt (d.content parts.disk) parts.catalogue.listed old h.passed how
   stands_as how honest stands i at =
       sym (ap₂ (λ f q. standing f q c.entries.items i) ((h.reads).same honest) (h.kept).catalogue
-      ∙ ap (λ es. standing (d.content parts.disk) parts.catalogue.items es i) h.entries)
+      ∙ ap (λ es. standing (d.content parts.disk) parts.catalogue.listed es i) h.entries)
       ∙ stands i (ap next_index h.plan ∙ at)
 
-  found_after : (e : Collector) → FindsAfter d now.disk now.catalogue.items 0 c e → FindsAfter d parts.disk parts.catalogue.items h.passed old e
+  found_after : (e : Collector) → FindsAfter d now.disk now.catalogue.listed 0 c e → FindsAfter d parts.disk parts.catalogue.listed h.passed old e
   found_after e found = record {
     lane = found.lane ∙ (h.further).lane;
     plan = found.plan ∙ h.plan;
@@ -349,15 +349,15 @@ module _ {D : Type 0} (d : Ghosts D) (parts now : Parts D) (old c : Collector) (
     read = λ honest. stands_as (marked_next (bytes_of e.entries)) honest (found.read (honest_now honest));
   }
 
-  skipped_then : d.honest parts.disk → StandsAt (d.content now.disk) now.catalogue.items c 0 passed_over → (n : ℕ) → n < suc h.passed → StandsAt (d.content parts.disk) parts.catalogue.items old n passed_over
+  skipped_then : d.honest parts.disk → StandsAt (d.content now.disk) now.catalogue.listed c 0 passed_over → (n : ℕ) → n < suc h.passed → StandsAt (d.content parts.disk) parts.catalogue.listed old n passed_over
   skipped_then honest stands n below =
-      ⊎_elim {C = StandsAt (d.content parts.disk) parts.catalogue.items old n passed_over} (λ (less : n < h.passed). h.skipped honest n less)
-      (λ (same : n ≡ h.passed). subst (λ k. StandsAt (d.content parts.disk) parts.catalogue.items old k passed_over) (sym same) (stands_as passed_over honest stands)) (at_most n h.passed below)
+      ⊎_elim {C = StandsAt (d.content parts.disk) parts.catalogue.listed old n passed_over} (λ (less : n < h.passed). h.skipped honest n less)
+      (λ (same : n ≡ h.passed). subst (λ k. StandsAt (d.content parts.disk) parts.catalogue.listed old k passed_over) (sym same) (stands_as passed_over honest stands)) (at_most n h.passed below)
 
   -- the digests at hand at first are let go with the first index
-  let_go_then : (n : ℕ) → h.passed ≡ n → MayPass now.catalogue.items c → MayPass parts.catalogue.items old
+  let_go_then : (n : ℕ) → h.passed ≡ n → MayPass now.catalogue.listed c → MayPass parts.catalogue.listed old
   let_go_then zero none may i at =
-      subst (λ (es : List Digest32). (path_at i parts.catalogue.items ≡ None) ⊎ (es ≡ [])) (h.entries ∙ ap (λ k. at_hand_after k old.entries.items) none)
+      subst (λ (es : List Digest32). (path_at i parts.catalogue.listed ≡ None) ⊎ (es ≡ [])) (h.entries ∙ ap (λ k. at_hand_after k old.entries.items) none)
       (subst (λ q. (path_at i q ≡ None) ⊎ (c.entries.items ≡ [])) (h.kept).catalogue (may i (ap next_index (h.plan ∙ ap (λ k. passed_by k old.plan) none) ∙ at)))
   let_go_then (suc n) some may i at = h.let_go (omega (arith, some)) i at
 
@@ -386,7 +386,7 @@ module _ {D : Type 0} (d : Ghosts D) (parts now : Parts D) (old c : Collector) (
     further = h.further;
     shows = λ acts s sweep holds shown.
         let is = (h.shows acts s sweep holds shown).0 in
-        (is, sym is.unmarked ∙ all_marked parts.catalogue.items s.snapshots (c.plan).indexes (c.plan).stage none);
+        (is, sym is.unmarked ∙ all_marked parts.catalogue.listed s.snapshots (c.plan).indexes (c.plan).stage none);
     at_hand = λ e. absurd (false_true e);
     all_marked = λ _. none;
     found = (
@@ -400,7 +400,7 @@ module _ {D : Type 0} (d : Ghosts D) (parts now : Parts D) (old c : Collector) (
         read = λ honest i at. absurd (none_is (sym (ap is_some none) ∙ mark_there (c.plan).indexes (c.plan).stage i (ap next_index h.plan ∙ at)));
       },
     );
-    unread = λ honest. h.unread honest ∙ ap (unreadable_in (d.content parts.disk) parts.catalogue.items c.entries.items) (none_marked (c.plan).indexes (c.plan).stage none);
+    unread = λ honest. h.unread honest ∙ ap (unreadable_in (d.content parts.disk) parts.catalogue.listed c.entries.items) (none_marked (c.plan).indexes (c.plan).stage none);
   }
     where
       none_is : false ≡ true → ⊥

@@ -23,6 +23,7 @@ use Rattle.store_history.specs.Legal.{may_open}
 use Rattle.store_history.specs.LastTouches.{LastTouches, SameTouches, touches_by_entry}
 use Rattle.store_history.specs.Sweeping.{Swept, new_sweep, swept_after, swept_at, swept_by, while_open}
 use Rattle.store_history.proofs.SweptLonger.{is_swept_longer, swept_longer}
+use Rattle.core_state.specs.Found.{first_unreadable}
 use Rattle.core_state.specs.declared.collector.Collector.{Collector}
 use Rattle.core_state.specs.declared.entering.Admitted.TheVariants.{At}
 use Rattle.core_state.specs.declared.entering.Place.{Place}
@@ -53,7 +54,7 @@ use Rattle.core_state.proofs.Started.{start_short_stands, start_told_stands}
 use Rattle.core_state.proofs.Starts.{start_opened_applies, start_opened_keeps, start_settled_applies, start_settled_keeps}
 use Rattle.core_state.proofs.Touching.{entry_touches_same, same_back, same_then}
 use Rattle.core_state.proofs.Unswept.{fits_other, unswept_touches}
-use Rattle.core_collect.specs.Starting.{GivesCollector, IsNewCollector, StartTells, first_unreadable, start_told}
+use Rattle.core_collect.specs.Starting.{GivesCollector, IsNewCollector, StartTells, start_told}
 use Rattle.core_collect.proofs.StartLemmas.{started_shows}
 use Rattle.core_collect.proofs.StartRefused.{start_told_is}
 
@@ -109,11 +110,11 @@ module _ {D E C : Type 0} (d : Ghosts D) (clock : clocks.Ghosts C) (old new : Co
   touched = same_then (touches_kept new.upkeep) (touches_by_entry Start answer.reply (answer.entry).moment (touches_kept old.upkeep)) plain (keeps.upkeep refl)
       (entry_touches_same Start answer.reply (answer.entry).moment (touches_kept old.upkeep) (touches_of_history h) touches.touches)
 
-  numbers : AreNumbered (length (new.journal).entries.items) (new.parts).catalogue.items
+  numbers : AreNumbered (length (new.journal).entries.items) (new.parts).catalogue.listed
   numbers = numbers_more old new k Start answer place entered keeps.listed touches.numbers
 
-  catalogue : (new.parts).catalogue.items ≡ (old.parts).catalogue.items
-  catalogue = ap (λ p. p.catalogue.items) parts
+  catalogue : (new.parts).catalogue.listed ≡ (old.parts).catalogue.listed
+  catalogue = ap (λ p. p.catalogue.listed) parts
 
   snapshots : ((world then_h).store).snapshots ≡ ((world h).store).snapshots
   snapshots = ap (λ (w : World). (w.store).snapshots) (world_more h e) ∙ ap (λ (x : Store). x.snapshots) (opened_store h.remote (world h) answer (d.calls (new.parts).disk) kind_is)
@@ -121,16 +122,16 @@ module _ {D E C : Type 0} (d : Ghosts D) (clock : clocks.Ghosts C) (old new : Co
   sweep : (swept_of then_h).sweep ≡ Some (new_sweep (world h).store (answer.entry).moment)
   sweep = ap (λ (w : Swept). w.sweep) longer ∙ opened_sweep h.remote (world h) (swept_of h) answer (d.calls (new.parts).disk) kind_is
 
-  shown : ShowsSweep (length (new.journal).entries.items) (old.parts).catalogue.items ((world h).store).snapshots c (new_sweep (world h).store (answer.entry).moment)
+  shown : ShowsSweep (length (new.journal).entries.items) (old.parts).catalogue.listed ((world h).store).snapshots c (new_sweep (world h).store (answer.entry).moment)
   shown = started_shows old.parts (world h).store (length (new.journal).entries.items) k (answer.entry).moment c s.shows
       (subst (AreNumbered (length (new.journal).entries.items)) catalogue numbers) is_new
 
-  shows_open : ShowsOpen (length (new.journal).entries.items) (new.parts).catalogue.items ((world then_h).store).snapshots new.collector (swept_of then_h).sweep
+  shows_open : ShowsOpen (length (new.journal).entries.items) (new.parts).catalogue.listed ((world then_h).store).snapshots new.collector (swept_of then_h).sweep
   shows_open =
-      subst (λ o. ShowsOpen (length (new.journal).entries.items) (new.parts).catalogue.items ((world then_h).store).snapshots o (swept_of then_h).sweep) (sym collector)
-      (subst (λ o. IsSomeAnd o (ShowsSweep (length (new.journal).entries.items) (new.parts).catalogue.items ((world then_h).store).snapshots c)) (sym sweep)
+      subst (λ o. ShowsOpen (length (new.journal).entries.items) (new.parts).catalogue.listed ((world then_h).store).snapshots o (swept_of then_h).sweep) (sym collector)
+      (subst (λ o. IsSomeAnd o (ShowsSweep (length (new.journal).entries.items) (new.parts).catalogue.listed ((world then_h).store).snapshots c)) (sym sweep)
       (subst (λ q. ShowsSweep (length (new.journal).entries.items) q ((world then_h).store).snapshots c (new_sweep (world h).store (answer.entry).moment)) (sym catalogue)
-      (subst (λ ss. ShowsSweep (length (new.journal).entries.items) (old.parts).catalogue.items ss c (new_sweep (world h).store (answer.entry).moment)) (sym snapshots) shown)))
+      (subst (λ ss. ShowsSweep (length (new.journal).entries.items) (old.parts).catalogue.listed ss c (new_sweep (world h).store (answer.entry).moment)) (sym snapshots) shown)))
 
   there : (x : List ℕ) → is_some ((touches_of_history then_h).last x) ≡ is_some ((touches_of_history h).last x)
   there x = sym (ap is_some (after_is.last x)) ∙ dated_one ((touches_of_history h).undated x) (answer.entry).moment ((touches_of_history h).last x)
@@ -218,13 +219,13 @@ module _ {D E C : Type 0} (d : Ghosts D) (clock : clocks.Ghosts C) (old mid new 
   collector = ((admitted.ready).begun).collector
 
   -- what its tests tell, by the core as it was before
-  told_old : start_told mid.collector (session_at mid.parts at.lane) (mid.parts).catalogue.items ≡ start_told old.collector (session_at old.parts k) (old.parts).catalogue.items
+  told_old : start_told mid.collector (session_at mid.parts at.lane) (mid.parts).catalogue.listed ≡ start_told old.collector (session_at old.parts k) (old.parts).catalogue.listed
   told_old =
-      ap (λ (c : Option Collector). start_told c (session_at mid.parts at.lane) (mid.parts).catalogue.items) collector
-      ∙ ap (λ (p : Parts D). start_told old.collector (session_at p at.lane) p.catalogue.items) parts
-      ∙ ap (λ n. start_told old.collector (session_at old.parts n) (old.parts).catalogue.items) admitted.lane_is
+      ap (λ (c : Option Collector). start_told c (session_at mid.parts at.lane) (mid.parts).catalogue.listed) collector
+      ∙ ap (λ (p : Parts D). start_told old.collector (session_at p at.lane) p.catalogue.listed) parts
+      ∙ ap (λ n. start_told old.collector (session_at old.parts n) (old.parts).catalogue.listed) admitted.lane_is
 
-  may_be : (h : History) → StandsFor d clock.readings old h → start_told old.collector (session_at old.parts k) (old.parts).catalogue.items ≡ may_open (world h) k
+  may_be : (h : History) → StandsFor d clock.readings old h → start_told old.collector (session_at old.parts k) (old.parts).catalogue.listed ≡ may_open (world h) k
   may_be h s = start_told_is old.parts (world h) k old.collector s.shows s.collecting lt
 
   module _ (c : Collector) (gives : GivesCollector mid.parts mid.collector at (Ok c)) (enters : IsEntered d (record mid { collector = Some c }) new at.lane at.moment 3 None answer) where
@@ -241,7 +242,7 @@ module _ {D E C : Type 0} (d : Ghosts D) (clock : clocks.Ghosts C) (old mid new 
     is_new = subst (λ m. IsNewCollector old.parts k m c) (sym moment_is)
         (subst (λ n. IsNewCollector old.parts n at.moment c) admitted.lane_is (subst (λ (p : Parts D). IsNewCollector p at.lane at.moment c) parts gives.1))
 
-    may_start : start_told old.collector (session_at old.parts k) (old.parts).catalogue.items ≡ Ok tt
+    may_start : start_told old.collector (session_at old.parts k) (old.parts).catalogue.listed ≡ Ok tt
     may_start = sym told_old ∙ gives.0
 
     pub start_keeps : ActKeeps d old new k Start answer
@@ -276,14 +277,14 @@ module _ {D E C : Type 0} (d : Ghosts D) (clock : clocks.Ghosts C) (old mid new 
   stopped_keeps : (stop : Stop) → GivesCollector mid.parts mid.collector at (Err stop) → Settles d mid new k at.moment (told (Err stop)) answer → ActKeeps d old new k Start answer
   stopped_keeps (stops.Refused refusal) gives settles =
       start_settled_keeps d clock old mid new k at.moment Start tt (Ok (replies.Refused refusal)) refusal answer admitted.ready (λ _. filled) refl
-      (no_fault refusal (start_refusal mid.collector (session_at mid.parts at.lane) (mid.parts).catalogue.items refusal gives)) settles
+      (no_fault refusal (start_refusal mid.collector (session_at mid.parts at.lane) (mid.parts).catalogue.listed refusal gives)) settles
   stopped_keeps stops.NoMemory gives settles =
       start_settled_keeps d clock old mid new k at.moment Start tt (Err disks.NoMemory) refusals.NoMemory answer admitted.ready (λ _. filled) refl memory_apart settles
   stopped_keeps stops.DiskFailed gives settles = absurd gives
 
   stopped_applies : (stop : Stop) → GivesCollector mid.parts mid.collector at (Err stop) → StopHasText stop → Settles d mid new k at.moment (told (Err stop)) answer → ActApplies d clock old new k Start answer
   stopped_applies (stops.Refused refusal) gives text settles =
-      let refuses = start_refusal mid.collector (session_at mid.parts at.lane) (mid.parts).catalogue.items refusal gives in
+      let refuses = start_refusal mid.collector (session_at mid.parts at.lane) (mid.parts).catalogue.listed refusal gives in
       start_settled_applies d clock old mid new k at.moment Start tt (Ok (replies.Refused refusal)) refusal answer admitted.ready (λ _. filled) refl (no_fault refusal refuses) settles lt text refuses
       (λ h s. start_told_stands d clock.readings old mid h k at.moment s admitted.ready new Start refusal answer tt lt (sym (may_be h s) ∙ sym told_old ∙ gives) settles)
   stopped_applies stops.NoMemory gives text settles =

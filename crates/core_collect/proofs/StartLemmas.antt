@@ -1,8 +1,8 @@
 -- The start of a collector: what refuses it, and that its plan is the new sweep of the plain store.
-use Rattle.std.proofs.Common.{◌≡◌, ◌<◌, ◌≤◌, ◌+◌, ◌^◌, get_or, ◌++◌, ℕ, Bool, true, false, cond, min, List, [], ◌∷◌, append-nil, append_assoc, drop, filter, flat_map, length, map, take, Option, Some, None, Result, Ok, Err, IsErrAnd, is_some, refl, sym, ap, subst, ◌∙◌, arith}
+use Rattle.std.proofs.Common.{◌≡◌, ◌<◌, ◌≤◌, ◌+◌, ◌^◌, get_or, ◌++◌, ℕ, Bool, true, false, cond, min, List, [], ◌∷◌, append-nil, append_assoc, drop, filter, flat_map, length, map, take, Option, Some, None, Result, Ok, Err, IsErrAnd, refl, sym, ap, subst, ◌∙◌, arith}
 use Rattle.std.specs.Prelude.{AllPairs}
-use Rattle.std.specs.List.{All, find, list_all}
-use Rattle.std.proofs.lemmas.Bool.{and_parts, leb-true, or_parts}
+use Rattle.std.specs.List.{All}
+use Rattle.std.proofs.lemmas.Bool.{or_parts}
 use Rattle.std.proofs.lemmas.List.{drop_all, drop_more, map-append, take_more}
 use Rattle.std.proofs.lemmas.List.Concat.{flat_map-append}
 use Rattle.std.proofs.lemmas.List.Elements.{All-append, All-head, All-map, All-nil, All-tail, filter-append, filter_passes}
@@ -16,7 +16,7 @@ use Rattle.wire_commands.specs.RefusalText.{refusal_text}
 use Rattle.wire_commands.specs.ReplyText.{reply_text}
 use Rattle.store_files.specs.Archive.{Content, archive, blob, File, Layout, dynamic, fixed, Snapshot, file_named}
 use Rattle.store_model.specs.Stands.{IsSnapshot, keys_rise, names_content}
-use Rattle.store_model.specs.Store.{Store, session, snapshot_named}
+use Rattle.store_model.specs.Store.{Store, session}
 use Rattle.store_model.specs.Store as model
 use Rattle.atime_book.specs.Touches.{cutoff_of}
 use Rattle.gc_plan.specs.Plan.{Plan, begun}
@@ -25,6 +25,7 @@ use Rattle.backup_session.specs.Shown.{shown}
 use Rattle.store_history.specs.Sweeping.{Unmarked, digests_of, earlier, new_sweep, oldest_in, unmarked_of}
 use Rattle.store_history.specs.Sweeping as sweeps
 use Rattle.store_history.proofs.Found.{each_file, each_named}
+use Rattle.core_state.specs.Found.{first_unreadable}
 use Rattle.core_state.specs.declared.collector.Collector.{Collector}
 use Rattle.core_state.specs.declared.kept.Kept.{Kept}
 use Rattle.core_state.specs.declared.kept.Listed.{Listed}
@@ -37,12 +38,11 @@ use Rattle.core_state.specs.declared.stop.Stop.{Stop}
 use Rattle.core_state.specs.declared.stop.Stop.TheVariants as stops
 use Rattle.core_state.specs.Entries.{FitsEntries}
 use Rattle.core_state.specs.Holds.{Shows}
-use Rattle.core_state.specs.Named.{has_text, is_named_snapshot, is_short_name}
 use Rattle.core_state.specs.Numbers.{AreNumbered, IsGiven}
 use Rattle.core_state.specs.Shown.{files_named, shown_file, shown_files, shown_session, shown_snapshot}
 use Rattle.core_state.specs.Sweeps.{FitsRemoved, HasNumber, ShowsSweep, digests_in, kept_at, left_at, left_in, left_of_kept, unmarked_by, visits_by}
 use Rattle.core_state.specs.Wanted.{want_idle}
-use Rattle.core_collect.specs.Starting.{GivesCollector, IsNewCollector, MayOpen, earlier_of, first_unreadable, indexes_in, indexes_of, oldest_kept, start_told, unreadable_of}
+use Rattle.core_collect.specs.Starting.{GivesCollector, IsNewCollector, MayOpen, earlier_of, indexes_in, indexes_of, oldest_kept, start_told}
 use Rattle.core_collect.proofs.Lists.{each_numbered}
 
 -- ---- the oldest writer
@@ -201,10 +201,10 @@ module _ (catalogue : List Listed) (snapshots : List Snapshot) where
 -- ---- the collector that opens
 
 -- its plan is the new sweep
-pub started_shows : {D : Type 0} (parts : Parts D) (s : Store) (acts lane moment : ℕ) (c : Collector) → Shows parts s → AreNumbered acts parts.catalogue.items → IsNewCollector parts lane moment c
-    → ShowsSweep acts parts.catalogue.items s.snapshots c (new_sweep s moment)
+pub started_shows : {D : Type 0} (parts : Parts D) (s : Store) (acts lane moment : ℕ) (c : Collector) → Shows parts s → AreNumbered acts parts.catalogue.listed → IsNewCollector parts lane moment c
+    → ShowsSweep acts parts.catalogue.listed s.snapshots c (new_sweep s moment)
 started_shows parts s acts lane moment c shows numbers new =
-    let catalogue = parts.catalogue.items in
+    let catalogue = parts.catalogue.listed in
     let sound = shows.sound in record {
       start = ap (λ (p : Plan). p.start) new.plan_is;
       cutoff = ap (λ (p : Plan). p.cutoff) new.plan_is ∙ ap (cutoff_of moment) (ap oldest_kept shows.sessions ∙ oldest_is s.snapshots s.sessions);
@@ -259,20 +259,6 @@ module _ (c : Option Collector) (x : Session) (catalogue : List Listed) where
   pub told_free : want_idle x ≡ Ok tt → c ≡ None → first_unreadable catalogue ≡ None → start_told c x catalogue ≡ Ok tt
   unfolding start_told
   told_free idle none whole = ap after_session idle ∙ ap (λ o. after_busy (busy o)) none ∙ ap (if_none Unreadable) whole
-
--- the name that is told is short
-pub damage_short : (xs : List Listed) (name : List ℕ) → list_all is_named_snapshot xs ≡ true → first_unreadable xs ≡ Some name → length name ≤ 251
-damage_short [] name named is = cc
-damage_short (x ∷ xs) name named is =
-    let both = and_parts (is_named_snapshot x) (list_all is_named_snapshot xs) named in
-    by_test (is_some (x.kept).unreadable) is both.0 (λ later. damage_short xs name both.1 later)
-  where
-    by_test : (b : Bool) → unreadable_of (cond b (Some x) (find (λ (y : Listed). is_some (y.kept).unreadable) xs)) ≡ Some name → is_named_snapshot x ≡ true
-        → (first_unreadable xs ≡ Some name → length name ≤ 251) → length name ≤ 251
-    by_test true is good later =
-        let short = (and_parts (has_text (x.kept).key) (is_short_name (x.kept).unreadable) good).1 in
-        leb-true (length name) 251 (sym (ap is_short_name is) ∙ short)
-    by_test false is good later = later is
 
 pub busy_has_text : (lane : ℕ) → lane < 2 ^ 32 → ReplyHasText (Refused (CollectorBusy lane))
 unfolding reply_text refusal_text

@@ -11,6 +11,7 @@ use Rattle.store_model.specs.Store as model
 use Rattle.store_model.specs.Weave.{want_collector}
 use Rattle.store_history.specs.History.{World}
 use Rattle.store_history.specs.Legal.{may_open}
+use Rattle.core_state.specs.Found.{first_unreadable, unreadable_of}
 use Rattle.core_state.specs.declared.collector.Collector.{Collector}
 use Rattle.core_state.specs.declared.kept.Kept.{Kept}
 use Rattle.core_state.specs.declared.kept.Listed.{Listed}
@@ -21,7 +22,7 @@ use Rattle.core_state.specs.Shown.{shown_session, shown_snapshot}
 use Rattle.core_state.specs.Wanted.{session_at, want_idle}
 use Rattle.core_state.proofs.Commanding.{session_shown}
 use Rattle.core_state.proofs.Finding.{find_map, no_mapped}
-use Rattle.core_collect.specs.Starting.{first_unreadable, start_told, unreadable_of}
+use Rattle.core_collect.specs.Starting.{start_told}
 use Rattle.core_collect.proofs.StartLemmas.{busy}
 
 idle_same : (snapshots : List Snapshot) (x : model.Session) → want_idle (shown_session snapshots x) ≡ model.want_idle x
@@ -75,10 +76,10 @@ tests_same a b x y o first next none =
 
 -- a start is refused as the plain store's is
 pub start_told_is : {D : Type 0} (parts : Parts D) (w : World) (k : ℕ) (c : Option Collector) → Shows parts w.store → open_in c ≡ shown_collecting w.collecting → k < 64
-    → start_told c (session_at parts k) parts.catalogue.items ≡ may_open w k
+    → start_told c (session_at parts k) parts.catalogue.listed ≡ may_open w k
 unfolding start_told want_collector
 start_told_is parts w k c shows is lt =
-    tests_same (want_idle (session_at parts k)) (model.want_idle (session w.store k)) (busy c) (busy_in w.collecting) (first_unreadable parts.catalogue.items)
+    tests_same (want_idle (session_at parts k)) (model.want_idle (session w.store k)) (busy c) (busy_in w.collecting) (first_unreadable parts.catalogue.listed)
     (ap want_idle (session_shown parts w.store k shows lt) ∙ idle_same (w.store).snapshots (session w.store k))
     (busy_same c w.collecting is)
-    (none_unreadable parts.catalogue.items (w.store).snapshots shows.catalogue)
+    (none_unreadable parts.catalogue.listed (w.store).snapshots shows.catalogue)

@@ -373,7 +373,7 @@ module _ {D E C : Type 0} (d : Ghosts D) (clock : clocks.Ghosts C) (old mid acte
       subst (λ p. IsEntered d acted new lane m 0 (Some (Refused (refusals.WrongState (state_of (session_at p lane))))) answer) b.parts
       (unfaulted_entered d acted between new lane lane m 0 (Some (Refused (refusals.WrongState (state_of (session_at mid.parts lane))))) answer e closes refl) in
       let kind : (answer.entry).kind ≡ COMMAND_KIND = ap (λ x. x.kind) entered.entry in
-      let kept : SameKept mid.parts acted.parts = record { catalogue = ap (λ p. p.catalogue.items) parts; sessions = ap (λ p. p.sessions.items) parts; locks = ap (λ p. p.locks) parts } in
+      let kept : SameKept mid.parts acted.parts = record { catalogue = ap (λ p. p.catalogue.listed) parts; sessions = ap (λ p. p.sessions.items) parts; locks = ap (λ p. p.locks) parts } in
       let still : new.collector ≡ old.collector = entered.collector ∙ collector ∙ b.collector in
       let stepped : IsStepped d clock.readings old acted new lane m 0 (Some r) answer =
       acted_stepped d clock.readings old mid acted new lane m 0 (Some r) answer ⊥ acted.fault acted.collector ready others.journal others.clock others.remote (others.fault ∙ b.fault) kept
@@ -443,7 +443,7 @@ module _ {D E C : Type 0} (d : Ghosts D) (clock : clocks.Ghosts C) (old mid acte
           holds = record { honest = s.honest; shows = s.shows; files = s.files (none_there h s) };
           touches_are = kept.touches;
           present = kept.present none;
-          shows = subst (λ o. ShowsOpen (length (old.journal).entries.items) (old.parts).catalogue.items ((world h).store).snapshots o (swept_of h).sweep) was kept.sweep;
+          shows = subst (λ o. ShowsOpen (length (old.journal).entries.items) (old.parts).catalogue.listed ((world h).store).snapshots o (swept_of h).sweep) was kept.sweep;
         }))
 
     module _ (result : Outcome) (does : Does result) where
@@ -494,10 +494,10 @@ module _ {D E C : Type 0} (d : Ghosts D) (clock : clocks.Ghosts C) (old mid acte
       opened_same still = ap open_in then_is ∙ ap (λ l. opens l y.ended) does.lane ∙ ap (opens x.lane) (still ∙ sym goes_on) ∙ ap open_in (sym was)
 
       -- its plan shows the sweep, in the catalogue as it was
-      shows_as : (sweep : Option Sweep) (h : History) → ShowsOpen (length (old.journal).entries.items) (acted.parts).catalogue.items ((world h).store).snapshots (Some y) sweep
-          → ShowsOpen (length (old.journal).entries.items) (old.parts).catalogue.items ((world h).store).snapshots (Some y) sweep
+      shows_as : (sweep : Option Sweep) (h : History) → ShowsOpen (length (old.journal).entries.items) (acted.parts).catalogue.listed ((world h).store).snapshots (Some y) sweep
+          → ShowsOpen (length (old.journal).entries.items) (old.parts).catalogue.listed ((world h).store).snapshots (Some y) sweep
       shows_as sweep h shows =
-          subst (λ l. ShowsOpen (length (old.journal).entries.items) l ((world h).store).snapshots (Some y) sweep) ((does.kept).catalogue ∙ ap (λ p. p.catalogue.items) b.parts) shows
+          subst (λ l. ShowsOpen (length (old.journal).entries.items) l ((world h).store).snapshots (Some y) sweep) ((does.kept).catalogue ∙ ap (λ p. p.catalogue.listed) b.parts) shows
 
     not_off : {P : Type 0} → is_on lane old.collector ≡ false → P
     not_off off = absurd (true_false (sym on_before ∙ off))
@@ -511,8 +511,8 @@ module _ {D E C : Type 0} (d : Ghosts D) (clock : clocks.Ghosts C) (old mid acte
       content = λ honest. ap (λ p. d.content p.disk) entered.parts ∙ reads (Ok None) does (λ failed. cc) honest;
       crash = subst (λ p. LeavesChange d (old.parts).disk p.disk does.change) (sym entered.parts) (crash (Ok None) does);
       book = (acted.upkeep).book;
-      passes = subst (λ u. PassesOrEnds d (old.parts).disk (old.parts).catalogue.items u.book (acted.upkeep).book x y m does.change y.ended) b.upkeep
-          (subst (λ p. PassesOrEnds d p.disk p.catalogue.items (mid.upkeep).book (acted.upkeep).book x y m does.change y.ended) b.parts does.by_plan.2);
+      passes = subst (λ u. PassesOrEnds d (old.parts).disk (old.parts).catalogue.listed u.book (acted.upkeep).book x y m does.change y.ended) b.upkeep
+          (subst (λ p. PassesOrEnds d p.disk p.catalogue.listed (mid.upkeep).book (acted.upkeep).book x y m does.change y.ended) b.parts does.by_plan.2);
       dates = subst (λ u. SameTouches (touches_kept new.upkeep) (dated m (touches_kept u))) (does.by_plan.1 ∙ ap (λ (u : Upkeep). record u { book = (acted.upkeep).book }) b.upkeep) entered.upkeep;
     }
 
@@ -553,8 +553,8 @@ module _ {D E C : Type 0} (d : Ghosts D) (clock : clocks.Ghosts C) (old mid acte
           ends = λ cut. not_cut cut;
           reports = λ _ four. absurd (omega (arith, kind, four));
           fits = λ _ four. absurd (omega (arith, kind, four));
-          unread = λ _ _ honest. subst (λ o. IsSomeAnd o (λ c. path_ended new.collector ≡ next_unreadable (d.content (old.parts).disk) (old.parts).catalogue.items c)) (sym was)
-              (ap path_ended now ∙ subst (λ p. d.honest p.disk → path_ended (Some y) ≡ next_unreadable (d.content p.disk) p.catalogue.items x) b.parts (does.unread refl) honest);
+          unread = λ _ _ honest. subst (λ o. IsSomeAnd o (λ c. path_ended new.collector ≡ next_unreadable (d.content (old.parts).disk) (old.parts).catalogue.listed c)) (sym was)
+              (ap path_ended now ∙ subst (λ p. d.honest p.disk → path_ended (Some y) ≡ next_unreadable (d.content p.disk) p.catalogue.listed x) b.parts (does.unread refl) honest);
         })
       where
         its_pass : Does (Ok None) → (h : History) → StandsFor d clock.readings old h → KeepsTouches d old h
@@ -712,8 +712,8 @@ module _ {D E C : Type 0} (d : Ghosts D) (clock : clocks.Ghosts C) (old mid acte
         core_fails does parts = record {
           change = does.change;
           crash = subst (λ p. LeavesChange d (old.parts).disk p.disk does.change) (sym parts) (crash (Err stops.DiskFailed) does);
-          fails = subst (λ u. FailsByPlan d (old.parts).disk (old.parts).catalogue.items u.book x m does.change) b.upkeep
-              (subst (λ p. FailsByPlan d p.disk p.catalogue.items (mid.upkeep).book x m does.change) b.parts does.by_plan);
+          fails = subst (λ u. FailsByPlan d (old.parts).disk (old.parts).catalogue.listed u.book x m does.change) b.upkeep
+              (subst (λ p. FailsByPlan d p.disk p.catalogue.listed (mid.upkeep).book x m does.change) b.parts does.by_plan);
         }
 
         failed_change : (does : Does (Err stops.DiskFailed)) → stepping.MayChange (old.upkeep).book x m does.change (Err stops.DiskFailed) → MayChange old lane m 5 does.change

@@ -259,7 +259,7 @@ stale_there (Some when) cutoff e = refl
 
 module _ {D : Type 0} (d : Ghosts D) (old new : Parts D) (mid : D) (u v : Upkeep) (e f : Collector) (failed : Type 0) (moment : ℕ) (acts : ℕ) (s : Store) (w : Swept) (sweep : Sweep)
     (reads : OnlyReads d old.disk mid failed) (kept : SameKept old new) (honest : d.honest new.disk) (ended : f.ended ≡ None) (undated : v.undated ≡ u.undated)
-    (holds : Holds d old s) (touches_are : SameTouches (touches_kept u) w.touches) (present : IsPresent (d.content old.disk) w.touches) (shows : ShowsSweep acts old.catalogue.items s.snapshots e sweep)
+    (holds : Holds d old s) (touches_are : SameTouches (touches_kept u) w.touches) (present : IsPresent (d.content old.disk) w.touches) (shows : ShowsSweep acts old.catalogue.listed s.snapshots e sweep)
     (none : sweep.unmarked ≡ []) (ahead : is_over sweep ≡ false) (is : w.sweep ≡ Some sweep) (able : IsSweepable s w) where
   mid_honest : d.honest mid
   mid_honest = (reads.serves).kept.0 holds.honest
@@ -268,7 +268,7 @@ module _ {D : Type 0} (d : Ghosts D) (old new : Parts D) (mid : D) (u v : Upkeep
   mid_present = subst (λ (m : Files). IsPresent m w.touches) (sym (reads.same holds.honest)) present
 
   set_is : (listed : Plan) → IsListed d mid e.plan listed → IsSet e.plan listed w sweep
-  set_is listed are = is_set d mid acts old.catalogue.items s e w sweep mid_honest mid_present able shows listed are
+  set_is listed are = is_set d mid acts old.catalogue.listed s e w sweep mid_honest mid_present able shows listed are
 
   -- whether the chunk goes, by the plan and by the sweep
   stale_is : (x : Digest32) (p : Plan) → p.cutoff ≡ (e.plan).cutoff → is_stale (w.touches.last x.0) sweep.cutoff ≡ goes u.book p x
@@ -339,7 +339,7 @@ module _ {D : Type 0} (d : Ghosts D) (old new : Parts D) (mid : D) (u v : Upkeep
     holds = holds_after taken files;
     touches_are = subst (λ t. SameTouches (touches_kept v) (without t w.touches)) (sym taken_is) (visited_touches u v w.touches taken touches_are undated book);
     present = subst (λ t. IsPresent (d.content new.disk) (without t w.touches)) (sym taken_is) (present_after taken files);
-    shows = shows_left acts old.catalogue.items new.catalogue.items s e f sweep (passed w sweep []) ds removed kept.catalogue shows plan_is
+    shows = shows_left acts old.catalogue.listed new.catalogue.listed s e f sweep (passed w sweep []) ds removed kept.catalogue shows plan_is
         (ap (λ visits. record sweep { to_visit = Some visits; removed = one_more (next_taken w sweep []) sweep.removed }) behind
         ∙ ap (λ n. record sweep { to_visit = Some (bytes_of ds); removed = n }) (ap (λ t. one_more t sweep.removed) taken_is ∙ sym removed_is)) none few;
   }
@@ -407,20 +407,20 @@ module _ {D : Type 0} (d : Ghosts D) (old new : Parts D) (mid : D) (u v : Upkeep
     holds = holds_same d old new s kept holds honest files;
     touches_are = visited_touches u v w.touches None touches_are undated book;
     present = subst (λ (m : Files). IsPresent m w.touches) (sym files) present;
-    shows = subst (λ (o : Option Sweep). IsSomeAnd o (ShowsSweep acts new.catalogue.items s.snapshots f)) (sym is)
+    shows = subst (λ (o : Option Sweep). IsSomeAnd o (ShowsSweep acts new.catalogue.listed s.snapshots f)) (sym is)
         (subst (λ (xs : List Listed). ShowsSweep acts xs s.snapshots f sweep) (sym kept.catalogue) shows_same);
   }
     where
-      shows_same : ShowsSweep acts old.catalogue.items s.snapshots f sweep
+      shows_same : ShowsSweep acts old.catalogue.listed s.snapshots f sweep
       shows_same = record {
         start = ap (λ (p : Plan). p.start) plan_is ∙ shows.start;
         cutoff = ap (λ (p : Plan). p.cutoff) plan_is ∙ shows.cutoff;
-        unmarked = ap (λ (p : Plan). unmarked_by old.catalogue.items s.snapshots p.indexes p.stage) plan_is ∙ shows.unmarked;
+        unmarked = ap (λ (p : Plan). unmarked_by old.catalogue.listed s.snapshots p.indexes p.stage) plan_is ∙ shows.unmarked;
         to_visit = ap (λ (p : Plan). visits_by p.stage) plan_is ∙ shows.to_visit;
         removed = ap (λ (p : Plan). p.removed) plan_is ∙ shows.removed;
         few = subst (λ (p : Plan). FitsRemoved p.stage p.removed) (sym plan_is) shows.few;
-        entries = subst (λ (p : Plan). (f.entries.items ≡ [] → ⊥) → HasEntries old.catalogue.items s.snapshots f.entries.items (next_index p)) (sym plan_is)
-            (subst (λ (xs : Vec Digest32 Global). (xs.items ≡ [] → ⊥) → HasEntries old.catalogue.items s.snapshots xs.items (next_index e.plan)) (sym entries) shows.entries);
+        entries = subst (λ (p : Plan). (f.entries.items ≡ [] → ⊥) → HasEntries old.catalogue.listed s.snapshots f.entries.items (next_index p)) (sym plan_is)
+            (subst (λ (xs : Vec Digest32 Global). (xs.items ≡ [] → ⊥) → HasEntries old.catalogue.listed s.snapshots xs.items (next_index e.plan)) (sym entries) shows.entries);
         numbers = subst (λ (p : Plan). All (HasNumber acts) p.indexes) (sym plan_is) shows.numbers;
       }
 
@@ -444,14 +444,14 @@ module _ {D : Type 0} (d : Ghosts D) (old new : Parts D) (mid : D) (u v : Upkeep
 
   -- the sweep that the collector shows, of which all is marked
   with_sweep : (r : Result (Unit {0}) DiskError) (change : Change)
-      → ((sweep : Sweep) → w.sweep ≡ Some sweep → ShowsSweep acts old.catalogue.items s.snapshots e sweep → sweep.unmarked ≡ [] → is_over sweep ≡ false → Tells r change) → Tells r change
+      → ((sweep : Sweep) → w.sweep ≡ Some sweep → ShowsSweep acts old.catalogue.listed s.snapshots e sweep → sweep.unmarked ≡ [] → is_over sweep ≡ false → Tells r change) → Tells r change
   with_sweep r change go = by_sweep w.sweep refl beside.shows
     where
-      by_sweep : (o : Option Sweep) → w.sweep ≡ o → IsSomeAnd o (ShowsSweep acts old.catalogue.items s.snapshots c) → Tells r change
+      by_sweep : (o : Option Sweep) → w.sweep ≡ o → IsSomeAnd o (ShowsSweep acts old.catalogue.listed s.snapshots c) → Tells r change
       by_sweep None is shows = absurd shows
       by_sweep (Some sweep) is shows =
           let found = finds.shows acts s sweep beside.holds shows in
-          go sweep is found.0 found.1 (sym (over_is acts old.catalogue.items c s sweep shows) ∙ ahead)
+          go sweep is found.0 found.1 (sym (over_is acts old.catalogue.listed c s sweep shows) ∙ ahead)
 
   tells_done : (done : Unit {0}) (x : VisitsNext d mid new.disk u.book v.book e.plan f.plan (Ok done)) → Tells (Ok done) x.change
   tells_done done x = with_sweep (Ok done) x.change (λ sweep is shows none left.
@@ -469,7 +469,7 @@ module _ {D : Type 0} (d : Ghosts D) (old new : Parts D) (mid : D) (u v : Upkeep
   tells_failed : (x : VisitsNext d mid new.disk u.book v.book e.plan f.plan (Err Failed)) → Tells (Err Failed) x.change
   tells_failed x = with_sweep (Err Failed) x.change (λ sweep is shows none left. (honest, spared sweep is shows none left x.going))
     where
-      spared : (sweep : Sweep) → w.sweep ≡ Some sweep → ShowsSweep acts old.catalogue.items s.snapshots e sweep → sweep.unmarked ≡ [] → is_over sweep ≡ false
+      spared : (sweep : Sweep) → w.sweep ≡ Some sweep → ShowsSweep acts old.catalogue.listed s.snapshots e sweep → sweep.unmarked ≡ [] → is_over sweep ≡ false
           → (x.change ≡ stays) ⊎ DropsFirst d mid u.book e.plan x.change → Spares s x.change
       spared sweep is shows none left (inl same) = subst (Spares s) (sym same) (spares_same s)
       spared sweep is shows none left (inr drop) =

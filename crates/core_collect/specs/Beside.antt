@@ -26,7 +26,7 @@ pub record StandsBeside {D : Type 0} (d : Ghosts D) (parts : Parts D) (u : Upkee
   pub holds : Holds d parts s
   pub touches_are : SameTouches (touches_kept u) touches
   pub present : IsPresent (d.content parts.disk) touches
-  pub shows : ShowsOpen acts parts.catalogue.items s.snapshots c sweep
+  pub shows : ShowsOpen acts parts.catalogue.listed s.snapshots c sweep
 
 -- What holds of the chunks and the sweep of a legal history: the chunks are listed in byte order, each once; and the one that the next visit
 -- takes out is not needed.

@@ -154,8 +154,8 @@ pub record PassesOver (old new : Collector) : Type 0 where
 
 -- which on an honest disk was forgotten or has no entries, and on any disk was forgotten or has no digests at hand
 abbrev pub PassesNext : {D : Type 0} → Ghosts D → Parts D → Collector → Collector → Type 0
-PassesNext d parts old new = PassesOver old new × (d.honest parts.disk → StandsAt (d.content parts.disk) parts.catalogue.items old 0 passed_over)
-    × MayPass parts.catalogue.items old
+PassesNext d parts old new = PassesOver old new × (d.honest parts.disk → StandsAt (d.content parts.disk) parts.catalogue.listed old 0 passed_over)
+    × MayPass parts.catalogue.listed old
 
 -- what is unmarked but for the index that is next
 abbrev pub behind_next : List Listed → List Snapshot → Plan → List Unmarked
@@ -173,8 +173,8 @@ pub record BeginsWith (catalogue : List Listed) (snapshots : List Snapshot) (c :
 
 -- For each store and sweep that the collector showed it shows them still, and this is known of them.
 abbrev pub ShowsStill : {D : Type 0} → Ghosts D → Parts D → Collector → Collector → (List Snapshot → Sweep → Type 0) → Type 0
-ShowsStill d parts old new known = (acts : ℕ) (s : Store) (sweep : Sweep) → Holds d parts s → ShowsSweep acts parts.catalogue.items s.snapshots old sweep
-    → ShowsSweep acts parts.catalogue.items s.snapshots new sweep × known s.snapshots sweep
+ShowsStill d parts old new known = (acts : ℕ) (s : Store) (sweep : Sweep) → Holds d parts s → ShowsSweep acts parts.catalogue.listed s.snapshots old sweep
+    → ShowsSweep acts parts.catalogue.listed s.snapshots new sweep × known s.snapshots sweep
 
 -- each index of a plain store decodes
 abbrev pub IsSettled : List Listed → Collector → Result Bool Unread → List Snapshot → Sweep → Type 0
@@ -211,20 +211,20 @@ pub record GoesFurther (old new : Collector) : Type 0 where
 
 pub record SettlesNext {D : Type 0} (d : Ghosts D) (parts : Parts D) (old new : Collector) (result : Result Bool Unread) : Type 0 where
   pub further : GoesFurther old new
-  pub shows : ShowsStill d parts old new (IsSettled parts.catalogue.items new result)
+  pub shows : ShowsStill d parts old new (IsSettled parts.catalogue.listed new result)
   pub at_hand : result ≡ Ok true → AtHand new
   pub passes : result ≡ Ok false → IsSome (next_mark old.plan) → PassesNext d parts old new
-  pub found : result ≡ Ok true → FindsAfter d parts.disk parts.catalogue.items 0 old new
+  pub found : result ≡ Ok true → FindsAfter d parts.disk parts.catalogue.listed 0 old new
   pub unread : d.honest parts.disk
-      → SettlesUnread (next_unreadable (d.content parts.disk) parts.catalogue.items old) (next_unreadable (d.content parts.disk) parts.catalogue.items new) result
+      → SettlesUnread (next_unreadable (d.content parts.disk) parts.catalogue.listed old) (next_unreadable (d.content parts.disk) parts.catalogue.listed new) result
 
 pub record FindsNext {D : Type 0} (d : Ghosts D) (parts : Parts D) (old new : Collector) (result : Result Bool Unread) : Type 0 where
   pub further : GoesFurther old new
-  pub shows : ShowsStill d parts old new (IsFound parts.catalogue.items new result)
+  pub shows : ShowsStill d parts old new (IsFound parts.catalogue.listed new result)
   pub at_hand : result ≡ Ok true → AtHand new
   pub all_marked : result ≡ Ok false → next_mark new.plan ≡ None
-  pub found : IfOk result (λ _. (passed : ℕ) × FindsAfter d parts.disk parts.catalogue.items passed old new)
-  pub unread : d.honest parts.disk → TellsUnread (next_unreadable (d.content parts.disk) parts.catalogue.items old) result
+  pub found : IfOk result (λ _. (passed : ℕ) × FindsAfter d parts.disk parts.catalogue.listed passed old new)
+  pub unread : d.honest parts.disk → TellsUnread (next_unreadable (d.content parts.disk) parts.catalogue.listed old) result
 
 -- ---- a mark
 

@@ -69,7 +69,7 @@ pub record CorePasses {D E C : Type 0} (d : Ghosts D) (old new : Core D E C) (c 
       → d.content (new.parts).disk ≡ after change (d.content (old.parts).disk)
   pub crash : LeavesChange d (old.parts).disk (new.parts).disk change
   pub book : Book
-  pub passes : PassesOrEnds d (old.parts).disk (old.parts).catalogue.items
+  pub passes : PassesOrEnds d (old.parts).disk (old.parts).catalogue.listed
       (old.upkeep).book book c e moment change e.ended
   pub dates : SameTouches (touches_kept new.upkeep)
       (dated moment (touches_kept (record (old.upkeep) { book = book })))
@@ -78,7 +78,7 @@ pub record CorePasses {D E C : Type 0} (d : Ghosts D) (old new : Core D E C) (c 
 pub record CoreFails {D E C : Type 0} (d : Ghosts D) (old new : Core D E C) (c : Collector) (moment : ℕ) : Type 0 where
   pub change : Change
   pub crash : LeavesChange d (old.parts).disk (new.parts).disk change
-  pub fails : FailsByPlan d (old.parts).disk (old.parts).catalogue.items (old.upkeep).book c moment change
+  pub fails : FailsByPlan d (old.parts).disk (old.parts).catalogue.listed (old.upkeep).book c moment change
 
 -- An end that comes of itself: all was visited, and the reply is the plan's report.
 abbrev pub EndsWhole : Book → Collector → Option Reply → Type 0

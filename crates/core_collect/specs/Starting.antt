@@ -1,6 +1,6 @@
 -- The start of a collector: what refuses it, and the collector that opens.
-use Rattle.std.specs.Prelude.{◌≡◌, ℕ, List, [], ◌∷◌, map, filter, is_some, Option, Some, None, Result, Ok, Err, IsSomeAnd}
-use Rattle.std.specs.List.{find, flat_map}
+use Rattle.std.specs.Prelude.{◌≡◌, ℕ, List, [], ◌∷◌, map, filter, Option, Some, None, Result, Ok, Err, IsSomeAnd}
+use Rattle.std.specs.List.{flat_map}
 use Rattle.store_types.specs.FileNames.{is_index_name}
 use Rattle.store_types.specs.Chain.Refusing.{◌>>=◌, if_none}
 use Rattle.store_types.specs.declared.refusal.Refusal.{Refusal}
@@ -21,6 +21,7 @@ use Rattle.core_state.specs.declared.state.Core.{Core}
 use Rattle.core_state.specs.declared.stop.Stop.{Stop}
 use Rattle.core_state.specs.declared.stop.Stop.TheVariants as stops
 use Rattle.core_state.specs.Collectors.{collector_by}
+use Rattle.core_state.specs.Found.{first_unreadable}
 use Rattle.core_state.specs.Stops.{Gives}
 use Rattle.core_state.specs.Wanted.{session_at, want_idle}
 
@@ -47,14 +48,6 @@ oldest_kept (x ∷ xs) = earlier_of (oldest_kept xs) x
 
 -- ---- what refuses it
 
-abbrev pub unreadable_of : Option Listed → Option (List ℕ)
-unreadable_of None = None
-unreadable_of (Some x) = (x.kept).unreadable
-
--- the file that makes the first damaged snapshot so
-abbrev pub first_unreadable : List Listed → Option (List ℕ)
-first_unreadable catalogue = unreadable_of (find (λ x. is_some (x.kept).unreadable) catalogue)
-
 -- the lane has a session, a collector is open, or a snapshot is damaged, in this order
 unfoldable pub start_told : Option Collector → Session → List Listed → Result (Unit {0}) Refusal
 start_told collector session catalogue = do
@@ -64,28 +57,28 @@ start_told collector session catalogue = do
 
 -- nothing refuses it, or this does
 abbrev pub MayOpen : {D : Type 0} → Parts D → Option Collector → ℕ → Result (Unit {0}) Stop → Type 0
-MayOpen parts collector lane result = Gives (λ (may : Unit {0}). may) result (start_told collector (session_at parts lane) parts.catalogue.items)
+MayOpen parts collector lane result = Gives (λ (may : Unit {0}). may) result (start_told collector (session_at parts lane) parts.catalogue.listed)
 
 -- ---- the collector that opens
 
 pub record IsNewCollector {D : Type 0} (parts : Parts D) (lane moment : ℕ) (c : Collector) : Type 0 where
   pub lane_is : c.lane ≡ lane
-  pub plan_is : c.plan ≡ begun moment (oldest_kept parts.sessions.items) (indexes_in parts.catalogue.items)
+  pub plan_is : c.plan ≡ begun moment (oldest_kept parts.sessions.items) (indexes_in parts.catalogue.listed)
   pub none_read : c.entries.items ≡ []
   pub goes_on : c.ended ≡ None
 
 -- it opens where nothing refuses it
 abbrev pub GivesCollector : {D : Type 0} → Parts D → Option Collector → Place → Result Collector Stop → Type 0
-GivesCollector parts before at (Ok c) = (start_told before (session_at parts at.lane) parts.catalogue.items ≡ Ok tt) × IsNewCollector parts at.lane at.moment c
-GivesCollector parts before at (Err (stops.Refused refusal)) = start_told before (session_at parts at.lane) parts.catalogue.items ≡ Err refusal
+GivesCollector parts before at (Ok c) = (start_told before (session_at parts at.lane) parts.catalogue.listed ≡ Ok tt) × IsNewCollector parts at.lane at.moment c
+GivesCollector parts before at (Err (stops.Refused refusal)) = start_told before (session_at parts at.lane) parts.catalogue.listed ≡ Err refusal
 GivesCollector parts before at (Err stops.NoMemory) = Unit {0}
 GivesCollector parts before at (Err stops.DiskFailed) = ⊥
 
 -- The core answers a start so, on any disk.
 pub record StartTells {D E C : Type 0} (old new : Core D E C) (lane : ℕ) (answer : Answer) : Type 0 where
   pub refused : (answer.entry).kind ≡ COMMAND_KIND → (refusal : Refusal) × (answer.reply ≡ Some (Refused refusal))
-      × (start_told old.collector (session_at old.parts lane) (old.parts).catalogue.items ≡ Err refusal)
-  pub opens : (answer.entry).kind ≡ START_KIND → (start_told old.collector (session_at old.parts lane) (old.parts).catalogue.items ≡ Ok tt)
+      × (start_told old.collector (session_at old.parts lane) (old.parts).catalogue.listed ≡ Err refusal)
+  pub opens : (answer.entry).kind ≡ START_KIND → (start_told old.collector (session_at old.parts lane) (old.parts).catalogue.listed ≡ Ok tt)
       × IsSomeAnd new.collector (IsNewCollector old.parts lane (answer.entry).moment)
   -- where none opens, another lane's stays as it is
   pub others : ((answer.entry).kind ≡ START_KIND → ⊥) → new.collector ≡ collector_by (answer.entry).kind lane old.collector

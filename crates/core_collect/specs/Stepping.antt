@@ -103,9 +103,9 @@ KeepsFixed c e result = KeepsPlan c.plan e.plan
 abbrev pub ByPlan : {D : Type 0} → Ghosts D → Parts D → Upkeep → Upkeep → Collector → Collector → ℕ → Change → Outcome → Type 0
 ByPlan d old u v c e moment change (Ok None) =
     (is_plan_over c.plan ≡ false) × (v ≡ record u { book = v.book })
-    × PassesOrEnds d old.disk old.catalogue.items u.book v.book c e moment change e.ended
+    × PassesOrEnds d old.disk old.catalogue.listed u.book v.book c e moment change e.ended
 ByPlan d old u v c e moment change (Ok (Some report)) = (is_plan_over c.plan ≡ true) × Reports u.book c.plan report
-ByPlan d old u v c e moment change (Err DiskFailed) = FailsByPlan d old.disk old.catalogue.items u.book c moment change
+ByPlan d old u v c e moment change (Err DiskFailed) = FailsByPlan d old.disk old.catalogue.listed u.book c moment change
 ByPlan d old u v c e moment change (Err stop) = Unit {0}
 
 -- ---- and for what a history tells
@@ -145,7 +145,7 @@ pub record CollectDoes {D : Type 0} (d : Ghosts D) (old new : Parts D) (u v : Up
   pub further : GoesDown c e result
   pub same : KeepsFixed c e result
   -- an honest disk's index that is next does not decode, or there is none such
-  pub unread : result ≡ Ok None → d.honest old.disk → path_of_early e.ended ≡ next_unreadable (d.content old.disk) old.catalogue.items c
+  pub unread : result ≡ Ok None → d.honest old.disk → path_of_early e.ended ≡ next_unreadable (d.content old.disk) old.catalogue.listed c
   pub tells : (acts : ℕ) (s : Store) (w : Swept) → StandsBeside d old u acts (Some c) s w.touches w.sweep → IsSweepable s w
       → IsTheSweeps d new v acts e s w at.moment result × Spares s change
 
@@ -226,4 +226,4 @@ pub record StepTells {D E C : Type 0} (d : Ghosts D) (old new : Core D E C) (lan
   pub fits : is_cut lane old.collector ≡ false → (answer.entry).kind ≡ STOP_KIND → NoneAfter (old.upkeep).book old.last → FitsBook (as_of (answer.entry).moment (old.upkeep).book)
   -- An honest disk's index that does not decode ends it early as it comes to be marked, and nothing else does so in a mark or a visit.
   pub unread : is_cut lane old.collector ≡ false → (answer.entry).kind ≡ PART_KIND → d.honest (old.parts).disk
-      → IsSomeAnd old.collector (λ c. path_ended new.collector ≡ next_unreadable (d.content (old.parts).disk) (old.parts).catalogue.items c)
+      → IsSomeAnd old.collector (λ c. path_ended new.collector ≡ next_unreadable (d.content (old.parts).disk) (old.parts).catalogue.listed c)

@@ -9,7 +9,7 @@ ghost use Rattle.core_collect.specs.declared.marking.Unread.TheVariants.{DiskFai
 ghost use Rattle.core_collect.specs.Marking.{AreDigests, AtHand, FindsNext, IfUnreadable, MarksSome, PassesOver, ReadsDigests, SettlesNext, path_at};
 
 use atime_book::Book;
-use core_state::{Collector, Listed, Parts, path_named, touch_each};
+use core_state::{Catalogue, Collector, Parts, path_named, touch_each};
 use disk_trait::Disk;
 use gc_plan::{IndexAt, mark_size};
 use snapshot_files::{FilePath, ReadError, read_index};
@@ -34,16 +34,11 @@ impl From<AllocError> for Unread {
 }
 
 /// Where the index stands, if its snapshot was not forgotten.
-fn path_of<'a>(catalogue: &'a [Listed], index: &IndexAt) -> Option<&'a FilePath>
-    ensures { option_map (λ p. p.now) result ≡ path_at index.now catalogue.now }
+fn path_of<'a>(catalogue: &'a Catalogue, index: &IndexAt) -> Option<&'a FilePath>
+    ensures { option_map (λ p. p.now) result ≡ path_at index.now catalogue.now.listed }
 {
-    let found = catalogue
-        .iter()
-        .find(|listed| listed.number == index.snapshot);
-    match found {
-        Some(listed) => path_named(listed.kept.files.as_slice(), &index.name),
-        None => None,
-    }
+    let kept = catalogue.by_number(index.snapshot)?;
+    path_named(kept.files.as_slice(), &index.name)
 }
 
 /// The file at the path is no index.

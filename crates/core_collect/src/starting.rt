@@ -1,6 +1,6 @@
 //! The start of a collector.
 
-ghost use Rattle.std.specs.Prelude.{◌≡◌, ◌<◌, ◌++◌, IfErr, IfOk, IsErrOf, OnOk, option_map};
+ghost use Rattle.std.specs.Prelude.{◌≡◌, ◌<◌, ◌++◌, IfErr, IfOk, IsErrOf, OnOk};
 ghost use Rattle.store_types.specs.declared.refusal.Refusal.TheVariants.{CollectorBusy};
 ghost use Rattle.wire_commands.specs.declared.reply.Reply.TheVariants.{Refused};
 ghost use Rattle.wire_commands.specs.HasText.{ReplyHasText};
@@ -9,7 +9,7 @@ ghost use Rattle.core_state.specs.Applies.{ActApplies, ActKeeps};
 ghost use Rattle.core_state.specs.Reserved.{HasRoom};
 ghost use Rattle.core_state.specs.Stops.{StopHasText};
 ghost use Rattle.core_state.specs.declared.stop.Stop.TheVariants.{DiskFailed};
-ghost use Rattle.core_collect.specs.Starting.{GivesCollector, IsNewCollector, MayOpen, earlier_of, first_unreadable, indexes_in as indexes_listed, indexes_of as indexes_kept, oldest_kept, StartTells};
+ghost use Rattle.core_collect.specs.Starting.{GivesCollector, IsNewCollector, MayOpen, earlier_of, indexes_in as indexes_listed, indexes_of as indexes_kept, oldest_kept, StartTells};
 
 use core_state::{
     Act, Admitted, Answer, Collector, Core, Listed, Parts, Place, Session, Stop, begin, enter,
@@ -19,7 +19,7 @@ use disk_trait::Disk;
 use gc_plan::IndexAt;
 use port_traits::Clock;
 use std::alloc::{AllocError, Global};
-use store_types::{Bytes, Refusal, START_KIND};
+use store_types::{Refusal, START_KIND};
 
 /// Adds the indexes of a finished snapshot, in byte order of their names.
 fn push_indexes(indexes: &mut Vec<IndexAt>, listed: &Listed) -> Result<(), AllocError>
@@ -72,19 +72,6 @@ fn oldest_in(sessions: &[Session]) -> Option<u64>
     oldest
 }
 
-/// The full name of the file that makes the first damaged snapshot of the catalogue so.
-fn first_damage(catalogue: &[Listed]) -> Option<&Bytes>
-    ensures { option_map (λ name. name.now) result ≡ first_unreadable catalogue.now }
-{
-    let found = catalogue
-        .iter()
-        .find(|listed| listed.kept.unreadable.is_some());
-    match found {
-        Some(listed) => listed.kept.unreadable.as_ref(),
-        None => None,
-    }
-}
-
 /// The refusal while a collector is open on a lane.
 #[tactic(auto, using(crate::proofs::StartLemmas::busy_has_text))]
 fn busy_on(lane: u32) -> Refusal
@@ -108,7 +95,7 @@ fn may_open<D>(parts: &Parts<D>, collector: &Option<Collector>, lane: u32) -> Re
     if let Some(other) = collector {
         return Err(Stop::Refused(busy_on(other.lane)));
     }
-    if let Some(name) = first_damage(&parts.catalogue) {
+    if let Some(name) = parts.catalogue.first_damage() {
         let name = name.clone()?;
         return Err(Stop::Refused(Refusal::Unreadable { name }));
     }
@@ -119,7 +106,7 @@ fn may_open<D>(parts: &Parts<D>, collector: &Option<Collector>, lane: u32) -> Re
 fn new_collector<D>(parts: &Parts<D>, alloc: Global, at: Place) -> Result<Collector, AllocError>
     ensures { IfOk result (IsNewCollector parts.now at.lane at.moment) }
 {
-    let indexes = indexes_in(alloc, &parts.catalogue)?;
+    let indexes = indexes_in(alloc, parts.catalogue.as_slice())?;
     Ok(Collector {
         lane: at.lane,
         plan: gc_plan::start(at.moment, oldest_in(&parts.sessions), indexes),

@@ -1,12 +1,11 @@
 //! The acts of a collector after its start.
 
-ghost use Rattle.std.specs.Prelude.{◌≡◌, ◌<◌, ◌≤◌, if◌then◌else◌, ◌==◌, false, None, IfErr, IfSome};
+ghost use Rattle.std.specs.Prelude.{◌≡◌, ◌<◌, ◌≤◌, false, None, IfErr, IfSome};
 ghost use Rattle.store_types.specs.Times.{last_moment};
-ghost use Rattle.store_types.specs.declared.order.TheConstants.{FAULT_KIND as a_fault};
 ghost use Rattle.wire_commands.specs.HasText.{ReplyHasText};
 ghost use Rattle.store_history.specs.declared.act.Act.TheVariants.{Step};
 ghost use Rattle.core_state.specs.Applies.{ActApplies, ActKeeps};
-ghost use Rattle.core_state.specs.Collectors.{closed_on, is_cut};
+ghost use Rattle.core_state.specs.Collectors.{closed_at_fault, is_cut};
 ghost use Rattle.core_state.specs.Reserved.{HasRoom};
 ghost use Rattle.core_state.specs.Stops.{StopHasText};
 ghost use Rattle.core_collect.specs.Stepping.{CollectDoes, EntersPass, GoesOn, PassDoes, StepTells, TakesNext};
@@ -149,7 +148,7 @@ fn take_next<D: Disk, E, C: Clock>(core: &mut Core<D, E, C>, alloc: Global, lane
 
 /// A fault of the disk, and what comes after it, closes the collector that meets it.
 fn close_at_fault(collector: &mut Option<Collector>, lane: u32, kind: u8)
-    ensures { collector.new ≡ (if kind == a_fault then closed_on lane collector.old else collector.old) }
+    ensures { collector.new ≡ closed_at_fault kind lane collector.old }
 {
     if kind == FAULT_KIND && is_on(collector, lane) {
         *collector = None;

@@ -28,10 +28,10 @@ module _ {D E C : Type 0} (d : Ghosts D) (e : Ghosts E) (readings : C → Option
   acts : length (new.journal).entries.items ≡ length (old.journal).entries.items
   acts = ap length (same.entries).entries
 
-  numbers : AreNumbered (length (old.journal).entries.items) (old.parts).catalogue.items → AreNumbered (length (new.journal).entries.items) (new.parts).catalogue.items
+  numbers : AreNumbered (length (old.journal).entries.items) (old.parts).catalogue.listed → AreNumbered (length (new.journal).entries.items) (new.parts).catalogue.listed
   numbers are =
-      subst (λ n. AreNumbered n (new.parts).catalogue.items) (sym acts)
-      (subst (λ (p : Parts D). AreNumbered (length (old.journal).entries.items) p.catalogue.items) (sym same.parts) are)
+      subst (λ n. AreNumbered n (new.parts).catalogue.listed) (sym acts)
+      (subst (λ (p : Parts D). AreNumbered (length (old.journal).entries.items) p.catalogue.listed) (sym same.parts) are)
 
   stands : (h : History) → StandsFor d readings old h → StandsFor d readings new h
   stands h s = record {
@@ -55,9 +55,9 @@ module _ {D E C : Type 0} (d : Ghosts D) (e : Ghosts E) (readings : C → Option
     touches = subst (λ u. SameTouches (touches_kept u) (touches_of_history h)) (sym same.upkeep) m.touches;
     present = λ none x digest.
         subst (λ (p : Parts D). IsSome (get (d.content p.disk) (chunk_name x)) ↔ IsSome ((touches_of_history h).last x)) (sym same.parts) (m.present (sym same.fault ∙ none) x digest);
-    sweep = subst (λ n. ShowsOpen n (new.parts).catalogue.items (world h).store.snapshots new.collector (swept_of h).sweep) (sym acts)
-        (subst (λ (p : Parts D). ShowsOpen (length (old.journal).entries.items) p.catalogue.items (world h).store.snapshots new.collector (swept_of h).sweep) (sym same.parts)
-        (subst (λ c. ShowsOpen (length (old.journal).entries.items) (old.parts).catalogue.items (world h).store.snapshots c (swept_of h).sweep) (sym same.collector) m.sweep));
+    sweep = subst (λ n. ShowsOpen n (new.parts).catalogue.listed (world h).store.snapshots new.collector (swept_of h).sweep) (sym acts)
+        (subst (λ (p : Parts D). ShowsOpen (length (old.journal).entries.items) p.catalogue.listed (world h).store.snapshots new.collector (swept_of h).sweep) (sym same.parts)
+        (subst (λ c. ShowsOpen (length (old.journal).entries.items) (old.parts).catalogue.listed (world h).store.snapshots c (swept_of h).sweep) (sym same.collector) m.sweep));
     is_swept = m.is_swept;
     numbers = numbers m.numbers;
   }

@@ -218,7 +218,7 @@ module _ (m c : Files) (u : Upkeep) (whole : HasWholeChunks m) (may : MayClean m
 -- where an honest disk stands for a list
 pub opened_touches : {D E C : Type 0} (d : Ghosts D) (readings : Option Readings) (old : D) (core : Core D E C) (L : List Snapshot) (R : Option (List Snapshot)) → Stands (d.content old) L
     → MayClean (d.content old) (d.content old) (d.content (core.parts).disk) → IsBookOf (d.content (core.parts).disk) core.upkeep
-    → core.collector ≡ None → NumbersAll (core.parts).catalogue.items
+    → core.collector ≡ None → NumbersAll (core.parts).catalogue.listed
     → KeepsTouches d core (began (opening_of d old (core.parts).disk L) R readings)
 unfolding swept_all
 opened_touches d readings old core L R stands may book none numbers =
@@ -228,7 +228,7 @@ opened_touches d readings old core L R stands may book none numbers =
     record {
       touches = opened_touches_are m c core.upkeep stands.chunks may book L (d.calls (core.parts).disk);
       present = λ calm. opened_present m c core.upkeep stands.chunks may book L (d.calls (core.parts).disk);
-      sweep = subst (λ x. ShowsOpen acts (core.parts).catalogue.items (world (began (opening_of d old (core.parts).disk L) R readings)).store.snapshots x None) (sym none) refl;
+      sweep = subst (λ x. ShowsOpen acts (core.parts).catalogue.listed (world (began (opening_of d old (core.parts).disk L) R readings)).store.snapshots x None) (sym none) refl;
       is_swept = tt;
       numbers = numbers acts;
     }

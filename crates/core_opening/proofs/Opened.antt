@@ -85,7 +85,7 @@ only_before m c ps may only p there = told (may (chunk_name (sha256 p)))
 
 module _ {D E C : Type 0} (d : Ghosts D) (readings : C → Option Readings) (old : D) (core : Core D E C) (L : List Snapshot) (R : Option (List Snapshot)) where
   pub opened_stands : HasBegun core → is_some core.remote ≡ is_some R → d.honest (core.parts).disk → Stands (d.content old) L
-      → MayClean (d.content old) (d.content old) (d.content (core.parts).disk) → IsCatalogue (d.content (core.parts).disk) (core.parts).catalogue.items
+      → MayClean (d.content old) (d.content old) (d.content (core.parts).disk) → IsCatalogue (d.content (core.parts).disk) (core.parts).catalogue.listed
       → IsBookOf (d.content (core.parts).disk) core.upkeep
       → StandsFor d readings core (began (opening_of d old (core.parts).disk L) R (readings core.clock))
   unfolding after_all
@@ -104,7 +104,7 @@ module _ {D E C : Type 0} (d : Ghosts D) (readings : C → Option Readings) (old
         honest = honest;
         remote = remote;
         shows = record {
-          catalogue = kept_shown c L catalogue.found after catalogue.lists first_number (core.parts).catalogue.items catalogue.listed;
+          catalogue = kept_shown c L catalogue.found after catalogue.lists first_number (core.parts).catalogue.listed catalogue.listed;
           sessions = begun.sessions ∙ sym (map_replicate L 64);
           locks = subst (λ l. Locked l (store_of L)) (sym begun.locks) (locked_none (store_of L) (no_session L));
           sound = idle_is_sound c L after;
@@ -115,7 +115,7 @@ module _ {D E C : Type 0} (d : Ghosts D) (readings : C → Option Readings) (old
       }
 
 -- on any disk
-pub opened_records : {D E C : Type 0} (readings : C → Option Readings) (core : Core D E C) → HasBegun core → NumbersAll (core.parts).catalogue.items → IsEarly (core.upkeep).book
+pub opened_records : {D E C : Type 0} (readings : C → Option Readings) (core : Core D E C) → HasBegun core → NumbersAll (core.parts).catalogue.listed → IsEarly (core.upkeep).book
     → RecordsOpened readings core.clock core
 opened_records readings core begun numbers early o R start = record {
   kept = tt;

@@ -1,6 +1,6 @@
 -- What a datastore is opened with, and what opening leaves.
 use Rattle.std.specs.Prelude.{◌≡◌, ◌≤◌, ◌+◌, ◌↔◌, ℕ, Bool, true, ◌&&◌, List, [], ◌∷◌, map, replicate, Option, None, Some, is_some, Result, Ok, Err, IsTrue, IfOk}
-use Rattle.std.specs.List.{Contains, list_all}
+use Rattle.std.specs.List.{Contains}
 use Rattle.disk_trait.specs.Disk.{Serves, Same}
 use Rattle.disk_trait.specs.Effects.{StepsOn}
 use Rattle.disk_trait.specs.declared.disk.DiskError.{DiskError}
@@ -40,7 +40,6 @@ use Rattle.core_state.specs.declared.upkeep.Upkeep.{Upkeep}
 use Rattle.core_state.specs.Entering.{AllHeld}
 use Rattle.core_state.specs.History.{StandsFor, began}
 use Rattle.core_state.specs.KeepsTouches.{KeepsTouches}
-use Rattle.core_state.specs.Named.{is_named_snapshot}
 use Rattle.core_state.specs.Numbers.{AreNumbered, first_number}
 use Rattle.core_state.specs.Records.{Records}
 use Rattle.core_state.specs.Recovers.{Recovers}
@@ -91,10 +90,10 @@ pub record IsCatalogue (files : Files) (catalogue : List Listed) : Type 0 where
 
 -- that of an honest disk, as it reads when it was opened
 abbrev pub CataloguesDisk : {D E : Type 0} → Ghosts D → D → D → Result Opened E → Type 0
-CataloguesDisk d old new result = d.honest old → IfOk result (λ x. IsCatalogue (d.content new) x.catalogue.items)
+CataloguesDisk d old new result = d.honest old → IfOk result (λ x. IsCatalogue (d.content new) x.catalogue.listed)
 
 abbrev pub ListsFound : {D E C : Type 0} → Ghosts D → Core D E C → Type 0
-ListsFound d core = IsCatalogue (d.content (core.parts).disk) (core.parts).catalogue.items
+ListsFound d core = IsCatalogue (d.content (core.parts).disk) (core.parts).catalogue.listed
 
 -- ---- the book
 
@@ -133,9 +132,8 @@ pub record IsNew (x : Opened) : Type 0 where
   pub calls : (x.journal).calls.items ≡ []
   pub held : AllHeld x.journal
   pub sessions : x.sessions.items ≡ replicate 64 Idle
-  pub named : IsTrue (list_all is_named_snapshot x.catalogue.items)
   -- whatever acts are to come
-  pub numbers : NumbersAll x.catalogue.items
+  pub numbers : NumbersAll x.catalogue.listed
   -- no chunk was touched after the book's moment
   pub early : IsEarly (x.upkeep).book
   pub in_time : (x.upkeep).book.moment ≤ last_moment

@@ -1,15 +1,14 @@
 //! The catalogue of the snapshots that were found.
 
 ghost use Rattle.std.specs.Prelude.{◌≡◌, map, option_map, IfOk, IsTrue};
-ghost use Rattle.std.specs.List.{All, list_all};
+ghost use Rattle.std.specs.List.{All};
 ghost use Rattle.manifest.specs.Views.{manifest_view};
 ghost use Rattle.store_types.specs.Names.{IsKey};
 ghost use Rattle.snapshot_files.specs.Scanned.{HasNames};
-ghost use Rattle.core_state.specs.Named.{is_named_snapshot};
 ghost use Rattle.core_state.specs.Numbers.{first_number};
 ghost use Rattle.core_opening.specs.Opening.{AreListed, IsKeptOf, ListsNames, NumbersAll, stored_at, stored_names_rise};
 
-use core_state::{Kept, Listed, StoredFile};
+use core_state::{Catalogue, Kept, Listed, StoredFile};
 use manifest::Manifest;
 use snapshot_files::{Found, path_of};
 use std::alloc::{AllocError, Global};
@@ -71,12 +70,11 @@ fn kept_of(alloc: Global, found: Found) -> Result<Kept, AllocError>
     })
 }
 
-/// The snapshots that were found, each with what is kept of it, by numbers of their own.
-pub fn listed_of(alloc: Global, found: Vec<Found>) -> Result<Vec<Listed>, AllocError>
+/// The catalogue of the snapshots that were found, each with what is kept of it, by numbers of their own.
+pub fn catalogue_of(alloc: Global, found: Vec<Found>) -> Result<Catalogue, AllocError>
     requires { All HasNames found.items }
-    ensures listed { IfOk result (λ listed. AreListed first_number found.items listed.items) }
-    ensures named { IfOk result (λ listed. IsTrue (list_all is_named_snapshot listed.items)) }
-    ensures numbers { IfOk result (λ listed. NumbersAll listed.items) }
+    ensures listed { IfOk result (λ c. AreListed first_number found.items c.listed) }
+    ensures numbers { IfOk result (λ c. NumbersAll c.listed) }
 {
     let mut listed = Vec::with_capacity(alloc, found.len())?;
     for found in found {
@@ -84,5 +82,5 @@ pub fn listed_of(alloc: Global, found: Vec<Found>) -> Result<Vec<Listed>, AllocE
         let kept = kept_of(alloc, found)?;
         listed.push(Listed { number, kept })?;
     }
-    Ok(listed)
+    Ok(Catalogue::from_vec(listed))
 }

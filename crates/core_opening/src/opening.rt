@@ -9,8 +9,8 @@ ghost use Rattle.opening_files.specs.Removed.{StepsClean};
 ghost use Rattle.core_opening.specs.Opening.{BooksDisk, CataloguesDisk, CleansOpening, HasBegun, HasBook, IsGivenBack, IsNew, LeavesOpened, ListsFound, TouchesOpened, RecordsOpened, RecoversOpened, ServesOpening, StandsOpened, fault_of};
 
 use crate::booking::upkeep_of;
-use crate::cataloguing::listed_of;
-use core_state::{Core, Journal, Listed, Parts, Session, Upkeep};
+use crate::cataloguing::catalogue_of;
+use core_state::{Catalogue, Core, Journal, Parts, Session, Upkeep};
 use disk_trait::{Disk, DiskError};
 use lock_book::LockBook;
 use opening_files::open_files;
@@ -81,7 +81,7 @@ fn state_of(alloc: Global) -> Result<(Journal, Vec<Session>), AllocError>
 struct Opened {
     journal: Journal,
     sessions: Vec<Session>,
-    catalogue: Vec<Listed>,
+    catalogue: Catalogue,
     upkeep: Upkeep,
 }
 
@@ -98,7 +98,7 @@ fn opened_of<D: Disk>(disk: &mut D, alloc: Global) -> Result<Opened, DiskError>
     let (journal, sessions) = state_of(alloc)?;
     let inventory = open_files(disk, alloc)?;
     let upkeep = upkeep_of(disk, alloc, &inventory.chunks)?;
-    let catalogue = listed_of(alloc, inventory.snapshots)?;
+    let catalogue = catalogue_of(alloc, inventory.snapshots)?;
     Ok(Opened {
         journal,
         sessions,

@@ -1,5 +1,5 @@
 -- What a reader's act is answered by what the core keeps, and by what stands on an honest disk.
-use Rattle.std.proofs.Common.{◌≡◌, ℕ, true, Option, Some, Result, Ok, Err, OnOk, refl, sym, ap, subst, ◌∙◌}
+use Rattle.std.proofs.Common.{◌≡◌, ℕ, true, Option, Some, Result, Ok, Err, OnOk, sym, ap, subst, ◌∙◌}
 use Rattle.disk_trait.specs.declared.disk.Disk.{Ghosts}
 use Rattle.disk_trait.specs.Files.{Files}
 use Rattle.port_traits.specs.Readings.{Readings}

@@ -190,12 +190,12 @@ module _ (file : List ℕ) (offset : ℕ) (session : Session) (catalogue : List 
 
 -- the plain store refuses it too
 pub file_refuses : {D : Type 0} (parts : Parts D) (s : Store) (lane m : ℕ) (file : List ℕ) (offset : ℕ) → Shows parts s → lane < 64
-    → (refusal : Refusal) → file_asked file offset (session_at parts lane) parts.catalogue.items ≡ Err refusal → outcome s lane m (Download file offset) ≡ Err refusal
+    → (refusal : Refusal) → file_asked file offset (session_at parts lane) parts.catalogue.listed ≡ Err refusal → outcome s lane m (Download file offset) ≡ Err refusal
 file_refuses parts s lane m file offset shows lt =
-    file_refused file offset (session_at parts lane) parts.catalogue.items (λ r. outcome s lane m (Download file offset) ≡ Err r)
+    file_refused file offset (session_at parts lane) parts.catalogue.listed (λ r. outcome s lane m (Download file offset) ≡ Err r)
     (λ r e. down_unread s lane m file offset r (reader_wanted parts s lane r shows lt e))
     (λ r reads bad. let (v, at, is) = reader_shown parts s lane r shows lt reads in down_bad s lane m file offset v at bad)
-    (λ r reads good missing. let (v, at, is) = reader_shown parts s lane r shows lt reads in down_absent s lane m file offset parts.catalogue.items v r shows.catalogue at is good missing)
+    (λ r reads good missing. let (v, at, is) = reader_shown parts s lane r shows lt reads in down_absent s lane m file offset parts.catalogue.listed v r shows.catalogue at is good missing)
 
 -- ---- an archive that is read
 
@@ -223,9 +223,9 @@ refused_part (Err cause) entries refusal e = ap (λ x. Err x) (same cause e)
 -- ---- the act
 
 module _ {D : Type 0} (d : Ghosts D) (old : Parts D) (s : Store) (lane m : ℕ) (name path : List ℕ) (offset : ℕ) (v : model.Reader) (r : Reading)
-    (at : session s lane ≡ reader v) (is : shown_reader s.snapshots v ≡ r) (good : is_file_name name ≡ true) (h : Holds d old s) (found : path_in r.key name old.catalogue.items ≡ Some path) where
+    (at : session s lane ≡ reader v) (is : shown_reader s.snapshots v ≡ r) (good : is_file_name name ≡ true) (h : Holds d old s) (found : path_in r.key name old.catalogue.listed ≡ Some path) where
   abbrev pub there : IsThere s.snapshots v.key name path
-  there = is_there name old.catalogue.items s.snapshots v.key path (h.shows).catalogue (ap (λ (x : Reading). path_in x.key name old.catalogue.items) is ∙ found)
+  there = is_there name old.catalogue.listed s.snapshots v.key path (h.shows).catalogue (ap (λ (x : Reading). path_in x.key name old.catalogue.listed) is ∙ found)
 
   abbrev pub stored : Content
   stored = (there.file).content
@@ -286,7 +286,7 @@ module _ {D : Type 0} (d : Ghosts D) (old : Parts D) (s : Store) (lane m : ℕ) 
   -- it is given, and noted
   pub index_given : (new : Parts D) (x : Indexed) (is_fixed : Bool) (noted : Session) → lane < 64 → whole_for r name ≡ Some is_fixed → index_at (d.content old.disk) path is_fixed offset ≡ Ok x
       → ((a : Archive) → content_at (files_named v.key s.snapshots) name ≡ Some (archive a) → x.entries ≡ ends_from 0 a.pieces → noted ≡ shown_session s.snapshots (reader (note name (archive a) v)))
-      → (d.honest old.disk → d.content new.disk ≡ d.content old.disk) → new.catalogue.items ≡ old.catalogue.items → new.sessions.items ≡ set old.sessions.items lane noted → new.locks ≡ old.locks
+      → (d.honest old.disk → d.content new.disk ≡ d.content old.disk) → new.catalogue.listed ≡ old.catalogue.listed → new.sessions.items ≡ set old.sessions.items lane noted → new.locks ≡ old.locks
       → (after_it : Store) × (outcome s lane m (Download name offset) ≡ Ok (after_it, x.part)) × Shows new after_it × IsOnDisk (d.content new.disk) after_it
   index_given new x is_fixed noted lt whole tells notes same c l k =
       let sound = (h.shows).sound in
@@ -314,7 +314,7 @@ asked_as r file offset path text name whole is one two =
     ∙ ap (λ w. let a : Asked = record { path = text; way = from_offset w offset } in Ok a) (ap (whole_for r) (sym two) ∙ sym one)
 
 module _ {D : Type 0} (d : Ghosts D) (old : Parts D) (s : Store) (lane m : ℕ) (file path : List ℕ) (offset : ℕ) (whole : Option Bool) (lt : lane < 64)
-    (asked : IsAsked file (session_at old lane) old.catalogue.items path whole) (h : Holds d old s) where
+    (asked : IsAsked file (session_at old lane) old.catalogue.listed path whole) (h : Holds d old s) where
   pub asked_part_refused : (q : List ℕ) (refusal : Refusal) → q ≡ path → part_at (d.content old.disk) q offset ≡ Err refusal → outcome s lane m (Download file offset) ≡ Err refusal
   asked_part_refused q refusal same gives =
       let (v, at, is) = reader_shown old s lane asked.reading h.shows lt asked.reads in
@@ -334,7 +334,7 @@ module _ {D : Type 0} (d : Ghosts D) (old : Parts D) (s : Store) (lane m : ℕ) 
       → before ≡ get_or old.sessions.items lane before
       → ((snapshots : List Snapshot) (r : model.Reader) (a : Archive) → before ≡ shown_session snapshots (reader r) → content_at (files_named r.key snapshots) name ≡ Some (archive a) → x.entries ≡ ends_from 0 a.pieces
       → noted ≡ shown_session snapshots (reader (note name (archive a) r)))
-      → (d.honest old.disk → d.content new.disk ≡ d.content old.disk) → new.catalogue.items ≡ old.catalogue.items → new.sessions.items ≡ set old.sessions.items lane noted → new.locks ≡ old.locks
+      → (d.honest old.disk → d.content new.disk ≡ d.content old.disk) → new.catalogue.listed ≡ old.catalogue.listed → new.sessions.items ≡ set old.sessions.items lane noted → new.locks ≡ old.locks
       → (after_it : Store) × (outcome s lane m (Download file offset) ≡ Ok (after_it, x.part)) × Shows new after_it × IsOnDisk (d.content new.disk) after_it
   asked_index_given new x is_fixed q name before noted same named some gives here notes content c l k =
       let (v, at, is) = reader_shown old s lane asked.reading h.shows lt asked.reads in

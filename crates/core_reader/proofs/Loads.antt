@@ -13,7 +13,7 @@ use Rattle.store_types.specs.declared.refusal.ChunkFault.TheVariants.{Nothing, N
 use Rattle.store_types.specs.declared.refusal.Refusal.{Refusal}
 use Rattle.store_types.specs.declared.refusal.Refusal.TheVariants.{Damaged}
 use Rattle.store_types.specs.Chain.Refusing.{◌>>=◌}
-use Rattle.blob_codec.specs.Blob.{blob, data_of}
+use Rattle.blob_codec.specs.Blob.{blob, data_of, blob_limit}
 use Rattle.store_files.specs.Archive.{digest_of}
 use Rattle.store_files.specs.Folder.{chunk_name}
 use Rattle.restore_reader.specs.declared.ranges.Part.{Part}
@@ -29,7 +29,7 @@ use Rattle.core_state.specs.Unchanged.{is_uncalled}
 use Rattle.core_state.specs.Stops.{Gives, IfRefused, StopHasText}
 use Rattle.core_state.specs.declared.stop.Stop.{Stop}
 use Rattle.core_state.specs.declared.stop.Stop.TheVariants.{Refused, NoMemory, DiskFailed}
-use Rattle.core_reader.specs.Chunks.{blob_limit, or_damaged, of_length, bytes_at, bytes_in, chunk_at, part_chunk_at, parts_at, stop_by_load, IsDamageOf, StopsAmong, StopsAt}
+use Rattle.core_reader.specs.Chunks.{or_damaged, of_length, bytes_at, bytes_in, chunk_at, part_chunk_at, parts_at, stop_by_load, IsDamageOf, StopsAmong, StopsAt}
 
 -- ---- pieces that stand there
 

@@ -1,5 +1,5 @@
 -- RANGE is the store's.
-use Rattle.std.proofs.Common.{◌≡◌, ◌<◌, ◌≤◌, ℕ, true, false, List, [], drop, length, Option, Some, None, Bool, is_some, Result, Ok, Err, IfErr, IsErrAnd, IsErrOf, IsTrue, map, refl, sym, ap, subst, ◌∙◌, arith}
+use Rattle.std.proofs.Common.{◌≡◌, ◌<◌, ◌≤◌, ℕ, true, false, List, [], drop, length, Option, Some, None, is_some, option_map, Result, Ok, Err, IfErr, IsErrAnd, IsErrOf, IsTrue, map, refl, sym, ap, subst, ◌∙◌, arith}
 use Rattle.std.specs.List.{All}
 use Rattle.std.proofs.lemmas.List.Elements.{All-drop}
 use Rattle.disk_trait.specs.Files.{Files}
@@ -86,25 +86,24 @@ module _ (file : List ℕ) (offset len : ℕ) (session : Session) (catalogue : L
   asked_planned r path at good found = rw (at, good, found) refl
 
 -- whether the snapshot has the file
-has_path : (key held : SnapshotKey) (file name : List ℕ) (catalogue kept : List Listed) (has : Bool) → has ≡ is_some (path_in held name kept) → held ≡ key → kept ≡ catalogue → name ≡ file → has ≡ is_some (path_in key file catalogue)
-has_path key held file name catalogue kept has is one two three =
-    is ∙ ap (λ (k : SnapshotKey). is_some (path_in k name kept)) one ∙ ap (λ l. is_some (path_in key name l)) two ∙ ap (λ n. is_some (path_in key n catalogue)) three
+module _ {B : Type 0} (f : B → List ℕ) (found : Option B) (key held : SnapshotKey) (file name : List ℕ) (catalogue : List Listed)
+    (is : option_map f found ≡ path_in held name catalogue) (keyed : held ≡ key) (named : name ≡ file) where
+  path_found : path_in key file catalogue ≡ option_map f found
+  path_found = sym (is ∙ ap (λ (k : SnapshotKey). path_in k name catalogue) keyed ∙ ap (λ n. path_in key n catalogue) named)
 
-pub no_path : (key held : SnapshotKey) (file : List ℕ) (catalogue kept : List Listed) (name : List ℕ) (has : Bool) → has ≡ is_some (path_in held name kept) → held ≡ key → kept ≡ catalogue → name ≡ file → has ≡ false
-    → path_in key file catalogue ≡ None
-no_path key held file catalogue kept name has is one two three lacks = nothing (path_in key file catalogue) (sym (has_path key held file name catalogue kept has is one two three) ∙ lacks)
-  where
-    nothing : (o : Option (List ℕ)) → is_some o ≡ false → o ≡ None
-    nothing None e = refl
-    nothing (Some x) e = cc
+  pub no_path : is_some found ≡ false → path_in key file catalogue ≡ None
+  no_path lacks = path_found ∙ nothing found lacks
+    where
+      nothing : (o : Option B) → is_some o ≡ false → option_map f o ≡ None
+      nothing None e = refl
+      nothing (Some x) e = cc
 
-pub path_there : (key held : SnapshotKey) (file : List ℕ) (catalogue kept : List Listed) (name : List ℕ) (has : Bool) → has ≡ is_some (path_in held name kept) → held ≡ key → kept ≡ catalogue → name ≡ file → has ≡ true
-    → (path : List ℕ) × (path_in key file catalogue ≡ Some path)
-path_there key held file catalogue kept name has is one two three holds = there (path_in key file catalogue) (sym (has_path key held file name catalogue kept has is one two three) ∙ holds)
-  where
-    there : (o : Option (List ℕ)) → is_some o ≡ true → (path : List ℕ) × (o ≡ Some path)
-    there None e = cc
-    there (Some x) e = (x, refl)
+  pub path_there : is_some found ≡ true → (path : List ℕ) × (path_in key file catalogue ≡ Some path)
+  path_there has = by_found found path_found has
+    where
+      by_found : (o : Option B) → path_in key file catalogue ≡ option_map f o → is_some o ≡ true → (path : List ℕ) × (path_in key file catalogue ≡ Some path)
+      by_found None at e = cc
+      by_found (Some x) at e = (f x, at)
 
 -- ---- refusals before chunks are read
 

@@ -16,7 +16,7 @@ use Rattle.store_types.specs.declared.refusal.Refusal.{Refusal}
 use Rattle.store_types.specs.declared.refusal.Refusal.TheVariants.{BadRange, Damaged, NoFile, Unreadable}
 use Rattle.store_types.specs.Chain.Refusing.{◌>>=◌, or_else}
 use Rattle.store_types.specs.FileNames.{is_dynamic_name, is_fixed_name, is_index_name}
-use Rattle.blob_codec.specs.Blob.{blob as blob_of}
+use Rattle.blob_codec.specs.Blob.{blob as blob_of, blob_limit}
 use Rattle.store_files.specs.Archive.{Archive, Content, File, archive, blob, archive_text, digest_of, file_named, file_text, pieces_of}
 use Rattle.store_files.specs.Folder.{chunk_name}
 use Rattle.wire_frames.specs.Frames.{body_limit}
@@ -53,7 +53,7 @@ use Rattle.core_state.proofs.Finding.{found_in}
 use Rattle.core_state.proofs.Found.{IsThere, is_there, not_there, there_fits, there_kind, there_named, there_text}
 use Rattle.core_state.proofs.Unreadables.{tells_failed}
 use Rattle.core_reader.specs.Asked.{as_entry, asked_entry, index_of, place_of}
-use Rattle.core_reader.specs.Chunks.{StopsAt, blob_limit, bytes_at, bytes_in}
+use Rattle.core_reader.specs.Chunks.{StopsAt, bytes_at, bytes_in}
 use Rattle.core_reader.specs.Damages.{asked_damage, bytes_damage}
 use Rattle.core_reader.proofs.Held.{pieces_held}
 use Rattle.core_reader.proofs.ReadPart.{IsPlaced, place_refused, place_untold}
@@ -89,22 +89,22 @@ module _ (s : Store) (lane : ℕ) (name : List ℕ) (place : ℕ) where
   found_file r f at good found = rw (at, good, found) refl
 
 module _ {D : Type 0} (parts : Parts D) (s : Store) (lane : ℕ) (name : List ℕ) (place : ℕ) (shows : Shows parts s) (lt : lane < 64) where
-  pub chunk_unnamed : (path : List ℕ) → IsPlaced name (session_at parts lane) parts.catalogue.items path → is_index_name name ≡ false → read_chunk s lane name place ≡ Err NoFile
+  pub chunk_unnamed : (path : List ℕ) → IsPlaced name (session_at parts lane) parts.catalogue.listed path → is_index_name name ≡ false → read_chunk s lane name place ≡ Err NoFile
   chunk_unnamed path there bad = let (v, at, is) = reader_shown parts s lane there.reading shows lt there.reads in unnamed s lane name place v at bad
 
-  absent : (r : Reading) → reader_in (session_at parts lane) ≡ Ok r → path_in r.key name parts.catalogue.items ≡ None → read_chunk s lane name place ≡ Err NoFile
+  absent : (r : Reading) → reader_in (session_at parts lane) ≡ Ok r → path_in r.key name parts.catalogue.listed ≡ None → read_chunk s lane name place ≡ Err NoFile
   absent r reads missing = by_name (is_index_name name) refl
     where
       by_name : (b : Bool) → is_index_name name ≡ b → read_chunk s lane name place ≡ Err NoFile
       by_name true good =
           let (v, at, is) = reader_shown parts s lane r shows lt reads in
-          missed s lane name place v at good (not_there name parts.catalogue.items s.snapshots v.key shows.catalogue (ap (λ (x : Reading). path_in x.key name parts.catalogue.items) is ∙ missing))
+          missed s lane name place v at good (not_there name parts.catalogue.listed s.snapshots v.key shows.catalogue (ap (λ (x : Reading). path_in x.key name parts.catalogue.listed) is ∙ missing))
       by_name false bad = let (v, at, is) = reader_shown parts s lane r shows lt reads in unnamed s lane name place v at bad
 
   -- where the file does not stand the store refuses it too
-  pub chunk_refuses : (refusal : Refusal) → place_of name (session_at parts lane) parts.catalogue.items ≡ Err refusal → read_chunk s lane name place ≡ Err refusal
+  pub chunk_refuses : (refusal : Refusal) → place_of name (session_at parts lane) parts.catalogue.listed ≡ Err refusal → read_chunk s lane name place ≡ Err refusal
   chunk_refuses =
-      place_refused name (session_at parts lane) parts.catalogue.items (λ r. read_chunk s lane name place ≡ Err r)
+      place_refused name (session_at parts lane) parts.catalogue.listed (λ r. read_chunk s lane name place ≡ Err r)
       (λ r e. chunk_unread s lane name place r (reader_wanted parts s lane r shows lt e)) absent
 
 -- ---- what stands there
@@ -154,7 +154,7 @@ record HasIndex (m : Files) (s : Store) (lane : ℕ) (name path : List ℕ) (pla
   pub step_is : read_chunk s lane name place ≡ piece_then s (length one.pieces) (slice_get one.pieces place)
   pub held : All (IsHeld m) one.pieces
 
-module _ {D : Type 0} (d : Ghosts D) (old : Parts D) (s : Store) (lane : ℕ) (name path : List ℕ) (place : ℕ) (lt : lane < 64) (placed : IsPlaced name (session_at old lane) old.catalogue.items path)
+module _ {D : Type 0} (d : Ghosts D) (old : Parts D) (s : Store) (lane : ℕ) (name path : List ℕ) (place : ℕ) (lt : lane < 64) (placed : IsPlaced name (session_at old lane) old.catalogue.listed path)
     (good : is_index_name name ≡ true) (h : Holds d old s) where
   abbrev content : Files
   content = d.content old.disk
@@ -163,7 +163,7 @@ module _ {D : Type 0} (d : Ghosts D) (old : Parts D) (s : Store) (lane : ℕ) (n
   unfolding file_text
   has_index =
       let (v, at, is) = reader_shown old s lane placed.reading h.shows lt placed.reads in
-      let t : IsThere s.snapshots v.key name path = is_there name old.catalogue.items s.snapshots v.key path (h.shows).catalogue (ap (λ (x : Reading). path_in x.key name old.catalogue.items) is ∙ placed.found) in
+      let t : IsThere s.snapshots v.key name path = is_there name old.catalogue.listed s.snapshots v.key path (h.shows).catalogue (ap (λ (x : Reading). path_in x.key name old.catalogue.listed) is ∙ placed.found) in
       let stored = (t.file).content in
       let (a, archived, kind) = index_archive stored name (there_kind s.snapshots v.key name path t ((h.shows).sound).each) good in
       let fits : FitsContent (archive a) = subst FitsContent archived (there_fits s.snapshots v.key name path t ((h.shows).sound).each) in
@@ -229,7 +229,7 @@ bytes_given s lane name place m n p bytes digest same held named gives is =
     oks x y e = cc
 
 -- it fits a reply
-pub bytes_short : (bytes : List ℕ) → length bytes ≤ 16_777_228 → length bytes < body_limit
+pub bytes_short : (bytes : List ℕ) → length bytes ≤ blob_limit → length bytes < body_limit
 bytes_short bytes le = omega (arith, le)
 
 -- ---- what is asked for

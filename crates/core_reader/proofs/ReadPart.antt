@@ -56,10 +56,10 @@ read_unread : (s : Store) (lane : ℕ) (name : List ℕ) (offset : ℕ) (refusal
 read_unread s lane name offset refusal no_reader = read_as s lane 0 name offset ∙ ap (given_only s) (down_unread s lane 0 name offset refusal no_reader)
 
 read_absent : {D : Type 0} (parts : Parts D) (s : Store) (lane : ℕ) (name : List ℕ) (offset : ℕ) (r : Reading) → Shows parts s → lane < 64 → reader_in (session_at parts lane) ≡ Ok r
-    → is_file_name name ≡ true → path_in r.key name parts.catalogue.items ≡ None → read_file s lane name offset ≡ Err NoFile
+    → is_file_name name ≡ true → path_in r.key name parts.catalogue.listed ≡ None → read_file s lane name offset ≡ Err NoFile
 read_absent parts s lane name offset r shows lt reads good missing =
     let (v, at, is) = reader_shown parts s lane r shows lt reads in
-    read_as s lane 0 name offset ∙ ap (given_only s) (down_absent s lane 0 name offset parts.catalogue.items v r shows.catalogue at is good missing)
+    read_as s lane 0 name offset ∙ ap (given_only s) (down_absent s lane 0 name offset parts.catalogue.listed v r shows.catalogue at is good missing)
 
 -- ---- where the file stands
 
@@ -138,14 +138,14 @@ module _ (name : List ℕ) (session : Session) (catalogue : List Listed) where
 -- ---- the store refuses it too, or gives the part
 
 pub read_refuses : {D : Type 0} (parts : Parts D) (s : Store) (lane : ℕ) (name : List ℕ) (offset : ℕ) → Shows parts s → lane < 64 → is_file_name name ≡ true
-    → (refusal : Refusal) → place_of name (session_at parts lane) parts.catalogue.items ≡ Err refusal → read_file s lane name offset ≡ Err refusal
+    → (refusal : Refusal) → place_of name (session_at parts lane) parts.catalogue.listed ≡ Err refusal → read_file s lane name offset ≡ Err refusal
 read_refuses parts s lane name offset shows lt good =
-    place_refused name (session_at parts lane) parts.catalogue.items (λ r. read_file s lane name offset ≡ Err r)
+    place_refused name (session_at parts lane) parts.catalogue.listed (λ r. read_file s lane name offset ≡ Err r)
     (λ r e. read_unread s lane name offset r (reader_wanted parts s lane r shows lt e))
     (λ r reads missing. read_absent parts s lane name offset r shows lt reads good missing)
 
 module _ {D : Type 0} (d : Ghosts D) (old : Parts D) (s : Store) (lane : ℕ) (name path q : List ℕ) (offset : ℕ) (lt : lane < 64) (good : is_file_name name ≡ true)
-    (there : IsPlaced name (session_at old lane) old.catalogue.items path) (here : q ≡ path) (h : Holds d old s) where
+    (there : IsPlaced name (session_at old lane) old.catalogue.listed path) (here : q ≡ path) (h : Holds d old s) where
   read_there : read_file s lane name offset ≡ (part_at (d.content old.disk) q offset >>= λ reply. Ok (s, reply))
   read_there =
       let r = there.reading in

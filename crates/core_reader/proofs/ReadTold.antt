@@ -55,10 +55,10 @@ read_stop errors.Failed wanted gives = tt
 
 module _ {D : Type 0} (d : Ghosts D) (old : Parts D) (at : Place) (name : List ℕ) (offset : ℕ) where
   abbrev part_here : Result Reply Refusal
-  part_here = part_told name offset (d.content old.disk) at.lane (session_at old at.lane) old.catalogue.items old.locks
+  part_here = part_told name offset (d.content old.disk) at.lane (session_at old at.lane) old.catalogue.listed old.locks
 
   abbrev placed : Result (List ℕ) Refusal
-  placed = place_of name (session_at old at.lane) old.catalogue.items
+  placed = place_of name (session_at old at.lane) old.catalogue.listed
 
   abbrev part_in : List ℕ → Result Reply Refusal
   part_in path = part_at (d.content old.disk) path offset
@@ -86,10 +86,10 @@ module _ {D : Type 0} (d : Ghosts D) (old : Parts D) (at : Place) (name : List �
 
 module _ {D : Type 0} (d : Ghosts D) (old : Parts D) (at : Place) (name : List ℕ) (place : ℕ) where
   abbrev chunk_here : Result Reply Refusal
-  chunk_here = chunk_told name place (d.content old.disk) at.lane (session_at old at.lane) old.catalogue.items old.locks
+  chunk_here = chunk_told name place (d.content old.disk) at.lane (session_at old at.lane) old.catalogue.listed old.locks
 
   abbrev indexed : Result (List ℕ) Refusal
-  indexed = index_of name (session_at old at.lane) old.catalogue.items
+  indexed = index_of name (session_at old at.lane) old.catalogue.listed
 
   abbrev data_in : List ℕ → Result Reply Refusal
   data_in bytes = Ok (Data bytes)
@@ -101,20 +101,20 @@ module _ {D : Type 0} (d : Ghosts D) (old : Parts D) (at : Place) (name : List �
   chunk_in path = entry_at (d.content old.disk) path (is_fixed_name name) place >>= bytes_in
 
   -- there is no such file
-  pub chunk_missing : (stop : Stop) (result : Result Reply Stop) → Stops result stop → Gives {A = List ℕ} (λ path. path) (Err stop) (place_of name (session_at old at.lane) old.catalogue.items)
+  pub chunk_missing : (stop : Stop) (result : Result Reply Stop) → Stops result stop → Gives {A = List ℕ} (λ path. path) (Err stop) (place_of name (session_at old at.lane) old.catalogue.listed)
       → ActReads d (chunk_told name place) old at result
   chunk_missing stop result stops gives = λ honest. stop_told chunk_here stop result stops (first_stops {A = List ℕ} chunk_in stop indexed (by_stop stop gives))
     where
-      by_stop : (stop : Stop) → Gives {A = List ℕ} (λ path. path) (Err stop) (place_of name (session_at old at.lane) old.catalogue.items) → Gives {A = List ℕ} (λ path. path) (Err stop) indexed
-      by_stop (Refused refusal) gives = index_unplaced name place (session_at old at.lane) old.catalogue.items refusal gives
+      by_stop : (stop : Stop) → Gives {A = List ℕ} (λ path. path) (Err stop) (place_of name (session_at old at.lane) old.catalogue.listed) → Gives {A = List ℕ} (λ path. path) (Err stop) indexed
+      by_stop (Refused refusal) gives = index_unplaced name place (session_at old at.lane) old.catalogue.listed refusal gives
       by_stop NoMemory gives = tt
       by_stop DiskFailed gives = tt
 
-  module _ (path : List ℕ) (there : IsPlaced name (session_at old at.lane) old.catalogue.items path) where
+  module _ (path : List ℕ) (there : IsPlaced name (session_at old at.lane) old.catalogue.listed path) where
     -- its name is no index's
     pub chunk_unindexed : is_index_name name ≡ false → ActReads d (chunk_told name place) old at (Err (Refused NoFile))
     chunk_unindexed bad = λ honest.
-        sym (ap reply_told (ap (λ (o : Result (List ℕ) Refusal). o >>= chunk_in) (index_unnamed name place (session_at old at.lane) old.catalogue.items there.reading there.reads bad)))
+        sym (ap reply_told (ap (λ (o : Result (List ℕ) Refusal). o >>= chunk_in) (index_unnamed name place (session_at old at.lane) old.catalogue.listed there.reading there.reads bad)))
 
     module _ (good : is_index_name name ≡ true) (q : List ℕ) (is_fixed : Bool) (here : q ≡ path) (kind : is_fixed ≡ is_fixed_name name) where
       abbrev entry : Result Digest32 Refusal
@@ -122,7 +122,7 @@ module _ {D : Type 0} (d : Ghosts D) (old : Parts D) (at : Place) (name : List �
 
       chunk_wanted : chunk_here ≡ (entry >>= bytes_in)
       chunk_wanted =
-          ap (λ (o : Result (List ℕ) Refusal). o >>= chunk_in) (index_there name place (session_at old at.lane) old.catalogue.items there.reading path there.reads good there.found)
+          ap (λ (o : Result (List ℕ) Refusal). o >>= chunk_in) (index_there name place (session_at old at.lane) old.catalogue.listed there.reading path there.reads good there.found)
           ∙ ap (λ (o : Result Digest32 Refusal). o >>= bytes_in) (sym (entry_here (d.content old.disk) path q name place is_fixed here kind))
 
       -- the entry is refused by what stands there

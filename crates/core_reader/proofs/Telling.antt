@@ -119,7 +119,7 @@ module _ {D : Type 0} (d : Ghosts D) (old new : Parts D) (at : Place) (act : Act
 
 -- done, where the lane's session alone has changed
 pub noted_leaves : {D : Type 0} (d : Ghosts D) (old new : Parts D) (at : Place) (file : List ℕ) (offset : ℕ) (reply : Reply) (F : Type 0) → IsNoRefusal reply → OnlyReads d old.disk new.disk F
-    → new.catalogue.items ≡ old.catalogue.items → ActLeaves d old new at (Plain (Download file offset)) (Ok reply)
+    → new.catalogue.listed ≡ old.catalogue.listed → ActLeaves d old new at (Plain (Download file offset)) (Ok reply)
 noted_leaves d old new at file offset reply F plain reads same =
     writes_leaves d old new at (Plain (Download file offset)) reply plain refl reads.same reads.crash tt same (λ e. cc) (adds_same d old new (Plain (Download file offset)) (Ok reply) reads.same) (λ e. cc) (λ e. cc)
 

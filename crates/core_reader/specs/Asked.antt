@@ -78,7 +78,7 @@ place_of name session catalogue = do
 
 -- it is told where, or the refusal
 abbrev pub GivesPlace : {D : Type 0} → Parts D → ℕ → List ℕ → Result (String Global) Stop → Type 0
-GivesPlace parts lane name result = Gives (λ (path : String Global). string_bytes path) result (place_of name (session_at parts lane) parts.catalogue.items)
+GivesPlace parts lane name result = Gives (λ (path : String Global). string_bytes path) result (place_of name (session_at parts lane) parts.catalogue.listed)
 
 -- a part of it, whatever it is
 abbrev pub as_part : ℕ → List ℕ → Asked
@@ -115,7 +115,7 @@ asked_from offset a = record { path = string_bytes a.path; way = from_offset a.w
 -- it is found, or the refusal is told, whatever the offset
 abbrev pub GivesFile : {D : Type 0} → Parts D → ℕ → List ℕ → Result AskedFile Stop → Type 0
 GivesFile parts lane file result =
-    (offset : ℕ) → Gives (asked_from offset) result (file_asked file offset (session_at parts lane) parts.catalogue.items)
+    (offset : ℕ) → Gives (asked_from offset) result (file_asked file offset (session_at parts lane) parts.catalogue.listed)
 
 -- the reader with an archive noted, unless one of the name is
 abbrev pub noting : List ℕ → List Ended → Session → Session
@@ -143,4 +143,4 @@ range_asked file offset len session catalogue = do
 -- they are given, or the refusal is told
 abbrev pub GivesRange : {A D : Type 0} → (A → List Part) → Parts D → ℕ → List ℕ → ℕ → ℕ → Result A Stop → Type 0
 GivesRange show parts lane file offset len result =
-    Gives show result (range_asked file offset len (session_at parts lane) parts.catalogue.items)
+    Gives show result (range_asked file offset len (session_at parts lane) parts.catalogue.listed)

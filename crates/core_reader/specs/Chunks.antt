@@ -10,6 +10,7 @@ use Rattle.store_types.specs.declared.refusal.ChunkFault.TheVariants.{Nothing, N
 use Rattle.store_types.specs.declared.refusal.Refusal.{Refusal}
 use Rattle.store_types.specs.declared.refusal.Refusal.TheVariants.{Damaged}
 use Rattle.store_types.specs.Chain.Refusing.{◌>>=◌}
+use Rattle.blob_codec.specs.Blob.{blob_limit}
 use Rattle.store_files.specs.Archive.{digest_of}
 use Rattle.store_files.specs.Folder.{chunk_name}
 use Rattle.restore_reader.specs.declared.ranges.Part.{Part}
@@ -22,10 +23,6 @@ use Rattle.chunk_store.specs.declared.chunk.LoadFault.TheVariants as loads
 use Rattle.core_state.specs.declared.stop.Stop.{Stop}
 use Rattle.core_state.specs.declared.stop.Stop.TheVariants as stops
 use Rattle.core_state.specs.Stops.{Gives, IfRefused}
-
--- a blob has no more bytes than that
-abbrev pub blob_limit : ℕ
-blob_limit = 16_777_228
 
 -- ---- as they are read
 

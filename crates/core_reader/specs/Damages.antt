@@ -12,6 +12,7 @@ use Rattle.snapshot_files.specs.Entry.{entry_at}
 use Rattle.store_types.specs.declared.refusal.Refusal.{Refusal}
 use Rattle.store_types.specs.declared.refusal.Refusal.TheVariants.{Damaged}
 use Rattle.store_types.specs.declared.order.TheConstants.{COMMAND_KIND}
+use Rattle.blob_codec.specs.Blob.{blob_limit}
 use Rattle.wire_commands.specs.declared.command.Command.TheVariants.{GetChunk, Range}
 use Rattle.wire_commands.specs.declared.reply.Reply.{Reply}
 use Rattle.wire_commands.specs.declared.reply.Reply.TheVariants.{Refused}
@@ -33,7 +34,7 @@ use Rattle.core_state.specs.Stops.{told}
 use Rattle.core_state.specs.Unreadables.{Asked, Way, at_entry}
 use Rattle.core_state.specs.Wanted.{session_at}
 use Rattle.core_reader.specs.Asked.{asked_entry, range_asked}
-use Rattle.core_reader.specs.Chunks.{blob_limit, part_found}
+use Rattle.core_reader.specs.Chunks.{part_found}
 
 -- ---- the chunks that an answer needs, in order
 
@@ -108,9 +109,9 @@ pub record TellsDamaged {D : Type 0} (d : Ghosts D) (disk : D) (may_name : Diges
 -- the same of an act, by how its command ended
 abbrev pub ActDamaged : {D : Type 0} → Ghosts D → Parts D → Place → Act → Result Reply Stop → Type 0
 ActDamaged d old at act result =
-    TellsDamaged d old.disk (MayName act (session_at old at.lane) old.catalogue.items) (damage_by act (session_at old at.lane) old.catalogue.items) (kind_by (told result)) (Some (reply_by (told result)))
+    TellsDamaged d old.disk (MayName act (session_at old at.lane) old.catalogue.listed) (damage_by act (session_at old at.lane) old.catalogue.listed) (kind_by (told result)) (Some (reply_by (told result)))
 
 -- and by the core's answer
 abbrev pub CoreDamaged : {D E C : Type 0} → Ghosts D → Core D E C → ℕ → Act → Answer → Type 0
 CoreDamaged d old lane act answer =
-    TellsDamaged d (old.parts).disk (MayName act (session_at old.parts lane) (old.parts).catalogue.items) (damage_by act (session_at old.parts lane) (old.parts).catalogue.items) (answer.entry).kind answer.reply
+    TellsDamaged d (old.parts).disk (MayName act (session_at old.parts lane) (old.parts).catalogue.listed) (damage_by act (session_at old.parts lane) (old.parts).catalogue.listed) (answer.entry).kind answer.reply

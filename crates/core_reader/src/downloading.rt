@@ -8,7 +8,6 @@ ghost use Rattle.core_state.specs.Unreadables.{ActUnreadable};
 ghost use Rattle.core_state.specs.declared.stop.Stop.TheVariants.{DiskFailed};
 ghost use Rattle.core_reader.specs.Asked.{GivesFile, NotesPlainly, asked_download, noting, whole_for};
 
-use crate::lookups::path_in_snapshot;
 use core_state::{Parts, Place, Session, Stop};
 use disk_trait::Disk;
 use restore_reader::Reader;
@@ -74,7 +73,7 @@ fn asked_file<D>(parts: &Parts<D>, alloc: Global, lane: u32, file: &[u8]) -> Res
     let Ok(name) = FileName::check(alloc, file)? else {
         return Err(Stop::Refused(Refusal::BadName));
     };
-    let Some(path) = path_in_snapshot(&parts.catalogue, reader.key(), &name) else {
+    let Some(path) = parts.catalogue.path(reader.key(), &name) else {
         return Err(Stop::Refused(Refusal::NoFile));
     };
     let path = String::from_str(alloc, path.as_str())?;

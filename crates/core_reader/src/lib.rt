@@ -6,7 +6,6 @@ mod chunks;
 mod closing;
 mod downloading;
 mod loading;
-mod lookups;
 mod opening;
 mod ranges;
 mod reading;

@@ -2,6 +2,7 @@
 
 ghost use Rattle.std.specs.Prelude.{◌≡◌, ◌≤◌, IfOk, IfErr, IsErrOf, length};
 ghost use Rattle.disk_trait.specs.Effects.{OnlyReads};
+ghost use Rattle.blob_codec.specs.Blob.{blob_limit};
 ghost use Rattle.restore_reader.specs.Cutting.{cut, total_of};
 ghost use Rattle.core_state.specs.declared.stop.Stop.TheVariants.{DiskFailed};
 ghost use Rattle.core_state.specs.Stops.{StopHasText};
@@ -36,7 +37,7 @@ pub fn read_bytes<D: Disk>(disk: &mut D, alloc: Global, digest: &Digest32) -> Re
     ensures reads { OnlyReads D.Disk disk.old disk.new (IsErrOf result DiskFailed) }
     ensures value { D.honest disk.old → GivesBytes (D.content disk.old) digest.now result }
     // on any disk
-    ensures size { IfOk result (λ bytes. length bytes ≤ 16_777_228) }
+    ensures size { IfOk result (λ bytes. length bytes ≤ blob_limit) }
     ensures damage { IfErr result (StopsAt digest.now) }
 {
     match read(disk, alloc, digest) {

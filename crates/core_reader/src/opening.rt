@@ -7,7 +7,7 @@ ghost use Rattle.core_state.specs.Unreadables.{ActUnreadable};
 ghost use Rattle.core_reader.specs.AnsweredBy.{ActOpens};
 ghost use Rattle.core_reader.specs.Asked.{asked_open};
 
-use core_state::{Parts, Place, Session, Stop, snapshot_named};
+use core_state::{Parts, Place, Session, Stop};
 use disk_trait::Disk;
 use restore_reader::open_reader as reader_of;
 use std::alloc::Global;
@@ -36,7 +36,7 @@ pub fn open_reader<D: Disk>(
     let Ok(key) = SnapshotKey::parse(alloc, snapshot)? else {
         return Err(Stop::Refused(Refusal::BadName));
     };
-    let Some(kept) = snapshot_named(&parts.catalogue, &key) else {
+    let Some(kept) = parts.catalogue.named(&key) else {
         return Err(Stop::Refused(Refusal::NoSnapshot));
     };
     if let Some(name) = &kept.unreadable {

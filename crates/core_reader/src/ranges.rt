@@ -11,7 +11,6 @@ ghost use Rattle.core_reader.specs.Planned.{PlansShown, StopsRange};
 ghost use Rattle.core_reader.specs.ReaderActs.{RangeDoes, RangeLeaves};
 
 use crate::loading::read_parts;
-use crate::lookups::has_file;
 use core_state::{Parts, Place, Stop};
 use disk_trait::Disk;
 use restore_reader::Part;
@@ -52,7 +51,7 @@ fn range_plan<D>(
     let Some(name) = index_name(alloc, file)? else {
         return Err(Stop::Refused(Refusal::BadName));
     };
-    if !has_file(&parts.catalogue, reader.key(), &name) {
+    if parts.catalogue.path(reader.key(), &name).is_none() {
         return Err(Stop::Refused(Refusal::NoFile));
     }
     let plan = reader.range_plan(alloc, &name, offset, length)??;

@@ -11,7 +11,6 @@ ghost use Rattle.core_reader.specs.Asked.{GivesPlace, asked_entry, asked_part};
 ghost use Rattle.core_reader.specs.Damages.{ActDamaged};
 
 use crate::loading::read_bytes;
-use crate::lookups::path_in_snapshot;
 use core_state::{Parts, Place, Stop};
 use disk_trait::Disk;
 use snapshot_files::{read_entry, read_part};
@@ -29,7 +28,7 @@ fn path_of<D>(parts: &Parts<D>, alloc: Global, lane: u32, name: &FileName) -> Re
 {
     let _ = name.as_slice();
     let reader = parts.reader(lane)?;
-    let Some(path) = path_in_snapshot(&parts.catalogue, reader.key(), name) else {
+    let Some(path) = parts.catalogue.path(reader.key(), name) else {
         return Err(Stop::Refused(Refusal::NoFile));
     };
     let path = String::from_str(alloc, path.as_str())?;

@@ -6,7 +6,7 @@ use Rattle.core_state.specs.declared.parts.Parts.{Parts}
 use Rattle.core_state.specs.Locked.{Locked}
 use Rattle.core_state.specs.Holds.{Shows, IsOnDisk, Holds}
 
-pub shows_same : {D : Type 0} (old new : Parts D) (s : Store) → new.catalogue.items ≡ old.catalogue.items → new.sessions.items ≡ old.sessions.items → new.locks ≡ old.locks → Shows old s → Shows new s
+pub shows_same : {D : Type 0} (old new : Parts D) (s : Store) → new.catalogue.listed ≡ old.catalogue.listed → new.sessions.items ≡ old.sessions.items → new.locks ≡ old.locks → Shows old s → Shows new s
 shows_same old new s c l k h = record {
   catalogue = ap (λ items. map (λ x. x.kept) items) c ∙ h.catalogue;
   sessions = l ∙ h.sessions;
@@ -15,7 +15,7 @@ shows_same old new s c l k h = record {
 }
 
 module _ {D : Type 0} (g : Ghosts D) where
-  pub holds_same : (old new : Parts D) (s : Store) → (g.honest old.disk ↔ g.honest new.disk) → (g.honest old.disk → g.content new.disk ≡ g.content old.disk) → new.catalogue.items ≡ old.catalogue.items → new.sessions.items ≡ old.sessions.items
+  pub holds_same : (old new : Parts D) (s : Store) → (g.honest old.disk ↔ g.honest new.disk) → (g.honest old.disk → g.content new.disk ≡ g.content old.disk) → new.catalogue.listed ≡ old.catalogue.listed → new.sessions.items ≡ old.sessions.items
       → new.locks ≡ old.locks → Holds g old s → Holds g new s
   holds_same old new s kept same c l k h = record {
     honest = kept.0 h.honest;

@@ -277,8 +277,8 @@ module _ {D E C : Type 0} (d : Ghosts D) (clock : clocks.Ghosts C) where
         crash = λ _. inl same;
         passed_its_tests = λ _ told. absurd (fine (refusal_is refusal DiskFault (sym is ∙ told)));
         firm = λ _. undone answer refusal is;
-        listed = ap (λ p. p.catalogue.items) parts ∙ sym (ap (λ r. listed_by act r answer.place (session_at old.parts lane) (old.parts).catalogue.items) is
-            ∙ unlisted act refusal answer.place (session_at old.parts lane) (old.parts).catalogue.items);
+        listed = ap (λ p. p.catalogue.listed) parts ∙ sym (ap (λ r. listed_by act r answer.place (session_at old.parts lane) (old.parts).catalogue.listed) is
+            ∙ unlisted act refusal answer.place (session_at old.parts lane) (old.parts).catalogue.listed);
         admin = λ _. (ap (λ p. p.sessions.items) parts, ap (λ p. p.locks) parts);
         ended = λ _. undone answer refusal is;
         halted = where_some _ _ (refused_same d clock.readings old new lane answer refuses);
@@ -395,10 +395,10 @@ module _ {D E C : Type 0} (d : Ghosts D) (clock : clocks.Ghosts C) where
         firm = λ _ done. subst (λ p. IsFirm d (old.parts).disk p.disk (change_at old.parts at.lane act)) (sym settles.parts)
             (subst (λ p. IsFirm d p.disk (acted.parts).disk (change_at p at.lane act)) before
             (done_told _ result leaves.firm (if_plain answer.reply _ reply done)));
-        listed = ap (λ p. p.catalogue.items) settles.parts ∙ leaves.listed
-            ∙ ap (λ p. listed_by act (Some (reply_by (told result))) at.number (session_at p at.lane) p.catalogue.items) before
-            ∙ ap (λ n. listed_by act (Some (reply_by (told result))) n (session_at old.parts at.lane) (old.parts).catalogue.items) (number ∙ sym (settles.place ∙ ap (λ j. length j.entries.items) rest.journal))
-            ∙ ap (λ r. listed_by act r answer.place (session_at old.parts at.lane) (old.parts).catalogue.items) (sym reply);
+        listed = ap (λ p. p.catalogue.listed) settles.parts ∙ leaves.listed
+            ∙ ap (λ p. listed_by act (Some (reply_by (told result))) at.number (session_at p at.lane) p.catalogue.listed) before
+            ∙ ap (λ n. listed_by act (Some (reply_by (told result))) n (session_at old.parts at.lane) (old.parts).catalogue.listed) (number ∙ sym (settles.place ∙ ap (λ j. length j.entries.items) rest.journal))
+            ∙ ap (λ r. listed_by act r answer.place (session_at old.parts at.lane) (old.parts).catalogue.listed) (sym reply);
         admin = λ is. (ap (λ p. p.sessions.items) settles.parts ∙ (leaves.admin (step_still act step is)).0 ∙ ap (λ p. p.sessions.items) before, ap (λ p. p.locks) settles.parts ∙ (leaves.admin (step_still act step is)).1 ∙ ap (λ p. p.locks) before);
         ended = λ ends done. ap (λ p. session_at p at.lane) settles.parts ∙ done_told _ result (leaves.ended ends) (if_plain answer.reply _ reply done);
         halted = where_none _ _ ready.no_fault;

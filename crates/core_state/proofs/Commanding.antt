@@ -443,17 +443,17 @@ module _ {D : Type 0} (d : Ghosts D) where
   ok_firm old new change (Ok reply) is = stays_firm old new change is
   ok_firm old new change (Err stop) is = tt
 
-  listed_so : (old new : Parts D) (at : Place) (act : Act) (result : Result Reply Stop) → new.catalogue.items ≡ old.catalogue.items
-      → IfOk result (λ reply. listed_by act (Some reply) at.number (session_at old at.lane) old.catalogue.items ≡ old.catalogue.items)
-      → new.catalogue.items ≡ listed_by act (Some (reply_by (told result))) at.number (session_at old at.lane) old.catalogue.items
+  listed_so : (old new : Parts D) (at : Place) (act : Act) (result : Result Reply Stop) → new.catalogue.listed ≡ old.catalogue.listed
+      → IfOk result (λ reply. listed_by act (Some reply) at.number (session_at old at.lane) old.catalogue.listed ≡ old.catalogue.listed)
+      → new.catalogue.listed ≡ listed_by act (Some (reply_by (told result))) at.number (session_at old at.lane) old.catalogue.listed
   listed_so old new at act (Ok reply) same is = same ∙ sym is
-  listed_so old new at act (Err stop) same is = same ∙ sym (unlisted_by act stop at.number (session_at old at.lane) old.catalogue.items)
+  listed_so old new at act (Err stop) same is = same ∙ sym (unlisted_by act stop at.number (session_at old at.lane) old.catalogue.listed)
 
   -- What an act that changed nothing must show beside that, where it was done: it is one that changes nothing.
   pub record DoneIdly (old : Parts D) (at : Place) (act : Act) (reply : Reply) : Type 0 where
     pub plain : IsNoRefusal reply
     pub change : change_at old at.lane act ≡ stays
-    pub listed : listed_by act (Some reply) at.number (session_at old at.lane) old.catalogue.items ≡ old.catalogue.items
+    pub listed : listed_by act (Some reply) at.number (session_at old at.lane) old.catalogue.listed ≡ old.catalogue.listed
     pub goes_on : ends_session act ≡ false
     pub writes : leaves_writer act ≡ true → is_writer (session_at old at.lane) ≡ true
 
@@ -466,7 +466,7 @@ module _ {D : Type 0} (d : Ghosts D) where
   changes_none old at act (Err stop) idly = tt
 
   lists_none : (old : Parts D) (at : Place) (act : Act) (result : Result Reply Stop) → IfOk result (DoneIdly old at act)
-      → IfOk result (λ reply. listed_by act (Some reply) at.number (session_at old at.lane) old.catalogue.items ≡ old.catalogue.items)
+      → IfOk result (λ reply. listed_by act (Some reply) at.number (session_at old at.lane) old.catalogue.listed ≡ old.catalogue.listed)
   lists_none old at act (Ok reply) idly = idly.listed
   lists_none old at act (Err stop) idly = tt
 
@@ -673,7 +673,7 @@ module _ {D : Type 0} (d : Ghosts D) where
   }
 
   pub changed_leaves : (old new : Parts D) (at : Place) (act : Act) (reply : Reply) → new.disk ≡ old.disk → IsNoRefusal reply → change_at old at.lane act ≡ stays
-      → new.catalogue.items ≡ listed_by act (Some reply) at.number (session_at old at.lane) old.catalogue.items
+      → new.catalogue.listed ≡ listed_by act (Some reply) at.number (session_at old at.lane) old.catalogue.listed
       → is_still act ≡ false → (ends_session act ≡ true → session_at new at.lane ≡ Idle) → (leaves_writer act ≡ true → is_writer (session_at new at.lane) ≡ true)
       → ActLeaves d old new at act (Ok reply)
   changed_leaves old new at act reply same plain change listed other ended writes =
@@ -713,14 +713,14 @@ module _ {D : Type 0} (d : Ghosts D) where
   pub writes_leaves : (old new : Parts D) (at : Place) (act : Act) (reply : Reply) → IsNoRefusal reply → calls_no_disk act ≡ false
       → (d.honest old.disk → d.content new.disk ≡ after (change_at old at.lane act) (d.content old.disk))
       → LeavesChange d old.disk new.disk (change_at old at.lane act) → IsFirm d old.disk new.disk (change_at old at.lane act)
-      → new.catalogue.items ≡ listed_by act (Some reply) at.number (session_at old at.lane) old.catalogue.items
+      → new.catalogue.listed ≡ listed_by act (Some reply) at.number (session_at old at.lane) old.catalogue.listed
       → (is_still act ≡ true → (new.sessions.items ≡ old.sessions.items) × (new.locks ≡ old.locks))
       → Adds d old new act (Ok reply) → (ends_session act ≡ true → session_at new at.lane ≡ Idle) → (leaves_writer act ≡ true → is_writer (session_at new at.lane) ≡ true)
       → ActLeaves d old new at act (Ok reply)
   writes_leaves old new at act reply plain called content crash firm listed admin adds ended writes = record {
     unchanged = done_unchanged old new reply plain;
     no_disk_call = λ no_disk_call. absurd (false_true (sym called ∙ no_disk_call));
-    reads = λ only h. content h ∙ ap (λ change. after change (d.content old.disk)) (reads_stay act (session_at old at.lane) old.catalogue.items only);
+    reads = λ only h. content h ∙ ap (λ change. after change (d.content old.disk)) (reads_stay act (session_at old at.lane) old.catalogue.listed only);
     content = λ _. content;
     crash = crash;
     firm = firm;
@@ -783,7 +783,7 @@ module _ {D : Type 0} (d : Ghosts D) where
         content = λ _. same was;
         crash = unmoved was;
         firm = tt;
-        listed = kept.catalogue ∙ sym (unlisted_by act NoMemory at.number (session_at old at.lane) old.catalogue.items);
+        listed = kept.catalogue ∙ sym (unlisted_by act NoMemory at.number (session_at old at.lane) old.catalogue.listed);
         admin = λ _. (kept.sessions, kept.locks);
         adds = adds_same d old new act (told (Err NoMemory)) (same was);
         passed_its_tests = λ f. absurd (not_memory f);
@@ -798,7 +798,7 @@ module _ {D : Type 0} (d : Ghosts D) where
         content = λ fine. absurd (fine refl);
         crash = crash;
         firm = tt;
-        listed = kept.catalogue ∙ sym (unlisted_by act DiskFailed at.number (session_at old at.lane) old.catalogue.items);
+        listed = kept.catalogue ∙ sym (unlisted_by act DiskFailed at.number (session_at old at.lane) old.catalogue.listed);
         admin = λ _. (kept.sessions, kept.locks);
         adds = λ s h. tt;
         passed_its_tests = λ _. passed_its_tests;

@@ -21,6 +21,7 @@ use Rattle.store_model.specs.Stands.{IsSnapshot}
 use Rattle.store_model.specs.Store.{Store, Writer, Outcome, none, writer, session, with_session, insert_snapshot}
 use Rattle.store_model.specs.WriterSteps.{snapshot_of, finish}
 use Rattle.store_model.specs.Steps.{outcome}
+use Rattle.store_model.specs.Done.{finished}
 use Rattle.store_model.proofs.Done.{done}
 use Rattle.store_model.proofs.FileInsertions.{only_named}
 use Rattle.store_model.proofs.ListingLemmas.{listing_lists}
@@ -104,9 +105,6 @@ no_listing key files m absent is = by_data (manifest_data files) (ap data_in abs
     by_data (Some bytes) e f = cc
 
 -- ---- the step
-
-abbrev pub finished : Store → ℕ → Writer → Store
-finished s lane w = record (with_session s lane none) { snapshots = insert_snapshot (snapshot_of w) s.snapshots }
 
 -- it is refused, or the lane's writer passes the check
 pub data FinishIs (s : Store) (lane : ℕ) : Type 0 where

@@ -88,7 +88,7 @@ module _ {D E C : Type 0} (d : Ghosts D) (clock : clocks.Ghosts C) where
     passed_its_tests = λ _ _ s h. tt;
     firm = λ _ _. subst (λ p. IsFirm d (old.parts).disk p.disk (change_at old.parts at.lane End)) (sym entered.parts)
         (subst (λ p. IsFirm d p.disk (acted.parts).disk (change_at p at.lane End)) next.parts leaves.firm);
-    listed = ap (λ p. p.catalogue.items) entered.parts ∙ leaves.listed ∙ ap (λ p. p.catalogue.items) next.parts;
+    listed = ap (λ p. p.catalogue.listed) entered.parts ∙ leaves.listed ∙ ap (λ p. p.catalogue.listed) next.parts;
     admin = λ is. absurd (false_true is);
     ended = λ _ _. ap (λ p. session_at p at.lane) entered.parts ∙ leaves.ended refl;
     halted = where_none _ _ none;
@@ -158,7 +158,7 @@ module _ {D E C : Type 0} (d : Ghosts D) (clock : clocks.Ghosts C) where
         (subst (λ p. LeavesChange d p.disk (acted.parts).disk (change_at p at.lane End)) next.parts leaves.crash));
     passed_its_tests = λ _ _ s h. tt;
     firm = λ _. undone answer DiskFault settles.reply_is;
-    listed = ap (λ p. p.catalogue.items) settles.parts ∙ leaves.listed ∙ ap (λ p. p.catalogue.items) next.parts;
+    listed = ap (λ p. p.catalogue.listed) settles.parts ∙ leaves.listed ∙ ap (λ p. p.catalogue.listed) next.parts;
     admin = λ is. absurd (false_true is);
     ended = λ _. undone answer DiskFault settles.reply_is;
     halted = where_none _ _ none;
@@ -216,7 +216,7 @@ module _ {D E C : Type 0} (d : Ghosts D) (clock : clocks.Ghosts C) where
   -- after a fault its session ends without a call of the disk
 
   end_halted_kept_at : (old mid acted new : Core D E C) (at : Place) (first : ℕ) (answer : Answer) → old.fault ≡ Some first → IsNext clock.readings old mid at.lane at → SameRest mid acted at.moment End None
-      → (acted.parts).disk ≡ (mid.parts).disk → (acted.parts).catalogue.items ≡ (mid.parts).catalogue.items → session_at acted.parts at.lane ≡ Idle
+      → (acted.parts).disk ≡ (mid.parts).disk → (acted.parts).catalogue.listed ≡ (mid.parts).catalogue.listed → session_at acted.parts at.lane ≡ Idle
       → IsEntered d acted new at.lane at.moment 6 None answer → ActKeeps d old new at.lane End answer
   end_halted_kept_at old mid acted new at first answer some next rest same catalogue idle entered =
       let still = ap (λ p. p.disk) entered.parts ∙ same ∙ ap (λ p. p.disk) next.parts in record {
@@ -227,7 +227,7 @@ module _ {D E C : Type 0} (d : Ghosts D) (clock : clocks.Ghosts C) where
         crash = λ _. inl still;
         passed_its_tests = λ _ _ s h. tt;
         firm = λ none. absurd (none_some first (sym some ∙ none));
-        listed = ap (λ p. p.catalogue.items) entered.parts ∙ catalogue ∙ ap (λ p. p.catalogue.items) next.parts;
+        listed = ap (λ p. p.catalogue.listed) entered.parts ∙ catalogue ∙ ap (λ p. p.catalogue.listed) next.parts;
         admin = λ is. absurd (false_true is);
         ended = λ _ _. ap (λ p. session_at p at.lane) entered.parts ∙ idle;
         halted = where_some _ _ still;
@@ -241,7 +241,7 @@ module _ {D E C : Type 0} (d : Ghosts D) (clock : clocks.Ghosts C) where
       }
 
   end_halted_at : (old mid acted new : Core D E C) (at : Place) (first : ℕ) (answer : Answer) → at.lane < 64 → old.fault ≡ Some first → IsNext clock.readings old mid at.lane at → SameRest mid acted at.moment End None
-      → (acted.parts).disk ≡ (mid.parts).disk → (acted.parts).catalogue.items ≡ (mid.parts).catalogue.items → session_at acted.parts at.lane ≡ Idle → ((s : Store) → Shows mid.parts s → Shows acted.parts (ended_store s at.lane))
+      → (acted.parts).disk ≡ (mid.parts).disk → (acted.parts).catalogue.listed ≡ (mid.parts).catalogue.listed → session_at acted.parts at.lane ≡ Idle → ((s : Store) → Shows mid.parts s → Shows acted.parts (ended_store s at.lane))
       → IsEntered d acted new at.lane at.moment 6 None answer → ActApplies d clock old new at.lane End answer
   end_halted_at old mid acted new at first answer lt some next rest same catalogue idle shows entered =
       let begun = next_begun clock.readings old mid at.lane at next in
@@ -266,14 +266,14 @@ module _ {D E C : Type 0} (d : Ghosts D) (clock : clocks.Ghosts C) where
           (subst d.honest (sym (same ∙ ap (λ p. p.disk) next.parts)) s.honest) (shows (world h).store (subst (λ p. Shows p (world h).store) (sym next.parts) s.shows)) entered
 
   pub end_halted_applies : (old mid acted new : Core D E C) (lane : ℕ) (at : Place) (first : ℕ) (answer : Answer) → lane < 64 → old.fault ≡ Some first → IsNext clock.readings old mid lane at → SameRest mid acted at.moment End None
-      → (acted.parts).disk ≡ (mid.parts).disk → (acted.parts).catalogue.items ≡ (mid.parts).catalogue.items → session_at acted.parts at.lane ≡ Idle → ((s : Store) → Shows mid.parts s → Shows acted.parts (ended_store s at.lane))
+      → (acted.parts).disk ≡ (mid.parts).disk → (acted.parts).catalogue.listed ≡ (mid.parts).catalogue.listed → session_at acted.parts at.lane ≡ Idle → ((s : Store) → Shows mid.parts s → Shows acted.parts (ended_store s at.lane))
       → IsEntered d acted new at.lane at.moment 6 None answer → ActApplies d clock old new lane End answer
   end_halted_applies old mid acted new lane at first answer lt some next rest same catalogue idle shows entered =
       subst (λ l. ActApplies d clock old new l End answer) next.lane_is
       (end_halted_at old mid acted new at first answer (subst (λ l. l < 64) (sym next.lane_is) lt) some (next_at old mid lane at next) rest same catalogue idle shows entered)
 
   pub end_halted_keeps_all : (old mid acted new : Core D E C) (lane : ℕ) (at : Place) (first : ℕ) (answer : Answer) → old.fault ≡ Some first → IsNext clock.readings old mid lane at → SameRest mid acted at.moment End None
-      → (acted.parts).disk ≡ (mid.parts).disk → (acted.parts).catalogue.items ≡ (mid.parts).catalogue.items → session_at acted.parts at.lane ≡ Idle
+      → (acted.parts).disk ≡ (mid.parts).disk → (acted.parts).catalogue.listed ≡ (mid.parts).catalogue.listed → session_at acted.parts at.lane ≡ Idle
       → IsEntered d acted new at.lane at.moment 6 None answer → ActKeeps d old new lane End answer
   end_halted_keeps_all old mid acted new lane at first answer some next rest same catalogue idle entered =
       subst (λ l. ActKeeps d old new l End answer) next.lane_is

@@ -301,7 +301,7 @@ pub others_kept : {D E C : Type 0} (d : Ghosts D) (old new : Core D E C) (s : St
 others_kept d old new s lane place act answer lt shows honest fault cause keeps no_step none q no_file chunk =
     let before = no_fault_before place (answer.entry).kind old.fault (sym fault ∙ none) in
     let has : MissesFiles q (session_at old.parts lane) = subst (MissesFiles q) (sym (session_shown old.parts s lane shows lt)) (missed_shown q no_file (session s lane) s.snapshots) in
-    let miss = missed_reply q (change_at old.parts lane act) answer.reply (missed_change q no_file act (session_at old.parts lane) (old.parts).catalogue.items chunk has) in
+    let miss = missed_reply q (change_at old.parts lane act) answer.reply (missed_change q no_file act (session_at old.parts lane) (old.parts).catalogue.listed chunk has) in
     ap (λ m. get m q) (keeps.content no_step before (not_faulted d old new act answer cause none) honest)
     ∙ missed_after (by_reply (change_at old.parts lane act) answer.reply) (d.content (old.parts).disk) q miss
 

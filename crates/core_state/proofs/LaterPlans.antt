@@ -19,8 +19,9 @@ use Rattle.store_model.specs.AdminSteps.{forget}
 use Rattle.store_model.specs.Lanes.{Collecting}
 use Rattle.store_model.specs.Steps.{answered, outcome}
 use Rattle.store_model.specs.Store as model
-use Rattle.store_model.specs.Store.{Outcome, insert_snapshot, session, snapshot_named, without_snapshot}
+use Rattle.store_model.specs.Store.{Outcome, insert_snapshot, session, without_snapshot}
 use Rattle.store_model.specs.WriterSteps.{finish, snapshot_of}
+use Rattle.store_model.specs.Done.{finished}
 use Rattle.store_model.proofs.StandsLemmas.{different}
 use Rattle.snapshot_files.proofs.Removals.{named-without}
 use Rattle.gc_plan.specs.Plan.{Stage, marking, sweeping as visiting, index_in, next_index}
@@ -51,7 +52,7 @@ use Rattle.core_state.specs.Shown.{shown_session, shown_snapshot, shown_writer}
 use Rattle.core_state.specs.Sweeps.{AreEntries, HasEntries, HasNumber, ShowsOpen, ShowsSweep, kept_at, unmarked_by}
 use Rattle.core_state.specs.Wanted.{session_at}
 use Rattle.core_state.proofs.Commanding.{session_shown}
-use Rattle.core_state.proofs.Completing.{FinishIs, fails as finish_fails, finish_is, finished, gives as finish_gives}
+use Rattle.core_state.proofs.Completing.{FinishIs, fails as finish_fails, finish_is, gives as finish_gives}
 use Rattle.core_state.proofs.Entered.{world_more}
 use Rattle.core_state.proofs.OnDisk.{fresh}
 use Rattle.core_state.proofs.Planned.{IsNewKey, digests_as, keep_unless, kept_forgotten, kept_inserted}
@@ -270,7 +271,7 @@ module _ {D E C : Type 0} (d : Ghosts D) (clock : clocks.Ghosts C) (old new : Co
   acts = length (old.journal).entries.items
 
   abbrev c : List Listed
-  c = (old.parts).catalogue.items
+  c = (old.parts).catalogue.listed
 
   abbrev snapshots : List Snapshot
   snapshots = (w.store).snapshots
@@ -285,13 +286,13 @@ module _ {D E C : Type 0} (d : Ghosts D) (clock : clocks.Ghosts C) (old new : Co
   record IsKnown (act : Act) : Type 0 where
     pub inside : (answer.entry).lane < 64
     pub formed : IsWellFormed act
-    pub listed : (new.parts).catalogue.items ≡ listed_by act answer.reply acts (session_at old.parts k) c
+    pub listed : (new.parts).catalogue.listed ≡ listed_by act answer.reply acts (session_at old.parts k) c
     pub shows : Shows old.parts w.store
     pub right : Right h.remote w k m act answer.reply (class_of act) (kind_of n)
     pub numbers : AreNumbered acts c
 
   abbrev Sifted : Act → Type 0
-  Sifted act = Sifts acts c (new.parts).catalogue.items snapshots (next act) (spares act answer.reply)
+  Sifted act = Sifts acts c (new.parts).catalogue.listed snapshots (next act) (spares act answer.reply)
 
   next_is : (act : Act) → next act ≡ ((moved h.remote w k m act (kind_of n)).store).snapshots
   unfolding after
@@ -305,7 +306,7 @@ module _ {D E C : Type 0} (d : Ghosts D) (clock : clocks.Ghosts C) (old new : Co
   others : (act : Act) → IsKnown act → moves_manifest act ≡ false → listed_by act answer.reply acts (session_at old.parts k) c ≡ c
       → ((u : Unmarked) → spares act answer.reply u ≡ true) → Sifted act
   others act f off none all =
-      sifts_all acts c (new.parts).catalogue.items snapshots (next act) (spares act answer.reply) (f.listed ∙ none) (next_is act ∙ moved_keeps h.remote w k m act (kind_of n) f.formed off) all
+      sifts_all acts c (new.parts).catalogue.listed snapshots (next act) (spares act answer.reply) (f.listed ∙ none) (next_is act ∙ moved_keeps h.remote w k m act (kind_of n) f.formed off) all
 
   -- ---- a FINISH
 
@@ -314,7 +315,7 @@ module _ {D E C : Type 0} (d : Ghosts D) (clock : clocks.Ghosts C) (old new : Co
 
   unfinished : IsKnown fin → (r : Refusal) → answer.reply ≡ Some (replies.Refused r) → (moved h.remote w k m fin (kind_of n)).store ≡ w.store → Sifted fin
   unfinished f r told store =
-      sifts_all acts c (new.parts).catalogue.items snapshots (next fin) (spares fin answer.reply)
+      sifts_all acts c (new.parts).catalogue.listed snapshots (next fin) (spares fin answer.reply)
       (f.listed ∙ ap (λ o. closed_by o acts (session_at old.parts k) c) told) (next_is fin ∙ ap (λ (v : model.Store). v.snapshots) store) (λ u. refl)
 
   finish_out : act_outcome h.remote w k m fin ≡ finish w.store k
@@ -327,7 +328,7 @@ module _ {D E C : Type 0} (d : Ghosts D) (clock : clocks.Ghosts C) (old new : Co
       let sound = (f.shows).sound in
       let was = session_shown old.parts w.store k f.shows f.inside ∙ ap (shown_session snapshots) at in
       let added : Listed = listed_of acts (shown_writer v) in
-      let listed : (new.parts).catalogue.items ≡ insert_listed added c = f.listed ∙ ap (λ o. closed_by o acts (session_at old.parts k) c) told ∙ ap (λ x. closed acts x c) was in
+      let listed : (new.parts).catalogue.listed ≡ insert_listed added c = f.listed ∙ ap (λ o. closed_by o acts (session_at old.parts k) c) told ∙ ap (λ x. closed acts x c) was in
       let then_is : next fin ≡ insert_snapshot (snapshot_of v) snapshots = next_is fin ∙ ap (λ (x : model.Store). x.snapshots) store in
       let apart : All (λ (q : Kept). q.key ≢ v.key) (map (λ x. x.kept) c) =
       All-same (λ (q : Kept). q.key ≢ v.key) (map (λ x. x.kept) c) (map shown_snapshot snapshots) (f.shows).catalogue
@@ -357,12 +358,12 @@ module _ {D E C : Type 0} (d : Ghosts D) (clock : clocks.Ghosts C) (old new : Co
 
     unforgotten : (r : Refusal) → answer.reply ≡ Some (replies.Refused r) → (moved h.remote w k m gone (kind_of n)).store ≡ w.store → Sifted gone
     unforgotten r told store =
-        sifts_all acts c (new.parts).catalogue.items snapshots (next gone) (spares gone answer.reply)
+        sifts_all acts c (new.parts).catalogue.listed snapshots (next gone) (spares gone answer.reply)
         (f.listed ∙ ap (λ o. forgotten_by text o c) told) (next_is gone ∙ ap (λ (v : model.Store). v.snapshots) store) (λ u. ap (λ o. spares gone o u) told)
 
     forgotten_now : (key : SnapshotKey) → key_of text ≡ Some key → answer.reply ≡ Some replies.Done → (moved h.remote w k m gone (kind_of n)).store ≡ forgot w.store key → Sifted gone
     forgotten_now key named told store =
-        let listed : (new.parts).catalogue.items ≡ without_listed key c = f.listed ∙ ap (λ o. forgotten_by text o c) told ∙ ap (λ o. without_named o c) named in
+        let listed : (new.parts).catalogue.listed ≡ without_listed key c = f.listed ∙ ap (λ o. forgotten_by text o c) told ∙ ap (λ o. without_named o c) named in
         let then_is : next gone ≡ without_snapshot key snapshots = next_is gone ∙ ap (λ (v : model.Store). v.snapshots) store in
         let test : (u : Unmarked) → not (same_key u.key key) ≡ spares gone answer.reply u =
         λ u. sym (ap (λ o. spares gone o u) told ∙ ap (λ o. not (names_key o u.key)) named) in
@@ -389,7 +390,7 @@ module _ {D E C : Type 0} (d : Ghosts D) (clock : clocks.Ghosts C) (old new : Co
 pub plans_more : {D E C : Type 0} (d : Ghosts D) (clock : clocks.Ghosts C) (old new : Core D E C) (lane : ℕ) (act : Act) (answer : Answer) (h : History) → lane < 64 → IsWellFormed act
     → IsAnswered d old new lane answer → ActKeeps d old new lane act answer → is_step act ≡ false → new.collector ≡ collector_by (answer.entry).kind lane old.collector
     → ((answer.entry).kind ≡ START_KIND → ⊥) → StandsFor d clock.readings old h → StandsFor d clock.readings new (then_event h (event_of act answer (d.calls (new.parts).disk))) → KeepsTouches d old h
-    → ShowsOpen (length (new.journal).entries.items) (new.parts).catalogue.items (world (then_event h (event_of act answer (d.calls (new.parts).disk)))).store.snapshots new.collector
+    → ShowsOpen (length (new.journal).entries.items) (new.parts).catalogue.listed (world (then_event h (event_of act answer (d.calls (new.parts).disk)))).store.snapshots new.collector
     (swept_of (then_event h (event_of act answer (d.calls (new.parts).disk)))).sweep
 plans_more d clock old new lane act answer h lt formed answers keeps unstepped collector opens_none s so touches = by_open new.collector refl
   where
@@ -400,10 +401,10 @@ plans_more d clock old new lane act answer h lt formed answers keeps unstepped c
     was = length (old.journal).entries.items
 
     c : List Listed
-    c = (old.parts).catalogue.items
+    c = (old.parts).catalogue.listed
 
     c2 : List Listed
-    c2 = (new.parts).catalogue.items
+    c2 = (new.parts).catalogue.listed
 
     first : List Snapshot
     first = ((world h).store).snapshots

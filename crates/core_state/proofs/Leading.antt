@@ -1,6 +1,6 @@
 -- What an act leaves of images that stand for the list of now, by the act.
-use Rattle.std.proofs.Common.{◌≡◌, ◌<◌, ◌≤◌, ◌⊎◌, ⊎_elim, inl, inr, ℕ, zero, suc, Bool, true, false, ◌==◌, if◌then◌else◌, map, List, Option, Some, None, Result, Ok, Err, IsOk, refl, sym, ap, subst, ◌∙◌, arith}
-use Rattle.std.specs.Prelude.{IfSome, is_some}
+use Rattle.std.proofs.Common.{◌≡◌, ◌<◌, ◌≤◌, ◌⊎◌, ⊎_elim, inl, inr, ℕ, zero, suc, true, false, ◌==◌, if◌then◌else◌, map, List, Option, Some, None, Result, Ok, Err, IsOk, refl, sym, ap, subst, ◌∙◌, arith}
+use Rattle.std.specs.Prelude.{IfSome}
 use Rattle.disk_trait.specs.Disk.{Now}
 use Rattle.disk_trait.specs.Files.{Files}
 use Rattle.disk_trait.specs.declared.disk.Disk.{Ghosts}
@@ -24,6 +24,7 @@ use Rattle.store_model.specs.Store as model
 use Rattle.store_model.specs.Store.{Store, Outcome, session, insert_snapshot, snapshot_named, without_snapshot}
 use Rattle.store_model.specs.Weave.{fault_refusal}
 use Rattle.store_model.specs.WriterSteps.{finish, snapshot_of}
+use Rattle.store_model.specs.Done.{finished}
 use Rattle.store_history.specs.declared.act.Act.{Act}
 use Rattle.store_history.specs.declared.act.Act.TheVariants.{Plain, Chunk}
 use Rattle.store_history.specs.declared.act.Answer.{Answer}
@@ -36,7 +37,6 @@ use Rattle.chunk_store.specs.Pieces.{with_chunk}
 use Rattle.core_state.specs.declared.kept.Listed.{Listed}
 use Rattle.core_state.specs.declared.kept.Session.{Session}
 use Rattle.core_state.specs.declared.kept.Session.TheVariants.{Idle, Writer, Reader}
-use Rattle.core_state.specs.declared.kept.Writing.{Writing}
 use Rattle.core_state.specs.declared.state.Core.{Core}
 use Rattle.core_state.specs.Applies.{ActKeeps}
 use Rattle.core_state.specs.Changes.{Change, IsFirm, LeavesChange, MayLeave, after, by_reply, change_of, chunk_put, drops, finishes, forgets, installs, stays, stores, undone}
@@ -47,7 +47,7 @@ use Rattle.core_state.specs.Recovers.{TellsMoments}
 use Rattle.core_state.specs.Wanted.{session_at}
 use Rattle.core_state.proofs.Calls.{later}
 use Rattle.core_state.proofs.Commanding.{session_shown}
-use Rattle.core_state.proofs.Completing.{FinishIs, completes, fails as finish_fails, finish_changes, finish_is, finished, gives as finish_gives}
+use Rattle.core_state.proofs.Completing.{FinishIs, completes, fails as finish_fails, finish_changes, finish_is, gives as finish_gives}
 use Rattle.core_state.proofs.Removing.{ForgetIs, are_files, beside, fails as forget_fails, forget_changes, forget_is, forgot, found_key, found_whole, gives as forget_gives}
 use Rattle.core_state.proofs.SameSnapshots.{moves_manifest, next_keeps, next_store}
 use Rattle.core_state.proofs.Sparing.{Spares, spares_all, spares_change, spares_reply, stands_spared}
@@ -235,8 +235,8 @@ module _ {D E C : Type 0} (d : Ghosts D) (told : TellsMoments d) (old new : Core
     leads_other : moves_manifest act ≡ false → spares_all act ≡ true → LeadsTo (next act)
     leads_other off is =
         let spares : Spares now (change_at old.parts k act) =
-        subst (λ x. Spares now (change_of act x (old.parts).catalogue.items)) (sym (session_shown old.parts w.store k (f.holds).shows f.inside))
-        (spares_change w.store k ((f.holds).shows).sound act (old.parts).catalogue.items is) in
+        subst (λ x. Spares now (change_of act x (old.parts).catalogue.listed)) (sym (session_shown old.parts w.store k (f.holds).shows f.inside))
+        (spares_change w.store k ((f.holds).shows).sound act (old.parts).catalogue.listed is) in
         let change = by_reply (change_at old.parts k act) answer.reply in
         leads_same d told (old.parts).disk (new.parts).disk ((n == 5) ≡ false) now (next act) change ((f.keeps).crash f.no) (moves_none off)
         (λ b c may s. stands_spared now change (d.content (old.parts).disk) b c (spares_reply now (change_at old.parts k act) answer.reply spares) may s)
@@ -286,7 +286,7 @@ module _ {D E C : Type 0} (d : Ghosts D) (told : TellsMoments d) (old new : Core
         → next_store R w k (answer.entry).moment gone n ≡ forgot w.store key → LeadsTo (next gone)
     forget_given key x named there all reply store =
         let whole = found_whole now key x (((f.holds).shows).sound).each there in
-        let is = forget_changes text (old.parts).catalogue.items now key x ((f.holds).shows).catalogue named there in
+        let is = forget_changes text (old.parts).catalogue.listed now key x ((f.holds).shows).catalogue named there in
         subst LeadsTo (sym (ap (λ (s : Store). s.snapshots) store ∙ ap (λ q. without_snapshot q now) (sym (found_key now key x there))))
         (leads_forget d told (old.parts).disk (new.parts).disk ((n == 5) ≡ false) now x whole (crash_as gone f _ all is) (firm_as gone f _ is reply))
 
@@ -330,6 +330,6 @@ module _ {D E C : Type 0} (d : Ghosts D) (told : TellsMoments d) (old new : Core
   leads (Plain Finish) f = by_finish f (finish_is w.store k) (came_to R w k (answer.entry).moment fin answer.reply n f.none_there f.right)
   leads (Plain (Forget text)) f = by_forget text f (forget_is w.store k text) (came_to R w k (answer.entry).moment (Plain (Forget text)) answer.reply n f.none_there f.right)
   leads (Chunk digest checked) f =
-      by_change digest checked f (chunk_change digest checked (session_at old.parts k) (old.parts).catalogue.items answer.reply)
+      by_change digest checked f (chunk_change digest checked (session_at old.parts k) (old.parts).catalogue.listed answer.reply)
       (came_to R w k (answer.entry).moment (Chunk digest checked) answer.reply n f.none_there f.right)
   leads act f = leads_other act f refl refl

@@ -6,6 +6,8 @@ pub mod Answered
 pub mod Started
 pub mod Ended
 pub mod NamedLemmas
+pub mod Places
+pub mod CatalogueLemmas
 pub mod Reserves
 pub mod Sessions
 pub mod LockLemmas

@@ -1,5 +1,5 @@
 -- What has a text, and keeps it.
-use Rattle.std.proofs.Common.{◌≡◌, ◌<◌, ◌∙◌, ℕ, zero, suc, Bool, true, false, not, Option, Some, None, length, get_or, set, List, [], ◌∷◌, refl, ap, arith}
+use Rattle.std.proofs.Common.{◌≡◌, ◌<◌, ◌∙◌, ℕ, zero, suc, Bool, true, false, not, ◌&&◌, Option, Some, None, length, get_or, set, List, [], ◌∷◌, refl, ap, arith}
 use Rattle.std.proofs.lemmas.Bool.{and_parts, and_from, leb-true, le-leb}
 use Rattle.std.specs.Prelude.{nat_le, is_some}
 use Rattle.std.specs.List.{list_all}
@@ -16,6 +16,10 @@ is_key k h = let both = and_parts (is_id k.id) (nat_le k.time last_moment) h in 
 
 pub key_text_is : (k : SnapshotKey) → IsKey k → has_text k ≡ true
 key_text_is k h = and_from (is_id k.id) (nat_le k.time last_moment) h.0 (le-leb k.time last_moment h.1)
+
+-- of a snapshot that nothing makes damaged
+pub whole_named : (k : SnapshotKey) → IsKey k → (has_text k && true) ≡ true
+whole_named k h = and_from (has_text k) true (key_text_is k h) refl
 
 pub list_all-set : {A : Type 0} (p : A → Bool) (xs : List A) (i : ℕ) (x : A) → list_all p xs ≡ true → p x ≡ true → list_all p (set xs i x) ≡ true
 list_all-set p [] i x h is = refl

@@ -54,15 +54,15 @@ fault_more place fault (v ∷ h) e =
 
 pub numbers_more : {D E C : Type 0} (old new : Core D E C) (lane : ℕ) (act : Act) (answer : Answer)
     → answer.place ≡ length (old.journal).entries.items → (new.journal).entries.items ≡ (old.journal).entries.items ++ answer.entry ∷ [] → Lists old new lane act answer
-    → AreNumbered (length (old.journal).entries.items) (old.parts).catalogue.items → AreNumbered (length (new.journal).entries.items) (new.parts).catalogue.items
+    → AreNumbered (length (old.journal).entries.items) (old.parts).catalogue.listed → AreNumbered (length (new.journal).entries.items) (new.parts).catalogue.listed
 numbers_more old new lane act answer place entered lists numbers =
     let was = length (old.journal).entries.items in
     let few : was < 2 ^ 63 = omega (arith, (old.journal).entries.ok.0, (old.journal).entries.ok.1, (old.journal).entries.small) in
     let count : length (new.journal).entries.items ≡ was + 1 = let n = ap length entered in omega (arith, n, length-append (old.journal).entries.items (answer.entry ∷ [])) in
-    let items : (new.parts).catalogue.items ≡ listed_by act answer.reply was (session_at old.parts lane) (old.parts).catalogue.items =
-    lists ∙ ap (λ n. listed_by act answer.reply n (session_at old.parts lane) (old.parts).catalogue.items) place in
-    subst (λ n. AreNumbered n (new.parts).catalogue.items) (sym count)
-    (subst (AreNumbered (was + 1)) (sym items) (numbered_by was few (old.parts).catalogue.items numbers act answer.reply (session_at old.parts lane)))
+    let items : (new.parts).catalogue.listed ≡ listed_by act answer.reply was (session_at old.parts lane) (old.parts).catalogue.listed =
+    lists ∙ ap (λ n. listed_by act answer.reply n (session_at old.parts lane) (old.parts).catalogue.listed) place in
+    subst (λ n. AreNumbered n (new.parts).catalogue.listed) (sym count)
+    (subst (AreNumbered (was + 1)) (sym items) (numbered_by was few (old.parts).catalogue.listed numbers act answer.reply (session_at old.parts lane)))
 
 pub records_more : {D E C : Type 0} (d : Ghosts D) (readings : C → Option Readings) (old new : Core D E C) (lane : ℕ) (act : Act) (answer : Answer) (h : History)
     → IsAnswered d old new lane answer → IsTimely readings old new answer → FitsKind (class_of act) old.fault (answer.entry).kind

@@ -218,7 +218,7 @@ module _ {D E C : Type 0} (d : Ghosts D) (e : Ghosts E) (clock : clocks.Ghosts C
         crash = λ _. inl same;
         passed_its_tests = λ _ _ s h. remote_passes s k act remotes;
         firm = λ _ _. subst (IsFirm d (old.parts).disk (new.parts).disk) (sym change) tt;
-        listed = ap (λ p. p.catalogue.items) parts ∙ sym (remote_lists answer.reply answer.place (session_at old.parts k) (old.parts).catalogue.items act remotes);
+        listed = ap (λ p. p.catalogue.listed) parts ∙ sym (remote_lists answer.reply answer.place (session_at old.parts k) (old.parts).catalogue.listed act remotes);
         admin = λ _. (ap (λ p. p.sessions.items) parts, ap (λ p. p.locks) parts);
         ended = λ ends. absurd (remote_ends act remotes ends);
         halted = where_none _ _ ready.no_fault;

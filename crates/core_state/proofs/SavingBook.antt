@@ -112,7 +112,7 @@ module _ {D E C : Type 0} (d : Ghosts D) (old new : Core D E C) (result : Result
       honest = serves.kept.0 s.honest;
       remote = ap is_some rest.remote ∙ s.remote;
       shows = record {
-        catalogue = ap (λ xs. map (λ (x : Listed). x.kept) xs.items) rest.catalogue ∙ (s.shows).catalogue;
+        catalogue = ap (λ xs. map (λ (x : Listed). x.kept) xs.listed) rest.catalogue ∙ (s.shows).catalogue;
         sessions = ap (λ xs. xs.items) rest.sessions ∙ (s.shows).sessions;
         locks = subst (λ locks. Locked locks (world h).store) (sym rest.locks) (s.shows).locks;
         sound = (s.shows).sound;
@@ -127,19 +127,19 @@ module _ {D E C : Type 0} (d : Ghosts D) (old new : Core D E C) (result : Result
       touches = subst (λ u. SameTouches (touches_kept u) (touches_of_history h)) (sym rest.upkeep) m.touches;
       present = λ none x digest.
           subst (λ (o : Option (List ℕ)). IsSome o ↔ IsSome ((touches_of_history h).last x)) (sym ((reads_same unfailed s.honest).chunks x)) (m.present (sym rest.fault ∙ none) x digest);
-      sweep = subst (λ n. ShowsOpen n (new.parts).catalogue.items (world h).store.snapshots new.collector (swept_of h).sweep) (sym acts)
+      sweep = subst (λ n. ShowsOpen n (new.parts).catalogue.listed (world h).store.snapshots new.collector (swept_of h).sweep) (sym acts)
           (subst (λ xs. ShowsOpen (length (old.journal).entries.items) xs (world h).store.snapshots new.collector (swept_of h).sweep) (sym listed)
-          (subst (λ c. ShowsOpen (length (old.journal).entries.items) (old.parts).catalogue.items (world h).store.snapshots c (swept_of h).sweep) (sym rest.collector) m.sweep));
+          (subst (λ c. ShowsOpen (length (old.journal).entries.items) (old.parts).catalogue.listed (world h).store.snapshots c (swept_of h).sweep) (sym rest.collector) m.sweep));
       is_swept = m.is_swept;
-      numbers = subst (λ n. AreNumbered n (new.parts).catalogue.items) (sym acts)
+      numbers = subst (λ n. AreNumbered n (new.parts).catalogue.listed) (sym acts)
           (subst (AreNumbered (length (old.journal).entries.items)) (sym listed) m.numbers);
     }
       where
         acts : length (new.journal).entries.items ≡ length (old.journal).entries.items
         acts = ap (λ (j : Journal). length j.entries.items) rest.journal
 
-        listed : (new.parts).catalogue.items ≡ (old.parts).catalogue.items
-        listed = ap (λ xs. xs.items) rest.catalogue
+        listed : (new.parts).catalogue.listed ≡ (old.parts).catalogue.listed
+        listed = ap (λ xs. xs.listed) rest.catalogue
 
     holds : old.fault ≡ None → KeepsTouches d old h → OnOk result (HoldsBook reads old.last (touches_of_history h))
     holds none m = by_result result refl saved

@@ -61,7 +61,7 @@ disk_writer m s lane x l files h = record {
 }
 
 -- catalogue, sessions and locks, with one session changed
-pub shows_changed : {D : Type 0} (old new : Parts D) (s : Store) (lane : ℕ) (x : model.Session) (y : Session) → new.catalogue.items ≡ old.catalogue.items → new.sessions.items ≡ set old.sessions.items lane y → y ≡ shown_session s.snapshots x
+pub shows_changed : {D : Type 0} (old new : Parts D) (s : Store) (lane : ℕ) (x : model.Session) (y : Session) → new.catalogue.listed ≡ old.catalogue.listed → new.sessions.items ≡ set old.sessions.items lane y → y ≡ shown_session s.snapshots x
     → Locked new.locks (with_session s lane x) → IsSound (with_session s lane x) → Shows old s → Shows new (with_session s lane x)
 shows_changed old new s lane x y c l is locks sound h = record {
   catalogue = ap (λ items. map (λ x. x.kept) items) c ∙ h.catalogue;

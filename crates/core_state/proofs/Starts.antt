@@ -76,7 +76,7 @@ module _ {D E C : Type 0} (d : Ghosts D) (clock : clocks.Ghosts C) (old mid new 
         crash = λ _. inl same;
         passed_its_tests = λ _ _ s h. tt;
         firm = λ _ _. tt;
-        listed = ap (λ p. p.catalogue.items) parts;
+        listed = ap (λ p. p.catalogue.listed) parts;
         admin = λ _. (ap (λ p. p.sessions.items) parts, ap (λ p. p.locks) parts);
         ended = λ ends. absurd (false_true ends);
         halted = where_none _ _ ready.no_fault;
@@ -149,8 +149,8 @@ module _ {D E C : Type 0} (d : Ghosts D) (clock : clocks.Ghosts C) (old mid new 
         crash = λ _. inl same;
         passed_its_tests = λ _ said. absurd (fine (refusal_same refusal DiskFault (sym reply_is ∙ said)));
         firm = λ _. undone answer refusal reply_is;
-        listed = ap (λ p. p.catalogue.items) kept ∙ sym (ap (λ r. listed_by act r answer.place (session_at old.parts k) (old.parts).catalogue.items) reply_is
-            ∙ unlisted act refusal answer.place (session_at old.parts k) (old.parts).catalogue.items);
+        listed = ap (λ p. p.catalogue.listed) kept ∙ sym (ap (λ r. listed_by act r answer.place (session_at old.parts k) (old.parts).catalogue.listed) reply_is
+            ∙ unlisted act refusal answer.place (session_at old.parts k) (old.parts).catalogue.listed);
         admin = λ _. (ap (λ p. p.sessions.items) kept, ap (λ p. p.locks) kept);
         ended = λ _. undone answer refusal reply_is;
         halted = where_none _ _ ready.no_fault;

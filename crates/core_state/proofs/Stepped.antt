@@ -234,7 +234,7 @@ begun_stepped d readings old mid new k m n reply answer c b fault other e = reco
   calls = (b.entries).calls;
   remote = b.remote;
   fault = fault;
-  kept = record { catalogue = ap (λ p. p.catalogue.items) b.parts; sessions = ap (λ p. p.sessions.items) b.parts; locks = ap (λ p. p.locks) b.parts };
+  kept = record { catalogue = ap (λ p. p.catalogue.listed) b.parts; sessions = ap (λ p. p.sessions.items) b.parts; locks = ap (λ p. p.locks) b.parts };
   count = let same = ap (λ p. d.faults p.disk) b.parts in omega (arith, same);
   rose = λ five none. absurd (other five none);
   later = let same = ap (λ p. d.calls p.disk) b.parts in omega (arith, same);

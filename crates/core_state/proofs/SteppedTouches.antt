@@ -133,7 +133,7 @@ module _ {D E C : Type 0} (d : Ghosts D) (readings : C → Option Readings) (old
   acts = length (old.journal).entries.items
 
   abbrev c : List Listed
-  c = (old.parts).catalogue.items
+  c = (old.parts).catalogue.listed
 
   abbrev snapshots : List Snapshot
   snapshots = (w.store).snapshots
@@ -153,8 +153,8 @@ module _ {D E C : Type 0} (d : Ghosts D) (readings : C → Option Readings) (old
   count : length (new.journal).entries.items ≡ acts + 1
   count = let all = ap length (is.entered).entries in let was = ap length is.entries in omega (arith, all, was, length-append (acted.journal).entries.items (answer.entry ∷ []))
 
-  listed : (new.parts).catalogue.items ≡ c
-  listed = ap (λ p. p.catalogue.items) (is.entered).parts ∙ (is.kept).catalogue
+  listed : (new.parts).catalogue.listed ≡ c
+  listed = ap (λ p. p.catalogue.listed) (is.entered).parts ∙ (is.kept).catalogue
 
   still : ((world (then_event h e)).store).snapshots ≡ snapshots
   unfolding after
@@ -173,7 +173,7 @@ module _ {D E C : Type 0} (d : Ghosts D) (readings : C → Option Readings) (old
 
   -- the touches so far, and the entry's date
   keeps_by : (t : LastTouches) → SameTouches (touches_kept acted.upkeep) t → SameTouches after_.touches (dated m t) → (new.fault ≡ None → HasChunks t)
-      → ShowsOpen (length (new.journal).entries.items) (new.parts).catalogue.items ((world (then_event h e)).store).snapshots new.collector (swept_of (then_event h e)).sweep
+      → ShowsOpen (length (new.journal).entries.items) (new.parts).catalogue.listed ((world (then_event h e)).store).snapshots new.collector (swept_of (then_event h e)).sweep
       → FitsSweep w u (lane_of e) (reply_of e) sweeping (kind_of (kind e)) → KeepsTouches d new (then_event h e)
   keeps_by t same then_is has shows fits = record {
     touches = subst (λ (v : Swept). SameTouches (touches_kept new.upkeep) v.touches) (sym longer)
@@ -207,19 +207,19 @@ module _ {D E C : Type 0} (d : Ghosts D) (readings : C → Option Readings) (old
 
   -- by the collector before the entry, which has closed it or left it open
   shows_on : (n ≡ 1 → ⊥) → (was : Option Collector) → ShowsOpen acts c snapshots was u.sweep → ((y : Collector) → new.collector ≡ Some y → WasOpen was y)
-      → ShowsOpen (length (new.journal).entries.items) (new.parts).catalogue.items ((world (then_event h e)).store).snapshots new.collector (swept_of (then_event h e)).sweep
+      → ShowsOpen (length (new.journal).entries.items) (new.parts).catalogue.listed ((world (then_event h e)).store).snapshots new.collector (swept_of (then_event h e)).sweep
   shows_on other was shows before = by_open new.collector refl
     where
       Shows : Option Collector → Type 0
-      Shows o = ShowsOpen (length (new.journal).entries.items) (new.parts).catalogue.items ((world (then_event h e)).store).snapshots o (swept_of (then_event h e)).sweep
+      Shows o = ShowsOpen (length (new.journal).entries.items) (new.parts).catalogue.listed ((world (then_event h e)).store).snapshots o (swept_of (then_event h e)).sweep
 
       by_sweep : (x y : Collector) → new.collector ≡ Some y → y.plan ≡ x.plan → y.entries ≡ x.entries → (o : Option Sweep) → u.sweep ≡ o → IsSomeAnd o (ShowsSweep acts c snapshots x) → Shows (Some y)
       by_sweep x y at plan entries None none shows = absurd shows
       by_sweep x y at plan entries (Some sweep) some shows =
           let sweeps : (swept_of (then_event h e)).sweep ≡ Some sweep =
           sweep_stays other ∙ stays_open (record { lane = y.lane; ended = y.ended }) (world (then_event h e)).collecting u.sweep (sym (ap open_in at) ∙ so.collecting) ∙ some in
-          subst (λ o. ShowsOpen (length (new.journal).entries.items) (new.parts).catalogue.items ((world (then_event h e)).store).snapshots (Some y) o) (sym sweeps)
-          (subst (λ q. ShowsSweep q (new.parts).catalogue.items ((world (then_event h e)).store).snapshots y sweep) (sym count)
+          subst (λ o. ShowsOpen (length (new.journal).entries.items) (new.parts).catalogue.listed ((world (then_event h e)).store).snapshots (Some y) o) (sym sweeps)
+          (subst (λ q. ShowsSweep q (new.parts).catalogue.listed ((world (then_event h e)).store).snapshots y sweep) (sym count)
           (subst (λ l. ShowsSweep (acts + 1) l ((world (then_event h e)).store).snapshots y sweep) (sym listed)
           (subst (λ l. ShowsSweep (acts + 1) c l y sweep) (sym still) (shows_later acts c snapshots x y sweep plan entries shows))))
 
@@ -273,9 +273,9 @@ module _ {D E C : Type 0} (d : Ghosts D) (readings : C → Option Readings) (old
         let sweeps : (swept_of (then_event h e)).sweep ≡ Some (passed u sweep sweep.unmarked) =
         sweep_passes ∙ stays_open (record { lane = y.lane; ended = y.ended }) (world (then_event h e)).collecting (Some (passed u sweep sweep.unmarked)) held in
         keeps_by touches_passed same passed_dated (λ _. has)
-        (subst (λ o. ShowsOpen (length (new.journal).entries.items) (new.parts).catalogue.items ((world (then_event h e)).store).snapshots o (swept_of (then_event h e)).sweep) (sym at)
-        (subst (λ o. ShowsOpen (length (new.journal).entries.items) (new.parts).catalogue.items ((world (then_event h e)).store).snapshots (Some y) o) (sym sweeps)
-        (subst (λ q. ShowsSweep q (new.parts).catalogue.items ((world (then_event h e)).store).snapshots y (passed u sweep sweep.unmarked)) (sym count)
+        (subst (λ o. ShowsOpen (length (new.journal).entries.items) (new.parts).catalogue.listed ((world (then_event h e)).store).snapshots o (swept_of (then_event h e)).sweep) (sym at)
+        (subst (λ o. ShowsOpen (length (new.journal).entries.items) (new.parts).catalogue.listed ((world (then_event h e)).store).snapshots (Some y) o) (sym sweeps)
+        (subst (λ q. ShowsSweep q (new.parts).catalogue.listed ((world (then_event h e)).store).snapshots y (passed u sweep sweep.unmarked)) (sym count)
         (subst (λ l. ShowsSweep (acts + 1) l ((world (then_event h e)).store).snapshots y (passed u sweep sweep.unmarked)) (sym listed)
         (subst (λ l. ShowsSweep (acts + 1) c l y (passed u sweep sweep.unmarked)) (sym still)
         (shows_later acts c snapshots y y (passed u sweep sweep.unmarked) refl refl shows))))))

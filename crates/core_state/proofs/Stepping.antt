@@ -88,8 +88,8 @@ module _ {D E C : Type 0} (d : Ghosts D) (clock : clocks.Ghosts C) (old acted ne
   halts : IfSome old.fault (λ _. (new.parts).disk ≡ (old.parts).disk)
   halts = subst (λ p. IfSome old.fault (λ _. p.disk ≡ (old.parts).disk)) (sym (is.entered).parts) is.halted
 
-  listed : (new.parts).catalogue.items ≡ (old.parts).catalogue.items
-  listed = ap (λ p. p.catalogue.items) (is.entered).parts ∙ (is.kept).catalogue
+  listed : (new.parts).catalogue.listed ≡ (old.parts).catalogue.listed
+  listed = ap (λ p. p.catalogue.listed) (is.entered).parts ∙ (is.kept).catalogue
 
   pub step_keeps : IfSome reply (Unchanged d old.parts acted.parts) → StepLeaves d old new k answer → StepKeeps old new k answer → ActKeeps d old new k Step answer
   step_keeps unchanged leaves reserve = record {

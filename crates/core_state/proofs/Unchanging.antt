@@ -31,7 +31,7 @@ module _ {D : Type 0} (g : Ghosts D) where
   same_unchanged old new (Marks rows) is = tt
   same_unchanged old new (Verified files entries bytes faults) is = tt
   same_unchanged old new (Collected start cutoff used pending removed) is = tt
-  same_unchanged old new (Refused r) is = leaves_same old new r (ap (λ p. p.disk) is) (record { catalogue = ap (λ p. p.catalogue.items) is; sessions = ap (λ p. p.sessions.items) is; locks = ap (λ p. p.locks) is })
+  same_unchanged old new (Refused r) is = leaves_same old new r (ap (λ p. p.disk) is) (record { catalogue = ap (λ p. p.catalogue.listed) is; sessions = ap (λ p. p.sessions.items) is; locks = ap (λ p. p.locks) is })
 
 -- ---- acts
 

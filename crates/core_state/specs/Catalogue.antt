@@ -59,4 +59,4 @@ listed_by act reply number session catalogue = catalogue
 -- was done has taken out the one that it names. No other act has changed the catalogue.
 abbrev pub Lists : {D E C : Type 0} → Core D E C → Core D E C → ℕ → Act → Answer → Type 0
 Lists old new lane act answer =
-    (new.parts).catalogue.items ≡ listed_by act answer.reply answer.place (session_at old.parts lane) (old.parts).catalogue.items
+    (new.parts).catalogue.listed ≡ listed_by act answer.reply answer.place (session_at old.parts lane) (old.parts).catalogue.listed

@@ -2,7 +2,7 @@
 use Rattle.std.specs.Prelude.{ℕ, ◌+◌, Bool, true, false, ◌&&◌, ◌||◌, ◌==◌, if◌then◌else◌, Option, Some, None, option_map, is_some}
 use Rattle.store_types.specs.declared.refusal.Refusal.{Refusal}
 use Rattle.store_types.specs.declared.refusal.Refusal.TheVariants as refusals
-use Rattle.store_types.specs.declared.order.TheConstants.{MEMORY_KIND, STOP_KIND, END_KIND}
+use Rattle.store_types.specs.declared.order.TheConstants.{MEMORY_KIND, STOP_KIND, FAULT_KIND, END_KIND}
 use Rattle.store_model.specs.Lanes.{Collecting}
 use Rattle.gc_plan.specs.Plan.{left_of}
 use Rattle.core_state.specs.declared.collector.Collector.{Collector}
@@ -63,6 +63,10 @@ cut_on lane c = if is_on lane c then option_map with_cut c else c
 -- the lane's collector closes
 abbrev pub closed_on : ℕ → Option Collector → Option Collector
 closed_on lane c = if is_on lane c then None else c
+
+-- a fault of the disk, entered on the lane, closes it
+abbrev pub closed_at_fault : ℕ → ℕ → Option Collector → Option Collector
+closed_at_fault kind lane c = if kind == FAULT_KIND then closed_on lane c else c
 
 -- The collector after an entry of the lane of this kind: want of memory ends the lane's early, and its end and the lane's end close it.
 abbrev pub collector_by : ℕ → ℕ → Option Collector → Option Collector

@@ -113,7 +113,7 @@ IsNoRefusal _ = Unit {0}
 
 -- the act's change of the disk, by what the core keeps before it
 abbrev pub change_at : {D : Type 0} → Parts D → ℕ → Act → Change
-change_at old lane act = change_of act (session_at old lane) old.catalogue.items
+change_at old lane act = change_of act (session_at old lane) old.catalogue.listed
 
 -- The act is the plain store's. What is answered, on any disk, is one of the act's replies, and has a spelling.
 pub record ActDoes {D : Type 0} (d : Ghosts D) (old new : Parts D) (at : Place) (act : Act) (result : Result Reply Stop) : Type 0 where
@@ -137,7 +137,7 @@ pub record ActLeaves {D : Type 0} (d : Ghosts D) (old new : Parts D) (at : Place
   pub content : (IsErrOf result DiskFailed → ⊥) → d.honest old.disk → d.content new.disk ≡ after (by_stop (change_at old at.lane act) result) (d.content old.disk)
   pub crash : LeavesChange d old.disk new.disk (by_stop (change_at old at.lane act) result)
   pub firm : IfOk result (λ _. IsFirm d old.disk new.disk (change_at old at.lane act))
-  pub listed : new.catalogue.items ≡ listed_by act (Some (reply_by (told result))) at.number (session_at old at.lane) old.catalogue.items
+  pub listed : new.catalogue.listed ≡ listed_by act (Some (reply_by (told result))) at.number (session_at old at.lane) old.catalogue.listed
   pub admin : is_still act ≡ true → (new.sessions.items ≡ old.sessions.items) × (new.locks ≡ old.locks)
   -- Which chunk files there are more. It follows from `content`; that the core stands for the longer history is shown by it.
   pub adds : Adds d old new act (told result)

@@ -1,13 +1,15 @@
 -- What is found in the catalogue.
-use Rattle.std.specs.Prelude.{ℕ, List, Option, None, Some, option_map, Result}
+use Rattle.std.specs.Prelude.{ℕ, ◌≤◌, Bool, List, map, filter, length, Option, None, Some, is_none, is_some, option_map, Result}
 use Rattle.std.specs.Borrow.{Bor}
-use Rattle.std.specs.List.{find}
+use Rattle.std.specs.List.{find, last_or}
+use Rattle.std.specs.Option.{ForSome}
 use Rattle.std.specs.Str.{bytes_eq}
+use Rattle.store_types.specs.declared.names.GroupKey.{GroupKey}
 use Rattle.store_types.specs.declared.names.SnapshotKey.{SnapshotKey}
 use Rattle.store_types.specs.declared.refusal.Refusal.{Refusal}
 use Rattle.store_types.specs.declared.refusal.Refusal.TheVariants.{BadName, NoSnapshot}
 use Rattle.store_types.specs.Chain.Refusing.{◌>>=◌, or_else}
-use Rattle.store_types.specs.Names.{key_of, same_key}
+use Rattle.store_types.specs.Names.{group_of_key, key_of, same_group, same_key}
 use Rattle.core_state.specs.declared.kept.Listed.{Listed}
 use Rattle.core_state.specs.declared.kept.Kept.{Kept}
 use Rattle.core_state.specs.declared.kept.StoredFile.{StoredFile}
@@ -38,3 +40,46 @@ unfoldable pub named_kept : List ℕ → List Listed → Result Kept Refusal
 named_kept text catalogue = do
   key ← or_else BadName (key_of text)
   or_else NoSnapshot (kept_named key catalogue)
+
+-- the name of the file that makes it damaged leaves room for a temporary one's ending
+abbrev pub IsShortNamed : Kept → Type 0
+IsShortNamed k = ForSome k.unreadable (λ name. length name ≤ 251)
+
+-- ---- damage
+
+abbrev pub unreadable_of : Option Listed → Option (List ℕ)
+unreadable_of None = None
+unreadable_of (Some x) = (x.kept).unreadable
+
+-- the file that makes the first damaged snapshot so
+abbrev pub first_unreadable : List Listed → Option (List ℕ)
+first_unreadable catalogue = unreadable_of (find (λ x. is_some (x.kept).unreadable) catalogue)
+
+-- ---- a group
+
+-- the group's snapshots, the oldest first
+abbrev pub kept_in : GroupKey → List Kept → List Kept
+kept_in group kept = filter (λ x. same_group (group_of_key x.key) group) kept
+
+abbrev pub latest_kept : GroupKey → List Kept → Option SnapshotKey
+latest_kept group kept = last_or None (map (λ x. x.key) (kept_in group kept))
+
+-- no file is known to make it damaged
+abbrev pub is_whole : Kept → Bool
+is_whole x = is_none x.unreadable
+
+-- the group's latest whole snapshot
+abbrev pub latest_whole : GroupKey → List Kept → Option SnapshotKey
+latest_whole group kept = latest_kept group (filter is_whole kept)
+
+-- how many snapshots of the catalogue the group has, damaged ones too
+abbrev pub count_of : GroupKey → List Listed → ℕ
+count_of group catalogue = length (filter (λ x. same_group (group_of_key (x.kept).key) group) catalogue)
+
+-- the group's latest snapshot in the catalogue
+abbrev pub latest_of : GroupKey → List Listed → Option SnapshotKey
+latest_of group catalogue = latest_kept group (map (λ x. x.kept) catalogue)
+
+-- its latest whole one
+abbrev pub whole_of : GroupKey → List Listed → Option SnapshotKey
+whole_of group catalogue = latest_whole group (map (λ x. x.kept) catalogue)

@@ -21,7 +21,7 @@ FromState = ℕ → Session → List Listed → Locks → Result Reply Refusal
 
 -- what it is answered, or its refusal, as a reply
 abbrev pub kept_reply : {D : Type 0} → FromState → Parts D → ℕ → Reply
-kept_reply wanted old lane = reply_told (wanted lane (session_at old lane) old.catalogue.items old.locks)
+kept_reply wanted old lane = reply_told (wanted lane (session_at old lane) old.catalogue.listed old.locks)
 
 -- it is answered so, unless memory is wanting or the disk failed
 abbrev pub ActTells : {D : Type 0} → FromState → Parts D → Place → Result Reply Stop → Type 0

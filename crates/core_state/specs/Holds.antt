@@ -87,7 +87,7 @@ pub record IsSound (s : Store) : Type 0 where
 
 -- catalogue, sessions and locks are those of the store
 pub record Shows {D : Type 0} (parts : Parts D) (s : Store) : Type 0 where
-  pub catalogue : map (λ x. x.kept) parts.catalogue.items ≡ map shown_snapshot s.snapshots
+  pub catalogue : map (λ x. x.kept) parts.catalogue.listed ≡ map shown_snapshot s.snapshots
   pub sessions : parts.sessions.items ≡ map (shown_session s.snapshots) s.sessions
   pub locks : Locked parts.locks s
   pub sound : IsSound s

@@ -26,8 +26,8 @@ pub record KeepsTouches {D E C : Type 0} (d : Ghosts D) (core : Core D E C) (h :
   pub touches : SameTouches (touches_kept core.upkeep) (touches_of_history h)
   pub present : core.fault ≡ None → (x : List ℕ) → IsDigest x
       → IsSome (get (d.content (core.parts).disk) (chunk_name x)) ↔ IsSome ((touches_of_history h).last x)
-  pub sweep : ShowsOpen (length (core.journal).entries.items) (core.parts).catalogue.items (world h).store.snapshots core.collector (swept_of h).sweep
+  pub sweep : ShowsOpen (length (core.journal).entries.items) (core.parts).catalogue.listed (world h).store.snapshots core.collector (swept_of h).sweep
   -- its collectors end where their sweeps are over, or memory was wanting, and report what their sweeps did
   pub is_swept : IsSwept h.remote (opened h.opening) (swept_at h.opening) h.events
   -- no two snapshots of the catalogue have one number
-  pub numbers : AreNumbered (length (core.journal).entries.items) (core.parts).catalogue.items
+  pub numbers : AreNumbered (length (core.journal).entries.items) (core.parts).catalogue.listed

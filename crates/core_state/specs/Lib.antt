@@ -23,6 +23,7 @@ pub mod Records
 pub mod Found
 pub mod Foreign
 pub mod Catalogue
+pub mod Catalogued
 pub mod Changes
 pub mod Listing
 pub mod Unreadables

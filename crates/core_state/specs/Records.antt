@@ -96,7 +96,7 @@ pub record Records {D E C : Type 0} (readings : C → Option Readings) (core : C
   -- no chunk was touched after the last moment
   pub early : NoneAfter (core.upkeep).book core.last
   -- no two snapshots of the catalogue have one number
-  pub numbers : AreNumbered (length (core.journal).entries.items) (core.parts).catalogue.items
+  pub numbers : AreNumbered (length (core.journal).entries.items) (core.parts).catalogue.listed
 
 -- opened with these snapshots, beside those of the remote
 abbrev pub opened_with : List Snapshot → Option (List Snapshot) → History → History

@@ -10,7 +10,7 @@ use Rattle.core_state.specs.declared.parts.Parts.{Parts}
 
 -- catalogue, sessions and locks are as before, on any disk
 pub record SameKept {D : Type 0} (old new : Parts D) : Type 0 where
-  pub catalogue : new.catalogue.items ≡ old.catalogue.items
+  pub catalogue : new.catalogue.listed ≡ old.catalogue.listed
   pub sessions : new.sessions.items ≡ old.sessions.items
   pub locks : new.locks ≡ old.locks
 

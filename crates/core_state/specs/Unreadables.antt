@@ -70,9 +70,9 @@ pub record TellsUnreadable {D : Type 0} (d : Ghosts D) (disk : D) (asked : Optio
 -- the file that an act asks for by its lane's session and the catalogue is told so, by how its command ended
 abbrev pub ActUnreadable : {D : Type 0} → Ghosts D → (Session → List Listed → Option Asked) → Parts D → Place → Result Reply Stop → Type 0
 ActUnreadable d asked old at result =
-    TellsUnreadable d old.disk (asked (session_at old at.lane) old.catalogue.items) (kind_by (told result)) (Some (reply_by (told result)))
+    TellsUnreadable d old.disk (asked (session_at old at.lane) old.catalogue.listed) (kind_by (told result)) (Some (reply_by (told result)))
 
 -- and by the core's answer
 abbrev pub CoreUnreadable : {D E C : Type 0} → Ghosts D → (Session → List Listed → Option Asked) → Core D E C → ℕ → Answer → Type 0
 CoreUnreadable d asked old lane answer =
-    TellsUnreadable d (old.parts).disk (asked (session_at old.parts lane) (old.parts).catalogue.items) (answer.entry).kind answer.reply
+    TellsUnreadable d (old.parts).disk (asked (session_at old.parts lane) (old.parts).catalogue.listed) (answer.entry).kind answer.reply

@@ -33,7 +33,7 @@ pub fn closes(session: &Session, act: &Act) -> bool
 pub fn end_session<D>(parts: &mut Parts<D>, lane: u32)
     requires { lane < 64 }
     ensures disk { parts.new.disk ≡ parts.old.disk }
-    ensures catalogue { parts.new.catalogue.items ≡ parts.old.catalogue.items }
+    ensures catalogue { parts.new.catalogue.listed ≡ parts.old.catalogue.listed }
     ensures sessions { parts.new.sessions.items ≡ slice_set parts.old.sessions.items lane Idle }
     ensures ended { session_at parts.new lane ≡ Idle }
     ensures locks { Releases parts.old.locks parts.new.locks lane }

@@ -15,7 +15,7 @@ mod stop;
 mod upkeep;
 mod wanted;
 
-pub use catalogue::{path_named, snapshot_named};
+pub use catalogue::{Catalogue, path_named};
 pub use closing::{closes, end_session};
 pub use collector::{Collector, Early};
 pub use entering::{Admitted, Place, begin, enter, halted, next_place, settle, settle_read, short};

@@ -2,9 +2,10 @@
 
 ghost use Rattle.std.specs.Prelude.{◌≡◌, IsTrue, vec_len};
 ghost use Rattle.std.specs.List.{list_all};
-ghost use Rattle.core_state.specs.Named.{is_named, is_named_snapshot};
+ghost use Rattle.core_state.specs.Named.{is_named};
 
-use crate::kept::{Listed, Session};
+use crate::catalogue::Catalogue;
+use crate::kept::Session;
 use lock_book::LockBook;
 
 /// The disk, the finished snapshots in their order, the session of each of the 64 lanes, and which lanes hold which
@@ -12,10 +13,9 @@ use lock_book::LockBook;
 #[derive(Drop)]
 pub struct Parts<D> {
     pub disk: D,
-    pub catalogue: Vec<Listed>,
+    pub catalogue: Catalogue,
     pub sessions: Vec<Session>,
     pub locks: LockBook,
     ghost lanes: { vec_len sessions ≡ 64 },
     ghost named: { IsTrue (list_all is_named sessions.items) },
-    ghost finished_named: { IsTrue (list_all is_named_snapshot catalogue.items) },
 }

@@ -56,7 +56,7 @@ use Rattle.core_uploads.proofs.FixedPieces.{size_fits}
 
 module _ {D : Type 0} (g : Ghosts D) where
   pub goes_on : (old new : Parts D) (s : Store) (lane : ℕ) (y : Session) (o : Outcome) (reply : Reply)
-      → lane < 64 → new.disk ≡ old.disk → new.catalogue.items ≡ old.catalogue.items → new.sessions.items ≡ set old.sessions.items lane y → new.locks ≡ old.locks
+      → lane < 64 → new.disk ≡ old.disk → new.catalogue.listed ≡ old.catalogue.listed → new.sessions.items ≡ set old.sessions.items lane y → new.locks ≡ old.locks
       → GoesOn s lane y o reply → Holds g old s → (after : Store) × (o ≡ Ok (after, reply)) × Shows new after × IsOnDisk (g.content old.disk) after
   goes_on old new s lane y o reply lt d c l k on h =
       let sound = (h.shows).sound in

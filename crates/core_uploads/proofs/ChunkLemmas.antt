@@ -233,7 +233,7 @@ known_there m w digest known h =
 
 module _ {D : Type 0} (d : Ghosts D) where
   pub holds_chunk : (old new : Parts D) (s : Store) (lane : ℕ) (w : Writer) (digest : Digest32) (bytes p : List ℕ) → lane < 64 → session s lane ≡ writer w → IsSent digest bytes p
-      → (d.honest old.disk ↔ d.honest new.disk) → (d.honest old.disk → d.content new.disk ≡ with_chunk digest.0 bytes (d.content old.disk)) → new.catalogue.items ≡ old.catalogue.items
+      → (d.honest old.disk ↔ d.honest new.disk) → (d.honest old.disk → d.content new.disk ≡ with_chunk digest.0 bytes (d.content old.disk)) → new.catalogue.listed ≡ old.catalogue.listed
       → new.sessions.items ≡ set old.sessions.items lane (kept.Writer (shown_writer (calls.chunk w p))) → new.locks ≡ old.locks → MayStand (d.content old.disk) digest (Ok p)
       → Holds d old s → Holds d new (with_session s lane (writer (calls.chunk w p)))
   holds_chunk old new s lane w digest bytes p lt at is serves now c l k may h =

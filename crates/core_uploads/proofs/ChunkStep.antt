@@ -198,7 +198,7 @@ module _ {D : Type 0} (g : Ghosts D) where
   -- a chunk that was noted and put
   pub takes : (old new : Parts D) (s : Store) (lane : ℕ) (v : Writer) (w : Writing) (x y : Session) (digest : Digest32) (checked : Result (List ℕ) Refusal) (bytes : List ℕ)
       → lane < 64 → session s lane ≡ writer v → shown_writer v ≡ w → x ≡ kept.Writer w → y ≡ with_noted digest.0 (length bytes - 12) x → AreBytes bytes → checked ≡ Ok bytes → IsCheckedChunk digest checked
-      → (g.honest old.disk ↔ g.honest new.disk) → (g.honest old.disk → g.content new.disk ≡ with_chunk digest.0 bytes (g.content old.disk)) → new.catalogue.items ≡ old.catalogue.items
+      → (g.honest old.disk ↔ g.honest new.disk) → (g.honest old.disk → g.content new.disk ≡ with_chunk digest.0 bytes (g.content old.disk)) → new.catalogue.listed ≡ old.catalogue.listed
       → new.sessions.items ≡ set old.sessions.items lane y → new.locks ≡ old.locks → MayStand (g.content old.disk) digest (data_in checked)
       → Holds g old s → Reaches new s lane checked
   takes old new s lane v w x y digest checked bytes lt at shows x_is y_is are was h serves now c l k may holds =
@@ -216,7 +216,7 @@ module _ {D : Type 0} (g : Ghosts D) where
   pub knows : (old new : Parts D) (s : Store) (lane : ℕ) (v : Writer) (w : Writing) (digest : Digest32) (checked : Result (List ℕ) Refusal) (bytes : List ℕ) (known : Bool)
       → lane < 64 → session s lane ≡ writer v → shown_writer v ≡ w → want_writer (session_at old lane) ≡ Ok w → checked ≡ Ok bytes → IsCheckedChunk digest checked
       → known ≡ is_some (length_at ((w.session).writer).pool digest.0) → known ≡ true → g.content new.disk ≡ with_chunk digest.0 bytes (g.content old.disk)
-      → new.catalogue.items ≡ old.catalogue.items → new.sessions.items ≡ old.sessions.items → new.locks ≡ old.locks → MayStand (g.content old.disk) digest (data_in checked)
+      → new.catalogue.listed ≡ old.catalogue.listed → new.sessions.items ≡ old.sessions.items → new.locks ≡ old.locks → MayStand (g.content old.disk) digest (data_in checked)
       → Holds g old s → Reaches new s lane checked
   knows old new s lane v w digest checked bytes known lt at shows wants was h value there now c ss k may holds =
       let (p, is) = read digest bytes (subst (IsCheckedChunk digest) was h) in

@@ -1,4 +1,3 @@
-pub mod Places
 pub mod UploadLemmas
 pub mod BlobLemmas
 pub mod BlobStep

@@ -117,7 +117,7 @@ put_puts d old new file text path done plain path_is serves crash put unchanged 
 -- ---- the act
 
 module _ {D : Type 0} (d : Ghosts D) (old new : Parts D) (at : Place) (act : Act) (found mid : Session) (changes : Writing → Change) (lt : at.lane < 64) (here : found ≡ get_or old.sessions.items at.lane found)
-    (c : new.catalogue.items ≡ old.catalogue.items) (k : new.locks ≡ old.locks) where
+    (c : new.catalogue.listed ≡ old.catalogue.listed) (k : new.locks ≡ old.locks) where
   abbrev Makes : Result NewFile Stop → Type 0
   Makes r = MakesPending found mid (λ s lane. act_does s lane at.moment act) (may_answer act) changes r
 
@@ -198,7 +198,7 @@ module _ {D : Type 0} (d : Ghosts D) (old new : Parts D) (at : Place) (act : Act
       pub put_does : may_answer act Done ≡ true → ActDoes d old new at act (Ok Done)
       put_does answers = writes_does d old new at act Done _ puts.serves done_has_text answers tt (λ safe s h. reached s h)
 
-      pub put_leaves : change_at old at.lane act ≡ by_writer (session_at old at.lane) changes → calls_no_disk act ≡ false → listed_by act (Some Done) at.number (session_at old at.lane) old.catalogue.items ≡ old.catalogue.items
+      pub put_leaves : change_at old at.lane act ≡ by_writer (session_at old at.lane) changes → calls_no_disk act ≡ false → listed_by act (Some Done) at.number (session_at old at.lane) old.catalogue.listed ≡ old.catalogue.listed
           → is_still act ≡ false → ends_session act ≡ false → ActLeaves d old new at act (Ok Done)
       put_leaves is called listed other goes_on =
           writes_leaves d old new at act Done tt called

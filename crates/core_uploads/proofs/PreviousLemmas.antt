@@ -311,7 +311,7 @@ went s lane w reply = refl
 module _ {D : Type 0} (d : Ghosts D) where
   -- the lane's writer may name more pieces that are there
   holds_noted : (old new : Parts D) (s : Store) (lane : ℕ) (w : Writer) (pieces : List (List ℕ)) (y : Session) → lane < 64 → session s lane ≡ writer w → All IsPiece pieces → All (HasChunk (d.content old.disk)) pieces
-      → (d.honest old.disk ↔ d.honest new.disk) → (d.honest old.disk → d.content new.disk ≡ d.content old.disk) → new.catalogue.items ≡ old.catalogue.items → new.sessions.items ≡ set old.sessions.items lane y → new.locks ≡ old.locks
+      → (d.honest old.disk ↔ d.honest new.disk) → (d.honest old.disk → d.content new.disk ≡ d.content old.disk) → new.catalogue.listed ≡ old.catalogue.listed → new.sessions.items ≡ set old.sessions.items lane y → new.locks ≡ old.locks
       → y ≡ kept.Writer (shown_writer (with_pool pieces w)) → Holds d old s → Holds d new (with_session s lane (writer (with_pool pieces w)))
   holds_noted old new s lane w pieces y lt at are there kept_on same c l k y_is h =
       let after = with_pool pieces w in
@@ -371,7 +371,7 @@ module _ {D : Type 0} (d : Ghosts D) (old new : Parts D) (s : Store) (lane m : �
 
   -- it is given, and its pieces may be named
   pub part_done : (p : Previous) (y : Session) → lane < 64 → previous_by (whole_by name) (d.content old.disk) path offset ≡ Ok p
-      → (d.honest old.disk ↔ d.honest new.disk) → (d.honest old.disk → d.content new.disk ≡ d.content old.disk) → new.catalogue.items ≡ old.catalogue.items → new.sessions.items ≡ set old.sessions.items lane y → new.locks ≡ old.locks
+      → (d.honest old.disk ↔ d.honest new.disk) → (d.honest old.disk → d.content new.disk ≡ d.content old.disk) → new.catalogue.listed ≡ old.catalogue.listed → new.sessions.items ≡ set old.sessions.items lane y → new.locks ≡ old.locks
       → ((shown : List (List ℕ)) → p.pieces ≡ map known_of shown → y ≡ kept.Writer (shown_writer (with_pool shown w)))
       → (after : Store) × (outcome s lane m (PreviousCommand name offset) ≡ Ok (after, p.part)) × Shows new after × IsOnDisk (d.content new.disk) after
   part_done p y lt is kept_on same c l k noted =
@@ -622,12 +622,12 @@ module _ {D : Type 0} (d : Ghosts D) (parts : Parts D) (at : Place) (name : List
 
   -- the base has no such file
   pub no_base_does : (new : Parts D) → new.disk ≡ parts.disk → SameKept parts new → (r : Refusal) (result : Result Reply Stop) → IsErrAnd result (λ x. x ≡ Refused r) → at.lane < 64 → (w : Writing) → wants.want_writer (session_at parts at.lane) ≡ Ok w → is_file_name name ≡ true
-      → base_file ((w.session).writer).base name parts.catalogue.items ≡ Err r → ReplyHasText (replies.Refused r) → refuses_previous r ≡ true → ActDoes d parts new at act result
+      → base_file ((w.session).writer).base name parts.catalogue.listed ≡ Err r → ReplyHasText (replies.Refused r) → refuses_previous r ≡ true → ActDoes d parts new at act result
   no_base_does new same kept_so r result is lt w writes good none text kind =
       refused_does d parts new at act r result is same kept_so text kind
       (λ s shows.
       let (v, v_at, v_is) = writer_shown parts s at.lane w shows lt writes in
-      no_base s at.lane name offset at.moment parts.catalogue.items v r v_at good shows.catalogue (ap (λ b. base_file b name parts.catalogue.items) (base_of_shown v w v_is) ∙ none))
+      no_base s at.lane name offset at.moment parts.catalogue.listed v r v_at good shows.catalogue (ap (λ b. base_file b name parts.catalogue.listed) (base_of_shown v w v_is) ∙ none))
 
   pub no_base_leaves : (new : Parts D) → new.disk ≡ parts.disk → SameKept parts new → (r : Refusal) (result : Result Reply Stop) → IsErrAnd result (λ x. x ≡ Refused r) → ActLeaves d parts new at act result
   no_base_leaves new same kept_so r result is = refused_leaves d parts new at act r result is same kept_so (λ closing. false_true closing)
@@ -645,13 +645,13 @@ module _ {D : Type 0} (d : Ghosts D) (parts : Parts D) (at : Place) (name : List
         stopped_leaves d parts new at act (stop_by_read e) result failed is read kept refl
         (stop_as (RefusesPart path) (λ r. is_uncalled r ≡ true → new.disk ≡ parts.disk) e (λ r k t. absurd (false_true (sym (refusal_called path r k) ∙ t))) kind) (λ closing. false_true closing)
 
-    pub given_leaves : (g : Given) → IsPart g.part → new.catalogue.items ≡ parts.catalogue.items → ActLeaves d parts new at act (Ok g.part)
+    pub given_leaves : (g : Given) → IsPart g.part → new.catalogue.listed ≡ parts.catalogue.listed → ActLeaves d parts new at act (Ok g.part)
     given_leaves g kind c =
         writes_leaves d parts new at act g.part (part_plain g.part kind) refl (λ h. read.same h) read.crash tt c (λ admin. absurd (false_true admin)) (adds_same d parts new act (Ok g.part) read.same) (λ ends. absurd (false_true ends)) (λ writes. absurd (false_true writes))
 
-    module _ (w : Writing) (path : List ℕ) (lt : at.lane < 64) (writes : wants.want_writer (session_at parts at.lane) ≡ Ok w) (good : is_file_name name ≡ true) (there : base_file ((w.session).writer).base name parts.catalogue.items ≡ Ok path) where
+    module _ (w : Writing) (path : List ℕ) (lt : at.lane < 64) (writes : wants.want_writer (session_at parts at.lane) ≡ Ok w) (good : is_file_name name ≡ true) (there : base_file ((w.session).writer).base name parts.catalogue.listed ≡ Ok path) where
       based : (s : Store) (v : Writer) → Holds d parts s → shown_writer v ≡ w → HasBase s at.lane name offset v path
-      based s v h v_is = has_base s at.lane name offset parts.catalogue.items v path (h.shows).catalogue (ap (λ b. base_file b name parts.catalogue.items) (base_of_shown v w v_is) ∙ there)
+      based s v h v_is = has_base s at.lane name offset parts.catalogue.listed v path (h.shows).catalogue (ap (λ b. base_file b name parts.catalogue.listed) (base_of_shown v w v_is) ∙ there)
 
       -- it is not read
       pub unread_does : (e : ReadError) (result : Result Reply Stop) → IsErrAnd result (λ x. x ≡ stop_by_read e) → (IsErrOf {T = Given} (Err (stop_by_read e)) DiskFailed → failed) → SameKept parts new → reads.ErrorHasText e → reads.IfRefused (RefusesPart path) e
@@ -666,7 +666,7 @@ module _ {D : Type 0} (d : Ghosts D) (parts : Parts D) (at : Place) (name : List
 
       -- it is given
       pub given_does : (g : Given) (y found : Session) → IsPart g.part → ReplyHasText g.part → (d.honest parts.disk → previous_by (whole_by name) (d.content parts.disk) path offset ≡ Ok (shown_given g))
-          → new.catalogue.items ≡ parts.catalogue.items → new.sessions.items ≡ set parts.sessions.items at.lane y → new.locks ≡ parts.locks → found ≡ kept.Writer w → y ≡ with_known (map indexes.known_of g.pieces.items) found
+          → new.catalogue.listed ≡ parts.catalogue.listed → new.sessions.items ≡ set parts.sessions.items at.lane y → new.locks ≡ parts.locks → found ≡ kept.Writer w → y ≡ with_known (map indexes.known_of g.pieces.items) found
           → ActDoes d parts new at act (Ok g.part)
       given_does g y found kind text exact c l k found_is y_is =
           writes_does d parts new at act g.part failed read.serves text (part_answers g.part kind) (part_plain g.part kind)

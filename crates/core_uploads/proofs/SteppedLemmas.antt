@@ -25,7 +25,7 @@ pub false_true : false ≡ true → ⊥
 false_true e = cc
 
 module _ {D : Type 0} (d : Ghosts D) (old new : Parts D) (at : Place) (act : Act) (found left : Session) (result : Result Reply Stop) (lt : at.lane < 64) (here : found ≡ get_or old.sessions.items at.lane found)
-    (disk : new.disk ≡ old.disk) (c : new.catalogue.items ≡ old.catalogue.items) (l : new.sessions.items ≡ set old.sessions.items at.lane left) (k : new.locks ≡ old.locks) where
+    (disk : new.disk ≡ old.disk) (c : new.catalogue.listed ≡ old.catalogue.listed) (l : new.sessions.items ≡ set old.sessions.items at.lane left) (k : new.locks ≡ old.locks) where
   same_kept : left ≡ found → SameKept old new
   same_kept same = record { catalogue = c; sessions = l ∙ ap (set old.sessions.items at.lane) same ∙ found_stays old.sessions.items at.lane found here; locks = k }
 
@@ -44,7 +44,7 @@ module _ {D : Type 0} (d : Ghosts D) (old new : Parts D) (at : Place) (act : Act
       by_result (Err NoMemory) x = short_does d old new at act (Err NoMemory) refl disk (same_kept x.same)
       by_result (Err DiskFailed) x = absurd x.step
 
-  pub stepped_leaves : change_at old at.lane act ≡ stays → ((reply : Reply) → listed_by act (Some reply) at.number (session_at old at.lane) old.catalogue.items ≡ old.catalogue.items)
+  pub stepped_leaves : change_at old at.lane act ≡ stays → ((reply : Reply) → listed_by act (Some reply) at.number (session_at old at.lane) old.catalogue.listed ≡ old.catalogue.listed)
       → is_still act ≡ false → ends_session act ≡ false → closes act (session_at old at.lane) ≡ false → Quietly result → ActLeaves d old new at act result
   stepped_leaves change listed other on closing_not steps = by_result result steps
     where

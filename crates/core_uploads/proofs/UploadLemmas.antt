@@ -4,7 +4,7 @@ use Rattle.std.specs.List.{insert, position_or_len}
 use Rattle.store_types.specs.Names.{name_lt}
 use Rattle.core_state.specs.declared.kept.StoredFile.{StoredFile}
 use Rattle.core_uploads.specs.Uploaded.{insert_stored}
-use Rattle.core_uploads.proofs.Places.{insert_at}
+use Rattle.core_state.proofs.Places.{insert_at}
 
 abbrev pub is_after : StoredFile → StoredFile → Bool
 is_after x y = name_lt x.name y.name

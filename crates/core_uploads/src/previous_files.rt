@@ -15,7 +15,7 @@ ghost use Rattle.core_state.specs.Unreadables.{ActUnreadable, whole_by};
 ghost use Rattle.core_uploads.specs.Previous.{ArePieces, GivesPrevious, LendsPath, MayKnow, asked_of_base, with_known};
 
 use crate::names::file_name;
-use core_state::{Listed, Parts, Place, Session, Stop, path_named, snapshot_named};
+use core_state::{Catalogue, Parts, Place, Session, Stop, path_named};
 use disk_trait::Disk;
 use snapshot_files::{FilePath, IndexPart, ReadError, lengths_of, read_index, read_part};
 use std::alloc::{AllocError, Global};
@@ -32,16 +32,16 @@ struct Given {
 /// Where the base's file of that name stands.
 #[tactic(auto, unfolding(crate::specs::Previous::base_file), using(core_state::proofs::Texts::no_snapshot_has_text, core_state::proofs::Texts::no_file_has_text))]
 fn base_file<'a>(
-    catalogue: &'a [Listed],
+    catalogue: &'a Catalogue,
     base: Option<&SnapshotKey>,
     name: &FileName,
 ) -> Result<&'a FilePath, Refusal>
     ensures text { IfErr result (λ refusal. ReplyHasText (Refused refusal)) }
     ensures kind { IfErr result (λ refusal. IsTrue (refuses_previous refusal)) }
-    ensures value { LendsPath (lent_key base.entry) name.now catalogue.now result }
+    ensures value { LendsPath (lent_key base.entry) name.now catalogue.now.listed result }
 {
     let key = base.ok_or(Refusal::NoSnapshot)?;
-    let kept = snapshot_named(catalogue, key).ok_or(Refusal::NoSnapshot)?;
+    let kept = catalogue.named(key).ok_or(Refusal::NoSnapshot)?;
     path_named(kept.files.as_slice(), name).ok_or(Refusal::NoFile)
 }
 

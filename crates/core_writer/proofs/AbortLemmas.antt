@@ -117,7 +117,7 @@ module _ {D : Type 0} (d : Ghosts D) where
 
   pub end_leaves : (old new : Parts D) (at : Place) (removed : D) → new.disk ≡ removed → LeavesBy d old.disk removed (MayLose (put_paths (files_in (session_at old at.lane))))
       → (d.honest old.disk → d.content removed ≡ without (put_paths (files_in (session_at old at.lane))) (d.content old.disk))
-      → new.catalogue.items ≡ old.catalogue.items → session_at new at.lane ≡ Idle → ActLeaves d old new at acts.End (Ok Done)
+      → new.catalogue.listed ≡ old.catalogue.listed → session_at new at.lane ≡ Idle → ActLeaves d old new at acts.End (Ok Done)
   end_leaves old new at removed same crash content c idle =
       let reads : d.honest old.disk → d.content new.disk ≡ without (put_paths (files_in (session_at old at.lane))) (d.content old.disk) = λ h. ap d.content same ∙ content h in
       writes_leaves d old new at acts.End Done tt refl

@@ -1,10 +1,10 @@
 -- FINISH is the store's.
 use Rattle.disk_trait.specs.declared.disk.Disk.{Ghosts}
-use Rattle.std.proofs.Common.{◌≡◌, ◌≢◌, ℕ, ◌<◌, Bool, true, false, not, ◌==◌, cond, length, get_or, set, map, List, [], ◌∷◌, ◌++◌, append_assoc, eqb-true, inl, Option, Some, None, Result, Ok, Err, IfErr, IsErrAnd, MatchResult, refl, sym, ap, subst, ◌∙◌, arith}
+use Rattle.std.proofs.Common.{◌≡◌, ◌≢◌, ℕ, ◌<◌, Bool, true, false, not, ◌&&◌, ◌==◌, cond, length, get_or, set, map, List, [], ◌∷◌, ◌++◌, append_assoc, eqb-true, inl, Option, Some, None, Result, Ok, Err, IfErr, IsErrAnd, MatchResult, refl, sym, ap, subst, ◌∙◌, arith}
 use Rattle.std.proofs.lemmas.Bool.{eqb-false, and_parts, and_from, false_from_ne_true}
 use Rattle.std.proofs.lemmas.List.{length-set}
 use Rattle.std.specs.FinMap.{get, remove}
-use Rattle.std.specs.List.{All, AllByRecursion, list_all}
+use Rattle.std.specs.List.{All, AllByRecursion}
 use Rattle.std.specs.Prelude.{IsOk, is_some, codes}
 use Rattle.disk_trait.specs.Files.{Files}
 use Rattle.disk_trait.specs.Laws.{placed_same, placed_other, differs}
@@ -29,6 +29,7 @@ use Rattle.store_files.specs.Folder.{file_path}
 use Rattle.store_model.specs.WriterSteps.{snapshot_of, finish}
 use Rattle.store_model.specs.Steps.{outcome}
 use Rattle.store_model.specs.Stands.{IsSnapshot, group_limit, names_content}
+use Rattle.store_model.specs.Done.{finished}
 use Rattle.store_files.specs.Folder.{chunk_name, manifest_path}
 use Rattle.store_model.proofs.Paths.{manifest_plain, chunk_apart, same_path}
 use Rattle.store_model.proofs.Insertions.{All-insert, find-insert, length-in_group-insert, rise-insert}
@@ -44,7 +45,7 @@ use Rattle.core_state.specs.declared.kept.Writing.{Writing}
 use Rattle.core_state.specs.declared.kept.Session.{Session}
 use Rattle.core_state.specs.declared.kept.Session.TheVariants as sessions
 use Rattle.core_state.specs.declared.parts.Parts.{Parts}
-use Rattle.core_state.specs.Named.{has_text, is_named, is_named_snapshot}
+use Rattle.core_state.specs.Named.{has_text, is_named}
 use Rattle.core_state.specs.Shown.{shown_snapshot, shown_writer, shown_session}
 use Rattle.core_state.specs.Holds as plain
 use Rattle.core_state.specs.Holds.{IsBegun, IsSound, IsWriter, IsReader, IsOlder, HasUploads, IsOnDisk, Holds}
@@ -54,7 +55,7 @@ use Rattle.core_state.proofs.Soundness.{sound_idle}
 use Rattle.core_state.proofs.OnDisk.{IsOff, fresh, names_plain, off_other, keys_apart, uploads_off, pieces_there}
 use Rattle.core_state.proofs.Commanding.{is_writing, writer_shown}
 use Rattle.core_state.proofs.Commanding.{session_shown}
-use Rattle.core_state.proofs.Completing.{HasManifest, finished, has_manifest, listed, no_listing, no_manifest}
+use Rattle.core_state.proofs.Completing.{HasManifest, has_manifest, listed, no_listing, no_manifest}
 use Rattle.core_state.proofs.NamedLemmas.{list_all-at, writer_named}
 use Rattle.core_state.specs.declared.entering.Place.{Place}
 use Rattle.core_state.specs.declared.stop.Stop.{Stop}
@@ -319,22 +320,11 @@ shown_listed snapshot (x ∷ xs) = by_test (key_lt snapshot.key x.key) (shown_li
     by_test true e = refl
     by_test false e = ap (λ (l : List Kept). shown_snapshot x ∷ l) e
 
-list_all-insert : (new : Listed) (xs : List Listed) → is_named_snapshot new ≡ true → list_all is_named_snapshot xs ≡ true → list_all is_named_snapshot (insert_listed new xs) ≡ true
-list_all-insert new [] is h = and_from (is_named_snapshot new) true is refl
-list_all-insert new (x ∷ xs) is h =
-    let both = and_parts (is_named_snapshot x) (list_all is_named_snapshot xs) h in
-    by_test (key_lt (new.kept).key (x.kept).key) both.0 (list_all-insert new xs is both.1)
-  where
-    by_test : (b : Bool) → is_named_snapshot x ≡ true → list_all is_named_snapshot (insert_listed new xs) ≡ true → list_all is_named_snapshot (cond b (new ∷ x ∷ xs) (x ∷ insert_listed new xs)) ≡ true
-    by_test true here later = and_from (is_named_snapshot new) (list_all is_named_snapshot (x ∷ xs)) is h
-    by_test false here later = and_from (is_named_snapshot x) (list_all is_named_snapshot (insert_listed new xs)) here later
-
--- the catalogue's keys have texts still
-pub named_closed : (number : ℕ) (session : Session) (xs : List Listed) → is_named session ≡ true → list_all is_named_snapshot xs ≡ true → list_all is_named_snapshot (closed number session xs) ≡ true
-named_closed number sessions.Idle xs is h = h
-named_closed number (sessions.Writer w) xs is h =
-    list_all-insert (listed_of number w) xs (and_from (has_text ((w.session).writer).key) true (and_parts (has_text ((w.session).writer).key) (not (is_some (w.session).pending)) is).0 refl) h
-named_closed number (sessions.Reader r) xs is h = h
+-- a named writer's snapshot is in form
+pub named_key : (s : Session) (w : Writing) (key : SnapshotKey) → is_named s ≡ true → s ≡ sessions.Writer w → key ≡ ((w.session).writer).key → (has_text key && true) ≡ true
+named_key s w key named is same =
+    let both = and_parts (has_text ((w.session).writer).key) (not (is_some (w.session).pending)) (sym (ap is_named is) ∙ named) in
+    and_from (has_text key) true (ap has_text same ∙ both.0) refl
 
 -- ---- the exits of the act
 
@@ -383,7 +373,7 @@ module _ {D : Type 0} (old : Parts D) (s : Store) (at : Place) (w : Writing) (sh
 module _ {D : Type 0} (d : Ghosts D) where
   finish_stands : (old new : Parts D) (s : Store) (lane moment number : ℕ) (w : Writer) (path text : List ℕ) (listing : Manifest) → lane < 64 → session s lane ≡ writer w → finish_check w ≡ Ok listing → kept_manifest (shown_writer w) ≡ Some (path, text)
       → (d.honest old.disk → d.content new.disk ≡ installed (d.content old.disk) path text)
-      → new.catalogue.items ≡ closed number (session_at old lane) old.catalogue.items → new.sessions.items ≡ set old.sessions.items lane sessions.Idle → Releases old.locks new.locks lane
+      → new.catalogue.listed ≡ closed number (session_at old lane) old.catalogue.listed → new.sessions.items ≡ set old.sessions.items lane sessions.Idle → Releases old.locks new.locks lane
       → Holds d old s → (after : Store) × (outcome s lane moment Finish ≡ Ok (after, Done)) × plain.Shows new after × IsOnDisk (d.content new.disk) after
   unfolding shown
   finish_stands old new s lane moment number w path text listing lt at check manifest put c l k h =
@@ -396,7 +386,7 @@ module _ {D : Type 0} (d : Ghosts D) where
         finished s lane w,
         finishes s lane moment w listing at check,
         record {
-          catalogue = ap all_kept (c ∙ ap (λ x. closed number x old.catalogue.items) is) ∙ kept_listed (listed_of number (shown_writer w)) old.catalogue.items
+          catalogue = ap all_kept (c ∙ ap (λ x. closed number x old.catalogue.listed) is) ∙ kept_listed (listed_of number (shown_writer w)) old.catalogue.listed
               ∙ ap (insert_kept (shown_snapshot (snapshot_of w))) (h.shows).catalogue ∙ sym (shown_listed (snapshot_of w) s.snapshots);
           sessions = l ∙ ap (λ k. set k lane sessions.Idle) ((h.shows).sessions ∙ sym (sessions_finished s lane w sound at)) ∙ sym (shown_set (insert_snapshot (snapshot_of w) s.snapshots) s lane none);
           locks = record { groups = locks.groups; shared = locks.shared };
@@ -408,7 +398,7 @@ module _ {D : Type 0} (d : Ghosts D) where
   pub finish_done : (old new : Parts D) (s : Store) (at : Place) (w : Writing) (path text : List ℕ) → Holds d old s → at.lane < 64 → want_writer (session_at old at.lane) ≡ Ok w
       → ((v : Writer) → Shows (w.session).writer v → TestedBy (finish_check v) (Ok tt)) → manifest_in (session_at old at.lane) ≡ Some (path, text)
       → (d.honest old.disk → d.content new.disk ≡ installed (d.content old.disk) path text)
-      → new.catalogue.items ≡ closed at.number (session_at old at.lane) old.catalogue.items → new.sessions.items ≡ set old.sessions.items at.lane sessions.Idle → Releases old.locks new.locks at.lane
+      → new.catalogue.listed ≡ closed at.number (session_at old at.lane) old.catalogue.listed → new.sessions.items ≡ set old.sessions.items at.lane sessions.Idle → Releases old.locks new.locks at.lane
       → (after : Store) × (outcome s at.lane at.moment Finish ≡ Ok (after, Done)) × plain.Shows new after × IsOnDisk (d.content new.disk) after
   finish_done old new s at w path text h lt is plainly kept put c l k =
       let f = shown_by old s at w h.shows lt is in

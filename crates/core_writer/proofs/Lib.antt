@@ -1,4 +1,3 @@
-pub mod CatalogueLemmas
 pub mod EndingLemmas
 pub mod OpenedLemmas
 pub mod OpeningLemmas

@@ -1,8 +1,8 @@
 -- What OPEN_WRITER tests of what is kept is what the store tests.
-use Rattle.std.proofs.Common.{◌≡◌, ℕ, ◌<◌, Bool, true, false, cond, length, map, filter, List, [], ◌∷◌, Option, Some, None, Result, Ok, Err, refl, ap, subst, ◌∙◌}
-use Rattle.std.proofs.lemmas.Bool.{and_parts, ltb-true}
+use Rattle.std.proofs.Common.{◌≡◌, ℕ, ◌<◌, Bool, true, false, cond, length, map, filter, List, [], ◌∷◌, Option, Some, None, Result, Ok, Err, refl, ap, ◌∙◌}
+use Rattle.std.proofs.lemmas.Bool.{ltb-true}
 use Rattle.std.proofs.lemmas.List.{length-map}
-use Rattle.std.specs.List.{last_or, list_all}
+use Rattle.std.specs.List.{last_or}
 use Rattle.std.specs.Prelude.{nat_lt}
 use Rattle.store_types.specs.declared.names.SnapshotKey.{SnapshotKey}
 use Rattle.store_types.specs.declared.names.GroupKey.{GroupKey}
@@ -14,10 +14,9 @@ use Rattle.store_files.specs.Archive.{Snapshot}
 use Rattle.store_model.specs.Store.{in_group, latest_in}
 use Rattle.store_model.specs.WriterSteps.{want_newer}
 use Rattle.core_state.specs.declared.kept.Kept.{Kept}
-use Rattle.core_state.specs.declared.kept.Listed.{Listed}
-use Rattle.core_state.specs.Named.{has_text, is_named_snapshot, is_short_name}
 use Rattle.core_state.specs.Shown.{shown_snapshot}
-use Rattle.core_writer.specs.Opened.{is_whole, kept_in, latest_kept, latest_whole, base_kept}
+use Rattle.core_state.specs.Found.{is_whole, kept_in, latest_kept, latest_whole}
+use Rattle.core_writer.specs.Opened.{base_in, base_kept}
 
 -- ---- each test
 
@@ -67,44 +66,7 @@ may_by None (Ok u) true l base e = (refl, refl, refl, same l base e)
     same l base e = cc
 
 pub may_open : (kept : List Kept) (holder : Option ℕ) (key : SnapshotKey) (base : Option SnapshotKey) → base_kept kept holder key ≡ Ok base → MayOpen kept holder key base
-unfolding base_kept
+unfolding base_in
 may_open kept holder key base e =
     let all = may_by holder (want_newer key.time (latest_kept (group_of_key key) kept)) (nat_lt (length (kept_in (group_of_key key) kept)) 4096) (latest_whole (group_of_key key) kept) base e in
     record { free = all.0; newer = all.1; room = ltb-true (length (kept_in (group_of_key key) kept)) 4096 all.2; latest = all.3 }
-
--- ---- the base has a text
-
-key_named : (x : Listed) → is_named_snapshot x ≡ true → has_text (x.kept).key ≡ true
-key_named x h = (and_parts (has_text (x.kept).key) (is_short_name (x.kept).unreadable) h).0
-
-abbrev whole_of : List Listed → List Kept
-whole_of xs = filter is_whole (map (λ (x : Listed). x.kept) xs)
-
-abbrev last_key : Option SnapshotKey → List Kept → Option SnapshotKey
-last_key o ks = last_or o (map (λ (x : Kept). x.key) ks)
-
-last_named : (o : Option SnapshotKey) (group : GroupKey) (xs : List Listed) (k : SnapshotKey) → ((j : SnapshotKey) → o ≡ Some j → has_text j ≡ true) → list_all is_named_snapshot xs ≡ true
-    → last_key o (kept_in group (whole_of xs)) ≡ Some k → has_text k ≡ true
-last_named o group [] k first h e = first k e
-last_named o group (x ∷ xs) k first h e =
-    let both = and_parts (is_named_snapshot x) (list_all is_named_snapshot xs) h in
-    by_whole (is_whole x.kept) (λ p f. last_named p group xs k f both.1) (key_named x both.0) e
-  where
-    keys_same : (a b : SnapshotKey) → Some a ≡ Some b → a ≡ b
-    keys_same a b e = cc
-
-    by_group : (b : Bool) → ((p : Option SnapshotKey) → ((j : SnapshotKey) → p ≡ Some j → has_text j ≡ true) → last_key p (kept_in group (whole_of xs)) ≡ Some k → has_text k ≡ true) → has_text (x.kept).key ≡ true
-        → last_key o (cond b (x.kept ∷ kept_in group (whole_of xs)) (kept_in group (whole_of xs))) ≡ Some k → has_text k ≡ true
-    by_group true go here e = go (Some (x.kept).key) (λ j s. subst (λ q. has_text q ≡ true) (keys_same (x.kept).key j s) here) e
-    by_group false go here e = go o first e
-
-    by_whole : (b : Bool) → ((p : Option SnapshotKey) → ((j : SnapshotKey) → p ≡ Some j → has_text j ≡ true) → last_key p (kept_in group (whole_of xs)) ≡ Some k → has_text k ≡ true) → has_text (x.kept).key ≡ true
-        → last_key o (kept_in group (cond b (x.kept ∷ whole_of xs) (whole_of xs))) ≡ Some k → has_text k ≡ true
-    by_whole true go here e = by_group (same_group (group_of_key (x.kept).key) group) go here e
-    by_whole false go here e = go o first e
-
-pub latest_named : (group : GroupKey) (xs : List Listed) (k : SnapshotKey) → list_all is_named_snapshot xs ≡ true → latest_whole group (map (λ (x : Listed). x.kept) xs) ≡ Some k → has_text k ≡ true
-latest_named group xs k h e = last_named None group xs k (λ j n. absurd (none_some j n)) h e
-  where
-    none_some : (j : SnapshotKey) → None ≡ Some j → ⊥
-    none_some j e = cc

@@ -36,21 +36,19 @@ module _ (text : List ℕ) (lane : ℕ) (f : Session) (catalogue : List Listed) 
   pub told_unnamed : want_idle f ≡ Ok tt → key_of text ≡ None → replies.Refused BadName ≡ reply_told answer
   told_unnamed idle none = sym (ap reply_told (idle_by idle ∙ ap (by_tests (Ok tt)) none))
 
-  module _ (key : SnapshotKey) (listed : List Listed) (idle : want_idle f ≡ Ok tt) (named : key_of text ≡ Some key) (lent : listed ≡ catalogue) where
-    based : (r : Result (Option SnapshotKey) Refusal) → base_for locks listed lane key ≡ r → reply_told answer ≡ reply_told (r >>= tells_base)
-    based r is =
-        let step : base_for locks catalogue lane key ≡ r = ap (λ xs. base_for locks xs lane key) (sym lent) ∙ is in
-        ap reply_told (idle_by idle ∙ ap (by_tests (Ok tt)) named ∙ ap (λ (b : Result (Option SnapshotKey) Refusal). b >>= tells_base) step)
+  module _ (key : SnapshotKey) (idle : want_idle f ≡ Ok tt) (named : key_of text ≡ Some key) where
+    based : (r : Result (Option SnapshotKey) Refusal) → base_for locks catalogue lane key ≡ r → reply_told answer ≡ reply_told (r >>= tells_base)
+    based r is = ap reply_told (idle_by idle ∙ ap (by_tests (Ok tt)) named ∙ ap (λ (b : Result (Option SnapshotKey) Refusal). b >>= tells_base) is)
 
     -- the locks or the catalogue refuse it, or memory is wanting
-    pub told_unbased : (stop : Stop) (result : Result Reply Stop) → Stops result stop → TellsBase (base_for locks listed lane key) (Err stop) → IfOk (told result) (λ reply. reply ≡ reply_told answer)
+    pub told_unbased : (stop : Stop) (result : Result Reply Stop) → Stops result stop → TellsBase (base_for locks catalogue lane key) (Err stop) → IfOk (told result) (λ reply. reply ≡ reply_told answer)
     told_unbased stop result stops tells = stopped (λ r. IfOk (told r) (λ reply. reply ≡ reply_told answer)) result stop stops (by_stop stop tells)
       where
-        by_stop : (stop : Stop) → TellsBase (base_for locks listed lane key) (Err stop) → IfOk (told (Err stop)) (λ reply. reply ≡ reply_told answer)
+        by_stop : (stop : Stop) → TellsBase (base_for locks catalogue lane key) (Err stop) → IfOk (told (Err stop)) (λ reply. reply ≡ reply_told answer)
         by_stop (Refused r) is = sym (based (Err r) is)
         by_stop NoMemory is = tt
         by_stop DiskFailed is = tt
 
     -- the writer begins
-    pub told_based : (b : Beginning) → TellsBase (base_for locks listed lane key) (Ok b) → replies.Base b.text ≡ reply_told answer
+    pub told_based : (b : Beginning) → TellsBase (base_for locks catalogue lane key) (Ok b) → replies.Base b.text ≡ reply_told answer
     told_based b tells = ap (λ t. replies.Base t) tells.1 ∙ sym (based (Ok b.base) tells.0)

@@ -36,13 +36,12 @@ use Rattle.core_state.proofs.LockLemmas.{idle_holds, locked_writer, no_holder}
 use Rattle.core_state.proofs.Soundness.{IsAlone, sound_writer, disk_writer, shows_changed}
 use Rattle.core_state.specs.Wanted.{session_at}
 use Rattle.core_state.proofs.Commanding.{idle_shown}
-use Rattle.core_writer.specs.Opened.{base_kept, new_writing}
+use Rattle.core_writer.specs.Opened.{base_in, base_kept, new_writing}
 use Rattle.core_state.specs.Wanted.{want_idle}
 use Rattle.core_writer.specs.Opened.{TellsBase}
 use Rattle.core_state.specs.Stops.{IfRefused}
 use Rattle.core_state.specs.declared.stop.Stop.{Stop}
 use Rattle.core_state.specs.declared.stop.Stop.TheVariants as Stopped
-use Rattle.core_state.specs.declared.kept.Listed.{Listed}
 use Rattle.core_writer.proofs.OpenedLemmas.{latest_shown, latest_whole-shown, count_shown, may_open}
 
 -- ---- the store's tests
@@ -89,7 +88,7 @@ module _ (s : Store) (lane moment : ℕ) (text : List ℕ) where
   in_turn key idle is = rw (idle, is) refl
 
   kept_tests : (key : SnapshotKey) → base_kept (map shown_snapshot s.snapshots) (group_holder s (group_of_key key)) key ≡ store_tests key (Ok (latest_in (group_of_key key) s.snapshots))
-  unfolding base_kept
+  unfolding base_in
   kept_tests key =
       rw (latest_shown (group_of_key key) s.snapshots, latest_whole-shown (group_of_key key) s.snapshots, count_shown (group_of_key key) s.snapshots) refl
 
@@ -145,30 +144,30 @@ named_new v files key moment base is named =
 
 -- a lane without a session finds the groups of other lanes alone
 pub tests_are : {D : Type 0} (old : Parts D) (s : Store) (lane : ℕ) (key : SnapshotKey) (r : Result (Option SnapshotKey) Refusal)
-    → base_kept (map (λ x. x.kept) old.catalogue.items) (other_than lane (book.group_holder old.locks (group_of_key key))) key ≡ r → session s lane ≡ model.none → Shows old s
+    → base_kept (map (λ x. x.kept) old.catalogue.listed) (other_than lane (book.group_holder old.locks (group_of_key key))) key ≡ r → session s lane ≡ model.none → Shows old s
     → base_kept (map shown_snapshot s.snapshots) (group_holder s (group_of_key key)) key ≡ r
 tests_are old s lane key r is idle h =
     let holder = (idle_holds old.locks s lane idle h.locks).groups (group_of_key key) ∙ (h.locks).groups (group_of_key key) in
-    ap (λ k. base_kept k (group_holder s (group_of_key key)) key) (sym h.catalogue) ∙ ap (λ o. base_kept (map (λ x. x.kept) old.catalogue.items) o key) (sym holder) ∙ is
+    ap (λ k. base_kept k (group_holder s (group_of_key key)) key) (sym h.catalogue) ∙ ap (λ o. base_kept (map (λ x. x.kept) old.catalogue.listed) o key) (sym holder) ∙ is
 
 pub bad_named : {D : Type 0} (old : Parts D) (s : Store) (lane moment : ℕ) (text : List ℕ) → Shows old s → lane < 64 → want_idle (session_at old lane) ≡ Ok tt → key_of text ≡ None → outcome s lane moment (OpenWriter text) ≡ Err BadName
 bad_named old s lane moment text h lt idle bad = bad_name s lane moment text (ap model.want_idle (idle_shown old s lane h lt idle)) bad
 
--- the tests refuse, by the catalogue as it was lent
-pub opening_refuses : {D : Type 0} (old : Parts D) (s : Store) (lane moment : ℕ) (text : List ℕ) (key : SnapshotKey) (listed : List Listed) (stop : Stop) → lane < 64 → want_idle (session_at old lane) ≡ Ok tt → key_of text ≡ Some key → listed ≡ old.catalogue.items
-    → TellsBase (base_kept (map (λ x. x.kept) listed) (other_than lane (book.group_holder old.locks (group_of_key key))) key) (Err stop) → Shows old s → IfRefused (λ refusal. outcome s lane moment (OpenWriter text) ≡ Err refusal) stop
-opening_refuses old s lane moment text key listed (Stopped.Refused refusal) lt idle named lent told h =
+-- the tests refuse
+pub opening_refuses : {D : Type 0} (old : Parts D) (s : Store) (lane moment : ℕ) (text : List ℕ) (key : SnapshotKey) (stop : Stop) → lane < 64 → want_idle (session_at old lane) ≡ Ok tt → key_of text ≡ Some key
+    → TellsBase (base_kept (map (λ x. x.kept) old.catalogue.listed) (other_than lane (book.group_holder old.locks (group_of_key key))) key) (Err stop) → Shows old s → IfRefused (λ refusal. outcome s lane moment (OpenWriter text) ≡ Err refusal) stop
+opening_refuses old s lane moment text key (Stopped.Refused refusal) lt idle named told h =
     let none = idle_shown old s lane h lt idle in
     refused s lane moment text key refusal (ap model.want_idle none) named
-    (tests_are old s lane key (Err refusal) (subst (λ xs. base_kept (map (λ x. x.kept) xs) (other_than lane (book.group_holder old.locks (group_of_key key))) key ≡ Err refusal) lent told) none h)
-opening_refuses old s lane moment text key listed Stopped.NoMemory lt idle named lent told h = tt
-opening_refuses old s lane moment text key listed Stopped.DiskFailed lt idle named lent told h = tt
+    (tests_are old s lane key (Err refusal) told none h)
+opening_refuses old s lane moment text key Stopped.NoMemory lt idle named told h = tt
+opening_refuses old s lane moment text key Stopped.DiskFailed lt idle named told h = tt
 
 module _ {D : Type 0} (g : Ghosts D) where
   pub opens : (old new : Parts D) (s : Store) (lane moment : ℕ) (text : List ℕ) (key : SnapshotKey) (base : Option SnapshotKey) (y : Session) (reply : Reply)
       → lane < 64 → want_idle (session_at old lane) ≡ Ok tt → key_of text ≡ Some key → IsKey key
-      → base_kept (map (λ x. x.kept) old.catalogue.items) (other_than lane (book.group_holder old.locks (group_of_key key))) key ≡ Ok base
-      → new.catalogue.items ≡ old.catalogue.items → new.sessions.items ≡ set old.sessions.items lane y → TakesWriter old.locks new.locks lane (group_of_key key) base → y ≡ kept.Writer (new_writing key moment base) → shows.Shows (rows.opened key moment base) (new_writer key moment base) → reply ≡ Base (base_text base)
+      → base_kept (map (λ x. x.kept) old.catalogue.listed) (other_than lane (book.group_holder old.locks (group_of_key key))) key ≡ Ok base
+      → new.catalogue.listed ≡ old.catalogue.listed → new.sessions.items ≡ set old.sessions.items lane y → TakesWriter old.locks new.locks lane (group_of_key key) base → y ≡ kept.Writer (new_writing key moment base) → shows.Shows (rows.opened key moment base) (new_writer key moment base) → reply ≡ Base (base_text base)
       → Holds g old s → (after : Store) × (outcome s lane moment (OpenWriter text) ≡ Ok (after, reply)) × Shows new after × IsOnDisk (g.content old.disk) after
   opens old new s lane moment text key base y reply lt idle named is_key tested c l k y_is shown reply_is h =
       let sound = (h.shows).sound in

@@ -1,6 +1,6 @@
 //! FINISH.
 
-ghost use Rattle.std.specs.Prelude.{◌≡◌, ◌<◌, None, Ok, Err, option_map, IfErr, vec_len, vec_capacity};
+ghost use Rattle.std.specs.Prelude.{◌≡◌, ◌<◌, None, Ok, Err, option_map, IfErr, IsTrue};
 ghost use Rattle.std.specs.Result.{result_ok};
 ghost use Rattle.store_types.specs.declared.refusal.Refusal.TheVariants as refusals;
 ghost use Rattle.wire_commands.specs.declared.command.Command.TheVariants.{Finish};
@@ -8,12 +8,12 @@ ghost use Rattle.core_state.specs.declared.kept.Session.TheVariants.{Idle};
 ghost use Rattle.core_state.specs.Catalogue.{closed};
 ghost use Rattle.core_state.specs.Changes.{kept_manifest};
 ghost use Rattle.core_state.specs.Commands.{PlainDoes, PlainLeaves};
+ghost use Rattle.core_state.specs.Named.{is_named};
 ghost use Rattle.core_state.specs.Replies.{refuses_finish};
 ghost use Rattle.core_writer.specs.Finished.{ChecksPlainly, lent_file, manifest_among, manifest_in};
 ghost use Rattle.core_writer.specs.Stopping.{StopsBy};
 
-use crate::catalogue::insert;
-use core_state::{Kept, Listed, Parts, Place, Session, Stop, StoredFile, Writing};
+use core_state::{Catalogue, Kept, Listed, Parts, Place, Session, Stop, StoredFile, Writing};
 use disk_trait::Disk;
 use snapshot_files::FilePath;
 use std::alloc::Global;
@@ -58,9 +58,10 @@ fn manifest_at(session: &Session) -> Result<(&FilePath, &[u8]), Refusal>
 }
 
 /// The session ends, and its writer's snapshot is in the catalogue. It takes no memory.
-fn close(catalogue: &mut Vec<Listed>, session: &mut Session, number: u64)
-    requires { vec_len catalogue.old < vec_capacity catalogue.old }
-    ensures catalogue { catalogue.new.items ≡ closed number session.old catalogue.old.items }
+fn close(catalogue: &mut Catalogue, session: &mut Session, number: u64)
+    requires room { 0 < catalogue.old.room }
+    requires named { IsTrue (is_named session.old) }
+    ensures catalogue { catalogue.new.listed ≡ closed number session.old catalogue.old.listed }
     ensures session { session.new ≡ Idle }
 {
     if let Session::Writer(w) = mem::replace(session, Session::Idle) {
@@ -70,7 +71,7 @@ fn close(catalogue: &mut Vec<Listed>, session: &mut Session, number: u64)
             files,
             unreadable: None,
         };
-        insert(catalogue, Listed { number, kept });
+        catalogue.insert_reserved(Listed { number, kept });
     }
 }
 
@@ -89,7 +90,7 @@ pub fn finish<D: Disk>(parts: &mut Parts<D>, alloc: Global, at: Place) -> Result
 {
     check(parts.writer(at.lane)?, alloc)?;
     let (path, text) = manifest_at(&parts.sessions[at.lane as usize])?;
-    parts.catalogue.reserve(1)?;
+    parts.catalogue.reserve()?;
     snapshot_files::finish(&mut parts.disk, alloc, path, text)?;
     let session = &mut parts.sessions[at.lane as usize];
     close(&mut parts.catalogue, session, at.number);

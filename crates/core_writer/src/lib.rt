@@ -3,10 +3,10 @@
 #![tactic(auto)]
 
 mod act;
-mod catalogue;
 mod ending;
 mod finishing;
 mod opening;
+mod testing;
 mod touching;
 
 pub use act::{end_act, writer_act};

@@ -1,9 +1,8 @@
 //! OPEN_WRITER.
 
-ghost use Rattle.std.specs.Prelude.{◌≡◌, ◌<◌, ◌≤◌, length, IfOk, IfErr, OnErr, IsTrue};
-ghost use Rattle.std.specs.List.{list_all};
+ghost use Rattle.std.specs.Prelude.{◌≡◌, ◌<◌, ◌≤◌, length, IfOk, IfErr, OnErr};
 ghost use Rattle.std.specs.Option.{ForSome};
-ghost use Rattle.store_types.specs.Names.{IsKey, group_of_key};
+ghost use Rattle.store_types.specs.Names.{IsKey};
 ghost use Rattle.store_types.specs.Times.{last_moment};
 ghost use Rattle.store_types.specs.Chain.Refusing.{if_none};
 ghost use Rattle.store_types.specs.declared.refusal.Refusal.TheVariants.{GroupBusy};
@@ -12,14 +11,13 @@ ghost use Rattle.store_model.specs.WriterSteps.{base_text as text_of_base};
 ghost use Rattle.store_history.specs.declared.act.Act.TheVariants.{Plain};
 ghost use Rattle.core_state.specs.Commands.{PlainDoes, PlainLeaves};
 ghost use Rattle.core_state.specs.Found.{lent_key};
-ghost use Rattle.core_state.specs.Named.{is_named_snapshot};
 ghost use Rattle.core_state.specs.Replies.{refuses_writer};
 ghost use Rattle.core_writer.specs.AnsweredBy.{ActAnswersBy};
 ghost use Rattle.core_writer.specs.Opened.{LendsBase, TakesBase, TellsBase, base_for, base_on, other_holder};
 ghost use Rattle.core_writer.specs.Stopping.{RefusesBy, StopsBy};
 
-use crate::catalogue::{latest_in, latest_whole, want_newer, want_room};
-use core_state::{Listed, Parts, Place, Session, Stop, Writing};
+use crate::testing::{want_newer, want_room};
+use core_state::{Catalogue, Parts, Place, Session, Stop, Writing};
 use disk_trait::Disk;
 use lock_book::LockBook;
 use std::alloc::{AllocError, Global};
@@ -45,23 +43,23 @@ fn want_free(locks: &LockBook, lane: u32, group: &GroupKey) -> Result<(), Refusa
     }
 }
 
-/// The group's latest whole snapshot, where a writer of the snapshot may begin on the lane.
-#[tactic(auto, unfolding(crate::specs::Opened::base_kept))]
+/// The group's latest whole snapshot, where a writer of its snapshot of this time may begin on the lane.
+#[tactic(auto, unfolding(crate::specs::Opened::base_in))]
 fn base_of<'a>(
     locks: &LockBook,
-    catalogue: &'a [Listed],
+    catalogue: &'a Catalogue,
     lane: u32,
     group: &GroupKey,
-    key: &SnapshotKey,
+    time: u64,
 ) -> Result<Option<&'a SnapshotKey>, Refusal>
-    requires { group.now ≡ group_of_key key.now }
     ensures refusal { IfErr result (RefusesBy refuses_writer) }
-    ensures value { LendsBase (base_on locks.now catalogue.now lane group.now key.now) result }
+    ensures grammar { IfOk result (λ base. ForSome base (λ k. IsKey k.now)) }
+    ensures value { LendsBase (base_on locks.now catalogue.now.listed lane group.now time) result }
 {
     want_free(locks, lane, group)?;
-    want_newer(key, latest_in(catalogue, key))?;
-    want_room(catalogue, key)?;
-    Ok(latest_whole(catalogue, key))
+    want_newer(time, catalogue.latest(group))?;
+    want_room(catalogue, group)?;
+    Ok(catalogue.latest_whole(group))
 }
 
 /// The base's text, empty where there is none.
@@ -90,20 +88,19 @@ fn copied(base: Option<&SnapshotKey>) -> Result<Option<SnapshotKey>, AllocError>
 fn take_locks(
     locks: &mut LockBook,
     alloc: Global,
-    catalogue: &[Listed],
+    catalogue: &Catalogue,
     lane: u32,
     key: &SnapshotKey,
 ) -> Result<Beginning, Stop>
-    requires { IsTrue (list_all is_named_snapshot catalogue.now) }
     ensures stop { IfErr result (StopsBy refuses_writer) }
     // a group that another lane has is told with that lane
-    ensures value { TellsBase (base_for locks.old catalogue.now lane key.now) result }
+    ensures value { TellsBase (base_for locks.old catalogue.now.listed lane key.now) result }
     ensures short { IfOk result (λ b. length b.text < 256) }
     ensures taken { IfOk result (λ b. TakesBase locks.old locks.new lane key.now b) }
     ensures err { OnErr result (locks.new ≡ locks.old) }
 {
     let group = key.group(alloc)?;
-    let base = base_of(locks, catalogue, lane, &group, key)?;
+    let base = base_of(locks, catalogue, lane, &group, key.time)?;
     let text = base_text(alloc, base)?;
     let copy = copied(base)?;
     match locks.writer_take(lane, &group, base)? {

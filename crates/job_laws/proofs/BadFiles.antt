@@ -8,12 +8,12 @@ use Rattle.store_types.specs.declared.refusal.BadBlob.{BadBlob}
 use Rattle.store_types.specs.declared.refusal.Refusal.{Refusal}
 use Rattle.store_types.specs.declared.refusal.Refusal.TheVariants.{NoMemory, RemoteFault}
 use Rattle.store_types.specs.FileNames.{manifest_name}
-use Rattle.blob_codec.specs.Blob.{data_of}
+use Rattle.blob_codec.specs.Blob.{data_of, blob_limit}
 use Rattle.store_files.specs.Manifest.{Manifest}
 use Rattle.wire_commands.specs.declared.reply.Reply.{Reply}
 use Rattle.wire_commands.specs.declared.reply.Reply.TheVariants.{Part, Refused}
 use Rattle.store_model.specs.Load.{read_manifest}
-use Rattle.store_model.specs.SizeLimits.{blob_limit, size_limit}
+use Rattle.store_model.specs.SizeLimits.{size_limit}
 use Rattle.store_history.specs.Pulling.{Course, Stock, Pulling, seeking, reading_manifest, reading_file, sending_blob, rejecting, aborting, SyncJob, reports, asks, blob_read, file_part, file_read, file_told, index_in, index_read, is_index, manifest_part, manifest_read, manifest_told, next_file, rejected, rejects, stock_of, take, take_more}
 use Rattle.job_laws.specs.Pulls.{BadFilesEndIt, DoesNotDecode, DoesNotDecodeBy, EndsBad, HasReadBad, IsNoManifest, pull_after}
 use Rattle.job_laws.proofs.FirstRefusals.{IsFineBehind, IsOpen, Tells, ends_tell, fine_on, refused_tells}

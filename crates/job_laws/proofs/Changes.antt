@@ -10,7 +10,7 @@ use Rattle.store_model.specs.WriterSteps.{snapshot_of}
 use Rattle.store_model.specs.ReaderSteps.{read_file, read_chunk}
 use Rattle.store_model.specs.Steps.{outcome, answered}
 use Rattle.store_model.specs.JobSteps.{step_outcome}
-use Rattle.store_model.specs.Done.{Effect, quiet, effect_of, Shape, same, turned, more, less}
+use Rattle.store_model.specs.Done.{Effect, nothing, effect_of, Shape, same, turned, more, less}
 use Rattle.store_model.proofs.Done.{command_left, part_left, entry_left, answered_shape}
 use Rattle.store_history.specs.declared.act.Act.{Act}
 use Rattle.store_history.specs.History.{World, EntryKind, moved}
@@ -34,8 +34,8 @@ changes s k m e t (less text key forgets named free is) = subst (Changes s) (sym
 pub step_changes : (s : Store) (k m : ℕ) (a : Step) → Changes s (answered s (step_outcome s k m a)).0
 step_changes s k m (steps.Command c) =
     changes s k m (effect_of c) _ (answered_shape s k m (effect_of c) (outcome s k m c) (λ after is. command_left s k m after c is))
-step_changes s k m (steps.ReadFile name offset) = changes s k m quiet _ (answered_shape s k m quiet (read_file s k name offset) (λ after is. part_left s k m after name offset is))
-step_changes s k m (steps.ReadChunk name entry) = changes s k m quiet _ (answered_shape s k m quiet (read_chunk s k name entry) (λ after is. entry_left s k m after name entry is))
+step_changes s k m (steps.ReadFile name offset) = changes s k m nothing _ (answered_shape s k m nothing (read_file s k name offset) (λ after is. part_left s k m after name offset is))
+step_changes s k m (steps.ReadChunk name entry) = changes s k m nothing _ (answered_shape s k m nothing (read_chunk s k name entry) (λ after is. entry_left s k m after name entry is))
 
 -- so an event does
 pub moved_changes : (R : Option (List Snapshot)) (w : World) (k m : ℕ) (a : Act) (n : EntryKind) → Changes w.store (moved R w k m a n).store

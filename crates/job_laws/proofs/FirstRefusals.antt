@@ -13,12 +13,12 @@ use Rattle.store_types.specs.declared.names.Digest32.{Digest32}
 use Rattle.store_types.specs.declared.refusal.ChunkFault.TheVariants.{Other}
 use Rattle.store_types.specs.declared.refusal.Refusal.TheVariants.{Damaged, DiskFault, Halted, NoMemory, RemoteFault, Unreadable}
 use Rattle.store_types.specs.FileNames.{manifest_name}
-use Rattle.blob_codec.specs.Blob.{data_of}
+use Rattle.blob_codec.specs.Blob.{data_of, blob_limit}
 use Rattle.store_files.specs.Manifest.{Manifest}
 use Rattle.wire_commands.specs.declared.reply.Reply.{Reply}
 use Rattle.wire_commands.specs.declared.reply.Reply.TheVariants.{Base, Data, Keys, Part, Refused}
 use Rattle.store_model.specs.Load.{read_manifest}
-use Rattle.store_model.specs.SizeLimits.{blob_limit, size_limit}
+use Rattle.store_model.specs.SizeLimits.{size_limit}
 use Rattle.store_history.specs.Pulling.{Course, Stock, Index, Pulling, seeking, comparing, starting, reading_manifest, reading_file, opening, reading_chunk, sending_chunk, appending, closing_index, sending_blob, sending_manifest, finishing, rejecting, aborting, SyncJob, reports, asks, blob_read, chunk_told, compared, ends, file_part, file_read, file_told, finished, goes_on, index_in, index_read, is_index, manifest_part, manifest_read, manifest_told, next_append, next_chunk, next_file, next_snapshot, rejected, rejects, sought, started, stock_of, stops, take, take_more, size_sent, blob_size, mismatched, with_chunk}
 use Rattle.job_laws.specs.Pulls.{AreSent, FindsOther, HasOther, IsMismatch, EndsBad, FirstRefusalIsTold, HasReadBad, IsCause, IsFirstRefusal, DoesNotDecode, DoesNotDecodeBy, is_refusal, pull_after}
 

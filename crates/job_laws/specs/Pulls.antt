@@ -8,7 +8,7 @@ use Rattle.store_types.specs.declared.refusal.Refusal.{Refusal}
 use Rattle.store_types.specs.declared.refusal.Refusal.TheVariants.{Damaged, DiskFault, Halted, NoMemory, Unreadable}
 use Rattle.store_types.specs.FileNames.{manifest_name}
 use Rattle.store_types.specs.Names.{IsKey, key_text}
-use Rattle.blob_codec.specs.Blob.{data_of}
+use Rattle.blob_codec.specs.Blob.{data_of, blob_limit}
 use Rattle.store_files.specs.Archive.{Snapshot, digest_of, pieces_of}
 use Rattle.wire_commands.specs.declared.command.Command.{Command}
 use Rattle.wire_commands.specs.declared.command.Command.TheVariants.{NewFixed, NewDynamic, Chunk, Blob, Abort, Sync}
@@ -18,7 +18,7 @@ use Rattle.store_model.specs.AdminSteps.{group as group_here}
 use Rattle.store_model.specs.Job.{Pull, Asking, sending, Job, over, asking, step_of}
 use Rattle.store_model.specs.Jobs.{take_more as job_takes}
 use Rattle.store_model.specs.Load.{read_manifest}
-use Rattle.store_model.specs.SizeLimits.{blob_limit, size_limit}
+use Rattle.store_model.specs.SizeLimits.{size_limit}
 use Rattle.store_model.specs.Store.{Store}
 use Rattle.store_model.specs.SyncJob.{commands_of, listed_files, next_snapshot, to_pull}
 use Rattle.store_history.specs.declared.act.Act.{Act}

@@ -3,7 +3,7 @@ use Rattle.std.proofs.Common.{◌≡◌, ◌<◌, inl, inr, ℕ, Bool, true, fal
 use Rattle.store_types.specs.declared.refusal.Refusal.TheVariants.{NoMemory}
 use Rattle.store_types.specs.declared.append.AppendEntry.{AppendEntry}
 use Rattle.store_types.specs.FileNames.{manifest_name}
-use Rattle.blob_codec.specs.Blob.{data_of}
+use Rattle.blob_codec.specs.Blob.{data_of, blob_limit}
 use Rattle.store_files.specs.Archive.{Layout, dynamic, fixed}
 use Rattle.store_files.specs.Manifest.{Manifest}
 use Rattle.wire_commands.specs.declared.command.Command.TheVariants as commands
@@ -18,7 +18,7 @@ use Rattle.store_history.specs.declared.act.Act.{Act}
 use Rattle.store_history.specs.declared.act.Act.TheVariants as acts
 use Rattle.store_history.specs.Acts.{IsWellFormed, act_of_command}
 use Rattle.store_history.proofs.Ending.{is_formed}
-use Rattle.store_model.specs.SizeLimits.{blob_limit, size_limit}
+use Rattle.store_model.specs.SizeLimits.{size_limit}
 use Rattle.store_history.specs.Pulling.{Course, Stock, Index, Pulling, seeking, reading_manifest, reading_file, opening, reading_chunk, sending_chunk, sending_blob, sending_manifest, aborting, SyncJob, reports, asks, act_of, rejects, index_in, is_index, index_read, blob_read, file_read, next_file, stock_of, manifest_read, manifest_part, file_part, manifest_told, file_told, chunk_told, take, take_more, blob_size, mismatched, with_chunk}
 use Rattle.core_state.specs.History.{History}
 use Rattle.pull_steps.specs.Asked.{IsOver, MayWant, report_of}

@@ -1,12 +1,12 @@
 -- How far a SYNC is from its end: each reply brings it nearer.
-use Rattle.std.proofs.Common.{◌≡◌, ◌<◌, ◌≤◌, ◌+◌, ◌-◌, ◌*◌, ◌^◌, ℕ, zero, suc, Bool, true, false, ◌||◌, List, [], ◌∷◌, ◌++◌, length, filter, map, drop, Option, Some, None, Result, Ok, Err, if◌then◌else◌, nat_le, nat_lt, refl, ap, arith, ◌==◌}
+use Rattle.std.proofs.Common.{◌≡◌, ◌<◌, ◌≤◌, ◌+◌, ◌-◌, ◌*◌, ◌^◌, ℕ, zero, suc, Bool, true, false, ◌||◌, List, [], ◌∷◌, ◌++◌, length, filter, map, drop, Option, Some, None, Result, Ok, Err, if◌then◌else◌, nat_le, nat_lt, refl, arith, ◌==◌}
 use Rattle.std.proofs.lemmas.Bool.{ltb-true, leb-true}
 use Rattle.std.proofs.lemmas.List.{length-append, length-map}
 use Rattle.store_types.specs.declared.append.AppendEntry.{AppendEntry}
 use Rattle.store_types.specs.declared.refusal.Refusal.{Refusal}
 use Rattle.store_types.specs.declared.refusal.Refusal.TheVariants.{NoMemory, RemoteFault, DiskFault, Halted}
 use Rattle.store_types.specs.FileNames.{manifest_name}
-use Rattle.blob_codec.specs.Blob.{data_of}
+use Rattle.blob_codec.specs.Blob.{data_of, blob_limit}
 use Rattle.store_files.specs.Manifest.{Manifest}
 use Rattle.wire_commands.specs.declared.command.Command.TheVariants as commands
 use Rattle.wire_commands.specs.declared.reply.Reply.{Reply}
@@ -15,7 +15,7 @@ use Rattle.wire_commands.specs.HasText.{ReplyHasText}
 use Rattle.store_model.specs.Load.{read_manifest}
 use Rattle.store_history.specs.declared.act.Act.{Act}
 use Rattle.store_history.specs.declared.act.Act.TheVariants as acts
-use Rattle.store_model.specs.SizeLimits.{blob_limit, size_limit}
+use Rattle.store_model.specs.SizeLimits.{size_limit}
 use Rattle.store_history.specs.Pulling.{Course, Stock, Index, Pulling, seeking, comparing, starting, reading_manifest, reading_file, opening, reading_chunk, sending_chunk, appending, closing_index, sending_blob, sending_manifest, finishing, rejecting, aborting, SyncJob, asks, is_key, is_later, newest_in, next_snapshot, finished, stops, ends, rejected, rejects, next_append, next_chunk, index_in, is_index, index_read, blob_read, file_read, next_file, stock_of, manifest_read, batch, sought, compared, started, manifest_part, file_part, manifest_told, file_told, chunk_told, goes_on, take, is_ending, size_sent, blob_size, mismatched, with_chunk}
 use Rattle.store_model.specs.Job.{leaves_open}
 use Rattle.lane.specs.declared.acts.Told.{Told}

@@ -26,7 +26,7 @@ use Rattle.store_history.specs.Begun.{IsBegun}
 use Rattle.store_history.specs.LaneRun.{is_stopping}
 use Rattle.store_history.proofs.Jobs.{take_begun}
 use Rattle.core_state.specs.declared.kept.Session.{Session}
-use Rattle.core_state.specs.declared.kept.Session.TheVariants.{Idle, Reader}
+use Rattle.core_state.specs.declared.kept.Session.TheVariants.{Idle}
 use Rattle.core_state.specs.declared.state.Core.{Core}
 use Rattle.core_state.specs.Answers.{HasCause, IsAnswered, IsCaused, ReachHasCause, done, short, failed, halted, reach_reads, reach_failed, reach_as_any, fault_after}
 use Rattle.core_state.specs.Applies.{ActKeeps}

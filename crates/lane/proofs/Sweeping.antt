@@ -58,7 +58,7 @@ pub opens_sweep : {D E C : Type 0} (old new : Core D E C) (k : ℕ) (answer : An
     → (new.parts).sessions.items ≡ (old.parts).sessions.items → (answer.entry).kind ≡ START_KIND → IsSweeping new k false
 opens_sweep old new k answer tells keeps same three = record {
   is_open = on_new new.collector old.parts k (answer.entry).moment (tells.opens three).1;
-  idle = session_same old new k same (idle_by old.collector (session_at old.parts k) (old.parts).catalogue.items (tells.opens three).0);
+  idle = session_same old new k same (idle_by old.collector (session_at old.parts k) (old.parts).catalogue.listed (tells.opens three).0);
   held = keeps.filled (start_closes old.fault (session_at old.parts k)) (λ two. omega (arith, two, three));
   cut = λ last. absurd (true_false (sym last));
 }

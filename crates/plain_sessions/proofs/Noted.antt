@@ -5,7 +5,7 @@ use Rattle.std.specs.Option.{option_or}
 use Rattle.std.proofs.lemmas.List.{append-nil, take_more, take_all, length-drop}
 use Rattle.std.proofs.lemmas.List.Folds.{concat-append, find-append}
 use Rattle.std.proofs.lemmas.Option.{slice_get_read, slice_get_past}
-use Rattle.blob_codec.specs.Blob.{blob, data_limit}
+use Rattle.blob_codec.specs.Blob.{blob, data_limit, blob_limit}
 use Rattle.store_types.specs.declared.refusal.Refusal.{Refusal}
 use Rattle.store_types.specs.declared.refusal.Refusal.TheVariants.{NotAllowed, BadRange}
 use Rattle.store_files.specs.Archive.{File}
@@ -23,7 +23,7 @@ concat_more xs i x below is =
 
 -- ---- the blob of a piece
 
-pub blob_short : (bytes piece text : List ℕ) → length piece ≤ data_limit → text ≡ blob piece → bytes ≡ text → length bytes ≤ 16_777_228
+pub blob_short : (bytes piece text : List ℕ) → length piece ≤ data_limit → text ≡ blob piece → bytes ≡ text → length bytes ≤ blob_limit
 unfolding blob
 blob_short bytes piece text few is same = let size = ap length (same ∙ is) in omega (arith, size, few)
 

@@ -2,7 +2,7 @@
 
 ghost use Rattle.std.specs.Prelude.{◌≡◌, ◌≤◌, [], length, option_map, IfOk, IfErr};
 ghost use Rattle.std.specs.List.{concat};
-ghost use Rattle.blob_codec.specs.Blob.{blob};
+ghost use Rattle.blob_codec.specs.Blob.{blob, blob_limit};
 ghost use Rattle.wire_commands.specs.HasText.{FitsRefusal};
 ghost use Rattle.store_model.specs.ReaderSteps.{is_noted as has_noted, note as noted, pieces_at as pieces_named, want_range as range_fits, range_of};
 ghost use Rattle.plain_snapshots.specs.Contents.{shown_content};
@@ -40,7 +40,7 @@ fn content_of(alloc: Global, pieces: &[BlobData]) -> Result<Vec<u8>, AllocError>
 /// The blob of a piece. A reply holds it.
 fn blob_of(alloc: Global, piece: &BlobData) -> Result<Bytes, AllocError>
     ensures blob { IfOk result (λ b. b ≡ blob piece.now) }
-    ensures short { IfOk result (λ b. length b ≤ 16_777_228) }
+    ensures short { IfOk result (λ b. length b ≤ blob_limit) }
 {
     let _ = piece.as_slice();
     let text = piece.text(alloc)?;
@@ -51,7 +51,7 @@ fn blob_of(alloc: Global, piece: &BlobData) -> Result<Bytes, AllocError>
 pub fn blob_at(alloc: Global, pieces: &[BlobData], entry: u32) -> Result<Bytes, Stop>
     ensures fits { IsFitRefusal result }
     ensures gives { GivesSame result (entry_blob pieces.now entry) }
-    ensures short { IfOk result (λ b. length b ≤ 16_777_228) }
+    ensures short { IfOk result (λ b. length b ≤ blob_limit) }
 {
     let place = entry as usize;
     if place >= pieces.len() {
@@ -146,7 +146,7 @@ impl Reader {
     pub fn chunk(&self, alloc: Global, files: &[File], digest: &Digest32) -> Result<Bytes, Stop>
         ensures fits { IsFitRefusal result }
         ensures gives { GivesSame result (chunk_of files.now self.now digest.now) }
-        ensures short { IfOk result (λ b. length b ≤ 16_777_228) }
+        ensures short { IfOk result (λ b. length b ≤ blob_limit) }
     {
         let Some(piece) = self.noted_piece(files, digest) else {
             return Err(Stop::Refused(Refusal::NotAllowed));

@@ -8,6 +8,7 @@ use Rattle.store_types.specs.declared.refusal.CloseFault.{CloseFault}
 use Rattle.store_types.specs.declared.refusal.CloseFault.TheVariants.{Count, Size, Csum, Rest}
 use Rattle.store_types.specs.declared.refusal.ChunkFault.{ChunkFault}
 use Rattle.store_types.specs.declared.refusal.ChunkFault.TheVariants.{Nothing, NotABlob, Other}
+use Rattle.blob_codec.specs.Blob.{blob_limit}
 use Rattle.wire_commands.specs.declared.reply.Reply.TheVariants.{Done, Base, Part, Data, Number, Collected, Refused}
 use Rattle.wire_commands.specs.RefusalText.{blob_fault_text, close_fault_text, chunk_fault_text, refusal_text}
 use Rattle.wire_commands.specs.ReplyText.{reply_text}
@@ -27,7 +28,7 @@ pub part_spelled : (total : ℕ) (bytes : List ℕ) → total < 2 ^ 64 → lengt
 unfolding reply_text
 part_spelled total bytes h few = (h, omega arith)
 
-pub data_spelled : (bytes : List ℕ) → length bytes ≤ 16_777_228 → ReplyHasText (Data bytes)
+pub data_spelled : (bytes : List ℕ) → length bytes ≤ blob_limit → ReplyHasText (Data bytes)
 unfolding reply_text
 data_spelled bytes few = (tt, omega arith)
 

@@ -4,12 +4,12 @@ use Rattle.std.specs.Prelude.{IfOk, map, nat_le, ◌||◌}
 use Rattle.std.proofs.lemmas.Bool.{lt-ltb, lt-leb, le-ltb, le-leb}
 use Rattle.store_types.specs.declared.refusal.BadBlob.{BadBlob}
 use Rattle.store_types.specs.FileNames.{is_dynamic_name, is_fixed_name, is_index_name, manifest_name}
-use Rattle.blob_codec.specs.Blob.{data_of}
+use Rattle.blob_codec.specs.Blob.{data_of, blob_limit}
 use Rattle.store_files.specs.Manifest.{Manifest}
 use Rattle.wire_commands.specs.declared.reply.Reply.{Reply}
 use Rattle.wire_commands.specs.declared.reply.Reply.TheVariants.{Part, Refused}
 use Rattle.store_model.specs.Load.{read_manifest}
-use Rattle.store_model.specs.SizeLimits.{blob_limit, size_limit}
+use Rattle.store_model.specs.SizeLimits.{size_limit}
 use Rattle.store_history.specs.Pulling as model
 use Rattle.store_history.specs.Pulling.{asks, blob_read, file_part, file_read, file_told, index_in, index_read, manifest_part, manifest_read, manifest_told, next_file, opening, rejects, sending_blob, stock_of}
 use Rattle.pull_steps.specs.declared.course.Course.{Course}

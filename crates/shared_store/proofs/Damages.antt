@@ -111,7 +111,7 @@ tells_whole d old new lane act answer other alone cause = record {
   named = λ digest found e. absurd (never digest found e);
   cause = λ digest found e h. absurd (never digest found e);
   damaged = λ digest found k h at.
-      absurd (some_damage digest found (sym (no_damage act (session_at old.parts lane) (old.parts).catalogue.items (d.content (old.parts).disk) other) ∙ at));
+      absurd (some_damage digest found (sym (no_damage act (session_at old.parts lane) (old.parts).catalogue.listed (d.content (old.parts).disk) other) ∙ at));
 }
   where
     never : (digest : Digest32) (found : ChunkFault) → answer.reply ≡ Some (Refused (Damaged digest found)) → ⊥

@@ -2,7 +2,7 @@
 use Rattle.std.proofs.Common.{◌≡◌, ◌<◌, ◌≤◌, ℕ, List, length, drop, Option, Some, None, option_map, Result, Ok, Err, refl, sym, ap, ◌∙◌, arith, length-drop}
 use Rattle.std.specs.FinMap.{get}
 use Rattle.disk_trait.specs.Files.{Files}
-use Rattle.blob_codec.specs.Blob.{data_of}
+use Rattle.blob_codec.specs.Blob.{data_of, blob_limit}
 use Rattle.blob_codec.proofs.Reading.{HasParts-from_data_of}
 use Rattle.store_types.specs.declared.refusal.BadBlob.{BadBlob}
 use Rattle.store_types.specs.declared.names.SnapshotKey.{SnapshotKey}
@@ -48,7 +48,7 @@ found_none files name key k none =
 
 -- ---- a file that is longer than a blob
 
-too_long : (bytes : List ℕ) → 16_777_228 < length bytes → read_manifest bytes ≡ None
+too_long : (bytes : List ℕ) → blob_limit < length bytes → read_manifest bytes ≡ None
 too_long bytes long = by_case (data_of bytes) refl
   where
     by_case : (r : Result (List ℕ) BadBlob) → data_of bytes ≡ r → read_manifest bytes ≡ None
@@ -59,7 +59,7 @@ too_long bytes long = by_case (data_of bytes) refl
     by_case (Err cause) is = ap (λ r. elim r [ Err cause ↦ None | Ok contents ↦ elim (manifest_of contents) [ Ok x ↦ Some x | Err cause ↦ None ] ]) is
 
 -- says nothing
-pub long_lists_none : (files : Files) (name : List ℕ) (size : ℕ) → Some size ≡ option_map (λ t. length t) (get files name) → 16_777_228 < size
+pub long_lists_none : (files : Files) (name : List ℕ) (size : ℕ) → Some size ≡ option_map (λ t. length t) (get files name) → blob_limit < size
     → Some None ≡ option_map read_manifest (get files name)
 long_lists_none files name size is long = by_case (get files name) is
   where

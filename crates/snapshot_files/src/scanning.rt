@@ -6,6 +6,7 @@ ghost use Rattle.disk_trait.specs.Disk.{Ticks};
 ghost use Rattle.disk_trait.specs.Effects.{OnlyReads};
 ghost use Rattle.manifest.specs.Least.{lesser as lesser_of};
 ghost use Rattle.store_types.specs.Names.{IsKey};
+ghost use Rattle.blob_codec.specs.Blob.{blob_limit};
 ghost use Rattle.store_model.specs.Load.{key_of_manifest as key_named};
 ghost use Rattle.store_files.specs.Folder.{manifest_path};
 ghost use Rattle.snapshot_files.specs.Reads.{NoneWantedWhere, OneCallWhere, ReadsItems, ReadsTexts, ReadsThere};
@@ -152,8 +153,8 @@ fn listed_at<D: Disk>(
 ) -> Result<Option<Option<Manifest>>, DiskError>
     ensures reads { OnlyReads D.Disk disk.old disk.new (IsErrOf result DiskError.Failed) }
     ensures listed { ReadsListed D.Disk disk.old name.now result }
-    ensures calls { OneCallWhere D.Disk disk.old disk.new name.now (λ size. 16_777_228 < size) }
-    ensures wanting { NoneWantedWhere D.Disk disk.old name.now (λ size. 16_777_228 < size) result }
+    ensures calls { OneCallWhere D.Disk disk.old disk.new name.now (λ size. blob_limit < size) }
+    ensures wanting { NoneWantedWhere D.Disk disk.old name.now (λ size. blob_limit < size) result }
 {
     let Some(size) = disk.size(name)? else {
         return Ok(None);

@@ -4,7 +4,7 @@ use Rattle.store_files.specs.Archive.{Snapshot}
 use Rattle.wire_commands.specs.declared.reply.Reply.{Reply}
 use Rattle.store_model.specs.Store.{none, Store, ended}
 use Rattle.store_model.specs.Steps.{answered}
-use Rattle.store_model.specs.Done.{Effect, quiet, sends, effect_of, ends, Shape, same, turned, IsAnswer, Leaves}
+use Rattle.store_model.specs.Done.{Effect, nothing, sends, effect_of, ends, Shape, same, turned, IsAnswer, Leaves}
 use Rattle.store_model.proofs.Done.{ok_same, err_ok, command_left, blob_left, chunk_left, part_left, entry_left, answered_shape}
 use Rattle.store_history.specs.declared.act.Act.{Act}
 use Rattle.store_history.specs.declared.act.Act.TheVariants as acts
@@ -14,7 +14,7 @@ abbrev pub act_effect : Act → Effect
 act_effect (acts.Plain c) = effect_of c
 act_effect (acts.JobGroup c) = effect_of c
 act_effect (acts.Chunk digest checked) = sends
-act_effect a = quiet
+act_effect a = nothing
 
 -- the lane's session ends
 pub ends_lane : (s : Store) (k m : ℕ) (e : Effect) → Shape s k m e (ended s k)
@@ -31,7 +31,7 @@ module _ (R : Option (List Snapshot)) (w : World) (k m : ℕ) where
   act_left (acts.ReadFile name offset) after is = part_left w.store k m after name offset is
   act_left (acts.ReadChunk name entry) after is = entry_left w.store k m after name entry is
   act_left acts.End after is = record {
-    store = subst (λ (x : Store × Reply). Shape w.store k m quiet x.0) (ok_same _ after is) (ends_lane w.store k m quiet);
+    store = subst (λ (x : Store × Reply). Shape w.store k m nothing x.0) (ok_same _ after is) (ends_lane w.store k m nothing);
     reply = subst (λ (x : Store × Reply). IsAnswer x.1) (ok_same _ after is) tt;
   }
   act_left a after is = absurd (err_ok _ after is)

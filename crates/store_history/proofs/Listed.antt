@@ -11,6 +11,7 @@ use Rattle.store_types.specs.declared.refusal.BadBlob.{BadBlob}
 use Rattle.store_types.specs.FileNames.{manifest_name}
 use Rattle.store_types.specs.Names.{key_of, key_text}
 use Rattle.store_types.proofs.KeyLaws.{keys}
+use Rattle.blob_codec.specs.Blob.{blob_limit}
 use Rattle.blob_codec.specs.Blob as blobs
 use Rattle.blob_codec.proofs.RoundTrips.{data_of-blob}
 use Rattle.store_files.specs.Archive.{Content, archive, blob, File, Snapshot, digest_of, pieces_of, piece_with, file_named, file_text}
@@ -19,7 +20,6 @@ use Rattle.store_files.specs.Manifest.Fields.{Fact}
 use Rattle.store_model.specs.AdminSteps.{facts_in}
 use Rattle.store_model.specs.Load.{read_manifest}
 use Rattle.store_model.specs.Manifests.{blob_data, data_in}
-use Rattle.store_model.specs.SizeLimits.{blob_limit}
 use Rattle.store_model.specs.Stands.{IsSnapshot, FitsContent, pieces_in}
 use Rattle.store_model.specs.Store.{snapshot_named}
 use Rattle.store_model.specs.SyncJob.{listed_files, text_of}

@@ -14,6 +14,7 @@ use Rattle.store_types.specs.declared.refusal.Refusal.TheVariants.{BadRange, Dis
 use Rattle.store_types.specs.declared.refusal.BadBlob.{BadBlob}
 use Rattle.store_types.specs.FileNames.{manifest_name}
 use Rattle.store_types.specs.Names.{key_text, text_cmp}
+use Rattle.blob_codec.specs.Blob.{blob_limit}
 use Rattle.blob_codec.specs.Blob as blobs
 use Rattle.blob_codec.proofs.RoundTrips.{data_of-blob}
 use Rattle.store_files.specs.Archive.{Archive, Content, archive, blob, File, Snapshot, digest_of, size_of, csum_of, file_named, file_text}
@@ -24,7 +25,7 @@ use Rattle.wire_commands.specs.declared.reply.Reply.TheVariants.{Base, Data, Par
 use Rattle.wire_commands.specs.declared.command.Command.TheVariants as commands
 use Rattle.store_files.specs.Manifest.{Manifest}
 use Rattle.store_model.specs.Load.{read_manifest}
-use Rattle.store_model.specs.SizeLimits.{blob_limit, size_limit}
+use Rattle.store_model.specs.SizeLimits.{size_limit}
 use Rattle.store_model.specs.Stands.{FitsContent, IsSnapshot, names_content, pieces_in}
 use Rattle.store_model.specs.WriterSteps.{part_limit, part_of}
 use Rattle.store_model.specs.Job.{Pull, Asking, beginning, sending, aborting as job_aborting, step_of, Job, over, asking, stopped}

@@ -1,6 +1,7 @@
 -- No file of a snapshot is longer than one of its kind may be.
 use Rattle.std.proofs.Common.{◌≡◌, ℕ, ◌≤◌, Bool, true, false, List, length, Some, None, Ok, Err, Result, refl, sym, subst, arith, if◌then◌else◌, IsTrue}
 use Rattle.store_types.specs.FileNames.{is_fixed_name, is_dynamic_name}
+use Rattle.blob_codec.specs.Blob.{blob_limit}
 use Rattle.blob_codec.specs.Blob as blobs
 use Rattle.store_files.specs.declared.causes.IndexFault.{IndexFault}
 use Rattle.store_files.specs.FixedIndex.{FixedIndex, fixed_of}
@@ -8,7 +9,7 @@ use Rattle.store_files.specs.DynamicIndex.{DynamicIndex, dynamic_of}
 use Rattle.store_files.specs.Archive.{Content, archive, blob, file_text}
 use Rattle.fixed_index.proofs.Reading.{fixed_of-ok}
 use Rattle.dynamic_index.proofs.Reading.{dynamic_of-ok}
-use Rattle.store_model.specs.SizeLimits.{fixed_limit, dynamic_limit, blob_limit, size_limit}
+use Rattle.store_model.specs.SizeLimits.{fixed_limit, dynamic_limit, size_limit}
 use Rattle.store_model.specs.Stands.{FitsContent, names_content}
 use Rattle.store_history.specs.Pulling.{Index, fixed_as, dynamic_as, index_in, is_index}
 use Rattle.store_history.proofs.Indexes.{archive_read, blob_apart}

@@ -9,7 +9,7 @@ use Rattle.store_types.specs.declared.refusal.ChunkFault.TheVariants.{Other}
 use Rattle.store_types.specs.declared.refusal.Refusal.TheVariants.{Damaged, Unreadable, RemoteFault, DiskFault, Halted, NoMemory}
 use Rattle.store_types.specs.FileNames.{manifest_name, is_fixed_name, is_dynamic_name}
 use Rattle.store_types.specs.Names.{key_of, text_cmp}
-use Rattle.blob_codec.specs.Blob.{data_of}
+use Rattle.blob_codec.specs.Blob.{data_of, blob_limit}
 use Rattle.store_files.specs.Archive.{Layout, dynamic, fixed}
 use Rattle.store_files.specs.FixedIndex as fixed_index
 use Rattle.store_files.specs.DynamicIndex as dynamic_index
@@ -17,7 +17,7 @@ use Rattle.store_files.specs.Manifest.{Manifest}
 use Rattle.wire_commands.specs.declared.command.Command.TheVariants as commands
 use Rattle.wire_commands.specs.declared.reply.Reply.{Reply}
 use Rattle.wire_commands.specs.declared.reply.Reply.TheVariants.{Base, Keys, Part, Data, Refused}
-use Rattle.store_model.specs.SizeLimits.{blob_limit, size_limit}
+use Rattle.store_model.specs.SizeLimits.{size_limit}
 use Rattle.store_model.specs.Load.{read_manifest}
 use Rattle.store_model.specs.SyncJob.{new_index}
 use Rattle.store_model.specs.VerifyJob.{digest, last_end}

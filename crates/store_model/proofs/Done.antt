@@ -22,7 +22,7 @@ use Rattle.store_model.specs.ArchiveSteps.{new_fixed, new_dynamic, check_chunk, 
 use Rattle.store_model.specs.ReaderSteps.{open_reader, reader_files, is_noted, note, download, noted_pieces, get_chunk, range_of, range, read_file, read_chunk, close_reader}
 use Rattle.store_model.specs.AdminSteps.{want_after, list, files, want_free, forget, group, counts_fit, prune_group}
 use Rattle.store_model.specs.Steps.{outcome, answered}
-use Rattle.store_model.specs.Done.{IsBlobDone, IsChunkDone, IsDone, IsAnswer, Effect, quiet, sends, appends, finishes, forgets, effect_of, IsGrown, taken, sent, begun, appended, filed, stored, IsNext, ends, opens, writes, enters, reads, Shape, same, turned, more, less, Leaves}
+use Rattle.store_model.specs.Done.{IsBlobDone, IsChunkDone, IsDone, IsAnswer, Effect, nothing, sends, appends, finishes, forgets, effect_of, IsGrown, taken, sent, begun, appended, filed, stored, IsNext, ends, opens, writes, enters, reads, Shape, same, turned, more, less, Leaves}
 
 -- ---- a test that did not refuse
 
@@ -243,55 +243,55 @@ module _ (s : Store) (k m : ℕ) (after : Store × Reply) where
   chunk_leaves checked d = goes sends d.0 _ _ d.4 tt d.2 (sent d.1 refl refl)
 
   pub shape : (c : Command) → IsDone s k m c after → Leaves s k m (effect_of c) after
-  shape (commands.OpenWriter text) d = turns quiet _ _ d.6 tt (opens text d.0 d.2 d.1 d.3 d.4 refl)
-  shape (commands.Previous name offset) d = goes quiet d.0 _ _ d.8 tt d.3 (taken d.1 name d.2 d.5 d.6 refl)
-  shape (commands.NewFixed name size chunk_size) d = goes quiet d.0 _ _ d.6 tt d.1 (begun name (new_archive (fixed size chunk_size) 4016 (d.0).key name m) refl refl)
-  shape (commands.NewDynamic name) d = goes quiet d.0 _ _ d.5 tt d.1 (begun name (new_archive dynamic 4032 (d.0).key name m) refl refl)
+  shape (commands.OpenWriter text) d = turns nothing _ _ d.6 tt (opens text d.0 d.2 d.1 d.3 d.4 refl)
+  shape (commands.Previous name offset) d = goes nothing d.0 _ _ d.8 tt d.3 (taken d.1 name d.2 d.5 d.6 refl)
+  shape (commands.NewFixed name size chunk_size) d = goes nothing d.0 _ _ d.6 tt d.1 (begun name (new_archive (fixed size chunk_size) 4016 (d.0).key name m) refl refl)
+  shape (commands.NewDynamic name) d = goes nothing d.0 _ _ d.5 tt d.1 (begun name (new_archive dynamic 4032 (d.0).key name m) refl refl)
   shape (commands.Chunk digest bytes) d = chunk_leaves (check_chunk digest bytes) d
   shape (commands.Append number entries) d = goes appends d.0 _ _ d.7 tt d.3 (appended number d.2 refl refl)
-  shape (commands.CloseIndex number count size csum) d = goes quiet d.0 _ _ d.5 tt d.2 (filed number d.1 d.3 refl)
-  shape (commands.Blob name bytes) d = blob_leaves quiet name (want_data bytes) d
+  shape (commands.CloseIndex number count size csum) d = goes nothing d.0 _ _ d.5 tt d.2 (filed number d.1 d.3 refl)
+  shape (commands.Blob name bytes) d = blob_leaves nothing name (want_data bytes) d
   shape commands.Finish d = leaves finishes _ _ d.4 tt (more d.0 refl d.2 refl)
-  shape commands.Abort d = turns quiet none _ d.2 tt (ends refl)
-  shape (commands.OpenReader text) d = turns quiet _ _ d.5 tt (enters d.1 _ d.4 refl)
-  shape (commands.Download name offset) d = turns quiet _ _ d.6 tt (reads d.0 _ d.2 (note_key name (d.1).content d.0) refl)
-  shape (commands.GetChunk digest) d = stays quiet _ d.4 tt
-  shape (commands.Range name offset len) d = stays quiet _ d.7 tt
-  shape commands.CloseReader d = turns quiet none _ d.2 tt (ends refl)
-  shape (commands.List text) d = stays quiet _ d.2 tt
-  shape (commands.Files text) d = stays quiet _ d.4 tt
+  shape commands.Abort d = turns nothing none _ d.2 tt (ends refl)
+  shape (commands.OpenReader text) d = turns nothing _ _ d.5 tt (enters d.1 _ d.4 refl)
+  shape (commands.Download name offset) d = turns nothing _ _ d.6 tt (reads d.0 _ d.2 (note_key name (d.1).content d.0) refl)
+  shape (commands.GetChunk digest) d = stays nothing _ d.4 tt
+  shape (commands.Range name offset len) d = stays nothing _ d.7 tt
+  shape commands.CloseReader d = turns nothing none _ d.2 tt (ends refl)
+  shape (commands.List text) d = stays nothing _ d.2 tt
+  shape (commands.Files text) d = stays nothing _ d.4 tt
   shape (commands.Forget text) d = leaves (forgets text) _ _ d.6 tt (less text d.0 refl d.3 d.5 refl)
-  shape (commands.Prune name keep dry) d = stays quiet _ d.4 tt
-  shape (commands.Verify text) d = stays quiet _ d tt
-  shape (commands.Sync name) d = stays quiet _ d tt
-  shape commands.Gc d = stays quiet _ d tt
-  shape (commands.Group name) d = stays quiet _ d.2 tt
-  shape commands.Bye d = turns quiet none _ d tt (ends refl)
+  shape (commands.Prune name keep dry) d = stays nothing _ d.4 tt
+  shape (commands.Verify text) d = stays nothing _ d tt
+  shape (commands.Sync name) d = stays nothing _ d tt
+  shape commands.Gc d = stays nothing _ d tt
+  shape (commands.Group name) d = stays nothing _ d.2 tt
+  shape commands.Bye d = turns nothing none _ d tt (ends refl)
 
   -- a command, an upload that was checked, and a VERIFY's own reads
   pub command_left : (c : Command) → outcome s k m c ≡ Ok after → Leaves s k m (effect_of c) after
   command_left c is = shape c (done s k m c after is)
 
-  pub blob_left : (name : List ℕ) (checked : Result (List ℕ) Refusal) → checked_blob s k name checked ≡ Ok after → Leaves s k m quiet after
-  blob_left name checked is = blob_leaves quiet name checked (blob_done s k name checked after is)
+  pub blob_left : (name : List ℕ) (checked : Result (List ℕ) Refusal) → checked_blob s k name checked ≡ Ok after → Leaves s k m nothing after
+  blob_left name checked is = blob_leaves nothing name checked (blob_done s k name checked after is)
 
   pub chunk_left : (checked : Result (List ℕ) Refusal) → checked_chunk s k checked ≡ Ok after → Leaves s k m sends after
   chunk_left checked is = chunk_leaves checked (chunk_done s k checked after is)
 
-  pub entry_left : (name : List ℕ) (entry : ℕ) → read_chunk s k name entry ≡ Ok after → Leaves s k m quiet after
+  pub entry_left : (name : List ℕ) (entry : ℕ) → read_chunk s k name entry ≡ Ok after → Leaves s k m nothing after
   unfolding read_chunk
   entry_left name entry e =
       let (r, opened, e1) = reading (session s k) _ after e in
       let (named, e2) = holds NoFile (is_index_name name) _ after e1 in
       let (f, has, e3) = found NoFile (file_named name (reader_files s r)) _ after e2 in
       let (piece, at, e4) = found (BadRange (length (pieces_of f.content))) (slice_get (pieces_of f.content) entry) _ after e3 in
-      stays quiet _ (sym (ok_same _ after e4)) tt
+      stays nothing _ (sym (ok_same _ after e4)) tt
 
-pub part_left : (s : Store) (k m : ℕ) (after : Store × Reply) (name : List ℕ) (offset : ℕ) → read_file s k name offset ≡ Ok after → Leaves s k m quiet after
+pub part_left : (s : Store) (k m : ℕ) (after : Store × Reply) (name : List ℕ) (offset : ℕ) → read_file s k name offset ≡ Ok after → Leaves s k m nothing after
 unfolding read_file outcome
 part_left s k m after name offset e =
     let (given, gives, e1) = passed (download s k name offset) _ after e in
-    stays s k m after quiet given.1 (sym (ok_same _ after e1)) (command_left s k m given (commands.Download name offset) gives).reply
+    stays s k m after nothing given.1 (sym (ok_same _ after e1)) (command_left s k m given (commands.Download name offset) gives).reply
 
 -- ---- what it leaves, done or refused
 

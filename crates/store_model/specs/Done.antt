@@ -123,7 +123,8 @@ IsAnswer r = Unit {0}
 
 -- the most that a command does to snapshots and chunks
 pub data Effect : Type 0 where
-  quiet : Effect
+  -- none of these: at most the lane's session begins, goes on or ends
+  nothing : Effect
   -- a piece joins the writer's pool
   sends : Effect
   -- pieces of the pool join an archive
@@ -138,7 +139,7 @@ effect_of (commands.Chunk digest bytes) = sends
 effect_of (commands.Append number entries) = appends
 effect_of commands.Finish = finishes
 effect_of (commands.Forget text) = forgets text
-effect_of c = quiet
+effect_of c = nothing
 
 -- how the writer v goes on
 pub data IsGrown (s : Store) (v : Writer) (e : Effect) (w : Writer) : Type 0 where

@@ -1,7 +1,7 @@
 -- How many bytes a file of a snapshot has at most.
 use Rattle.std.specs.Prelude.{ℕ, ◌+◌, ◌*◌, List, if◌then◌else◌}
 use Rattle.store_types.specs.FileNames.{is_fixed_name, is_dynamic_name}
-use Rattle.blob_codec.specs.Blob.{data_limit}
+use Rattle.blob_codec.specs.Blob.{blob_limit}
 use Rattle.store_files.specs.Cells.{header_len, entry_limit}
 
 -- a header and an index's most entries
@@ -10,10 +10,6 @@ fixed_limit = header_len + entry_limit * 32
 
 abbrev pub dynamic_limit : ℕ
 dynamic_limit = header_len + entry_limit * 40
-
--- a magic and a CRC, and a blob's most data
-abbrev pub blob_limit : ℕ
-blob_limit = 12 + data_limit
 
 -- by the file's name
 abbrev pub size_limit : List ℕ → ℕ

@@ -212,8 +212,8 @@ cut-is_too_long bytes header n enough front read above =
     cut-enough bytes enough ∙ ap (λ (k : ℕ). cut_body k (drop 4 bytes)) (sym e) ∙ cut_body-above n (drop 4 bytes) above
 
 -- too few bytes behind a length
-pub cut-is_out_of_memory : (bytes header rest : List ℕ) (n : ℕ) → 4 ≤ length bytes → header ≡ take 4 bytes → rest ≡ drop 4 bytes → n ≡ from_le_bytes w32 header → n ≤ body_limit → length rest < n → cut bytes ≡ short
-cut-is_out_of_memory bytes header rest n enough front behind read within few =
+pub cut-is_short : (bytes header rest : List ℕ) (n : ℕ) → 4 ≤ length bytes → header ≡ take 4 bytes → rest ≡ drop 4 bytes → n ≡ from_le_bytes w32 header → n ≤ body_limit → length rest < n → cut bytes ≡ short
+cut-is_short bytes header rest n enough front behind read within few =
     let e : n ≡ from_le_bytes w32 (take 4 bytes) = read ∙ ap (from_le_bytes w32) front in
     let few_behind : length (drop 4 bytes) < n = omega (arith, ap length behind, few) in
     cut-enough bytes enough ∙ ap (λ (k : ℕ). cut_body k (drop 4 bytes)) (sym e) ∙ rw (le-ltb body_limit n within, lt-ltb (length (drop 4 bytes)) n few_behind)

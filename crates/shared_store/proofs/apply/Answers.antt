@@ -66,7 +66,7 @@ returns-in-Reads-clause-unreadable g c =
     λ alone.
     let old = (c.args.core.now).parts in
     subst (λ a. TellsUnreadable g.D.Disk old.disk a (c.reader_act.result.entry).kind c.reader_act.result.reply)
-    (sym (readers_ask c.args.lane c.args.core.now.collector (session_at old c.args.lane) old.catalogue.items c.args.act (sym c.family.ensures ∙ c.in-Reads.is))) c.reader_act.ensures.unreadable
+    (sym (readers_ask c.args.lane c.args.core.now.collector (session_at old c.args.lane) old.catalogue.listed c.args.act (sym c.family.ensures ∙ c.in-Reads.is))) c.reader_act.ensures.unreadable
 
 pub returns-in-Reads-clause-from_state : goal.returns-in-Reads-clause-from_state
 returns-in-Reads-clause-from_state g c = readers_answer g.D.Disk c.args.core.now c.reader_act.new.core c.args.lane c.reader_act.result c.args.act (sym c.family.ensures ∙ c.in-Reads.is) c.reader_act.ensures.from_state
@@ -98,7 +98,7 @@ returns-in-Writes-clause-unreadable g c =
     λ alone.
     let old = (c.args.core.now).parts in
     subst (λ a. TellsUnreadable g.D.Disk old.disk a (c.writer_act.result.entry).kind c.writer_act.result.reply)
-    (sym (writers_ask c.args.lane c.args.core.now.collector (session_at old c.args.lane) old.catalogue.items c.args.act (sym c.family.ensures ∙ c.in-Writes.is))) c.writer_act.ensures.unreadable
+    (sym (writers_ask c.args.lane c.args.core.now.collector (session_at old c.args.lane) old.catalogue.listed c.args.act (sym c.family.ensures ∙ c.in-Writes.is))) c.writer_act.ensures.unreadable
 
 pub returns-in-Writes-clause-from_state : goal.returns-in-Writes-clause-from_state
 returns-in-Writes-clause-from_state g c = writers_answer g.D.Disk c.args.core.now c.writer_act.new.core c.args.lane c.writer_act.result c.args.act (sym c.family.ensures ∙ c.in-Writes.is) c.writer_act.ensures.from_state
@@ -130,7 +130,7 @@ returns-in-Manages-clause-unreadable g c =
     λ alone.
     let old = (c.args.core.now).parts in
     subst (λ a. TellsUnreadable g.D.Disk old.disk a (c.admin_act.result.entry).kind c.admin_act.result.reply)
-    (sym (admins_ask c.args.lane c.args.core.now.collector (session_at old c.args.lane) old.catalogue.items c.args.act (sym c.family.ensures ∙ c.in-Manages.is))) c.admin_act.ensures.unreadable
+    (sym (admins_ask c.args.lane c.args.core.now.collector (session_at old c.args.lane) old.catalogue.listed c.args.act (sym c.family.ensures ∙ c.in-Manages.is))) c.admin_act.ensures.unreadable
 
 pub returns-in-Manages-clause-from_state : goal.returns-in-Manages-clause-from_state
 returns-in-Manages-clause-from_state g c = admins_answer g.D.Disk c.args.core.now c.admin_act.new.core c.args.lane c.admin_act.result c.args.act (sym c.family.ensures ∙ c.in-Manages.is) c.admin_act.ensures.from_state
@@ -162,7 +162,7 @@ returns-in-Collects-clause-unreadable g c =
     λ alone.
     let old = (c.args.core.now).parts in
     subst (λ a. TellsUnreadable g.D.Disk old.disk a (c.collect_act.result.entry).kind c.collect_act.result.reply)
-    (sym (collectors_ask c.args.lane c.args.core.now.collector (session_at old c.args.lane) old.catalogue.items c.args.act (sym c.family.ensures ∙ c.in-Collects.is))) c.collect_act.ensures.unreadable
+    (sym (collectors_ask c.args.lane c.args.core.now.collector (session_at old c.args.lane) old.catalogue.listed c.args.act (sym c.family.ensures ∙ c.in-Collects.is))) c.collect_act.ensures.unreadable
 
 pub returns-in-Collects-clause-from_state : goal.returns-in-Collects-clause-from_state
 returns-in-Collects-clause-from_state g c = collectors_answer g.D.Disk c.args.core.now c.collect_act.new.core c.args.lane c.collect_act.result c.args.act (sym c.family.ensures ∙ c.in-Collects.is) c.collect_act.ensures.from_state
@@ -220,7 +220,7 @@ pub returns-in-Wants-clause-unreadable : goal.returns-in-Wants-clause-unreadable
 returns-in-Wants-clause-unreadable g c =
     λ alone.
     let old = (c.args.core.now).parts in
-    subst (λ a. TellsUnreadable g.D.Disk old.disk (asked a c.args.lane c.args.core.now.collector (session_at old c.args.lane) old.catalogue.items) (c.short.result.entry).kind c.short.result.reply)
+    subst (λ a. TellsUnreadable g.D.Disk old.disk (asked a c.args.lane c.args.core.now.collector (session_at old c.args.lane) old.catalogue.listed) (c.short.result.entry).kind c.short.result.reply)
     (sym (is_out_of_memory c.args.act (sym c.family.ensures ∙ c.in-Wants.is))) (short_asks_none g.D.Disk c.args.core.now c.short.new.core old.disk c.short.result (c.short.ensures.entered).reply_is)
 
 pub returns-in-Wants-clause-damaged : goal.returns-in-Wants-clause-damaged
@@ -256,7 +256,7 @@ pub returns-in-Ends-clause-unreadable : goal.returns-in-Ends-clause-unreadable
 returns-in-Ends-clause-unreadable g c =
     λ alone.
     let old = (c.args.core.now).parts in
-    subst (λ a. TellsUnreadable g.D.Disk old.disk (asked a c.args.lane c.args.core.now.collector (session_at old c.args.lane) old.catalogue.items) (c.end_act.result.entry).kind c.end_act.result.reply)
+    subst (λ a. TellsUnreadable g.D.Disk old.disk (asked a c.args.lane c.args.core.now.collector (session_at old c.args.lane) old.catalogue.listed) (c.end_act.result.entry).kind c.end_act.result.reply)
     (sym (is_end c.args.act (sym c.family.ensures ∙ c.in-Ends.is))) (end_asks_none g.D.Disk c.args.core.now c.end_act.new.core old.disk c.end_act.result (c.end_act.ensures.applies).cause)
 
 pub returns-in-Ends-clause-damaged : goal.returns-in-Ends-clause-damaged

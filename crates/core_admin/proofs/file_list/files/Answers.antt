@@ -1,4 +1,4 @@
-use Rattle.std.proofs.Common.{◌≡◌, ◌∙◌, ℕ, true, false, List, Option, Some, None, Ok, rules, refl, sym, ap, subst, arith}
+use Rattle.std.proofs.Common.{◌≡◌, ℕ, true, false, List, Option, Some, None, Ok, rules, refl, sym, subst, arith}
 use Rattle.store_types.specs.Names.{IsKey, key_of}
 use Rattle.store_types.specs.declared.names.SnapshotKey.{SnapshotKey}
 use Rattle.store_types.specs.declared.refusal.Refusal.TheVariants.{BadName, NoSnapshot, Unreadable}
@@ -8,7 +8,7 @@ use Rattle.core_state.specs.Found.{kept_named, named_kept}
 use Rattle.core_state.specs.declared.kept.Kept.{Kept}
 use Rattle.core_state.specs.declared.kept.Listed.{Listed}
 use Rattle.core_state.proofs.Commanding.{read_does, read_leaves, refused_does, same_kept, stopped_does, stopped_leaves}
-use Rattle.core_state.proofs.Naming.{damage_short, kept_key, kept_whole, named_is, none_kept, none_named}
+use Rattle.core_state.proofs.Naming.{kept_key, kept_whole, named_is, none_kept, none_named}
 use Rattle.core_state.proofs.Texts.{bad_name_has_text, no_snapshot_has_text, unreadable_has_text}
 use Rattle.core_admin.proofs.FilesRead.{files_refused}
 use Rattle.core_admin.proofs.FilesTelling.{answers_damaged, answers_refused, answers_rows, answers_stopped, called, files_rows, files_stop, refuses_unread, tells_damaged, tells_refused, tells_rows, tells_stopped}
@@ -25,18 +25,18 @@ returns-in_default-clause-does g c =
     let bad : key_of c.args.snapshot.now ≡ None = search rules in
     let parts = c.args.parts.now in
     refused_does g.D.Disk parts parts c.args._at (Plain (commands.Files c.args.snapshot.now)) BadName _ refl refl (same_kept parts) bad_name_has_text refl
-    (λ s shows. files_refused s _ _ c.args.snapshot.now parts.catalogue.items shows.catalogue BadName (none_named c.args.snapshot.now parts.catalogue.items bad))
+    (λ s shows. files_refused s _ _ c.args.snapshot.now parts.catalogue.listed shows.catalogue BadName (none_named c.args.snapshot.now parts.catalogue.listed bad))
 
 pub returns-in_default-clause-from_state : goal.returns-in_default-clause-from_state
 returns-in_default-clause-from_state g c =
     let bad : key_of c.args.snapshot.now ≡ None = search rules in
-    let items = c.args.parts.now.catalogue.items in
+    let items = c.args.parts.now.catalogue.listed in
     answers_refused c.args.snapshot.now items g.D.Disk c.args.parts.now.disk BadName (none_named c.args.snapshot.now items bad)
 
 pub returns-in_default-clause-unreadable : goal.returns-in_default-clause-unreadable
 returns-in_default-clause-unreadable g c =
     let bad : key_of c.args.snapshot.now ≡ None = search rules in
-    let items = c.args.parts.now.catalogue.items in
+    let items = c.args.parts.now.catalogue.listed in
     tells_refused g.D.Disk c.args.parts.now.disk c.args.snapshot.now items BadName (none_named c.args.snapshot.now items bad) bad_apart
 
 -- ---- there is no such snapshot
@@ -44,24 +44,24 @@ returns-in_default-clause-unreadable g c =
 none_apart : (name : List ℕ) → NoSnapshot ≡ Unreadable name → ⊥
 none_apart name e = cc
 
-pub returns-in_default-snapshot_named-clause-does : goal.returns-in_default-snapshot_named-clause-does
-returns-in_default-snapshot_named-clause-does g c =
+pub returns-in_default-named-clause-does : goal.returns-in_default-named-clause-does
+returns-in_default-named-clause-does g c =
     let parts = c.args.parts.now in
     let named : key_of c.args.snapshot.now ≡ Some c.in-Ok.key = search rules in
-    let missing : kept_named c.in-Ok.key parts.catalogue.items ≡ None = search rules in
+    let missing : kept_named c.in-Ok.key parts.catalogue.listed ≡ None = search rules in
     refused_does g.D.Disk parts _ c.args._at (Plain (commands.Files c.args.snapshot.now)) NoSnapshot _ refl refl (record { catalogue = refl; sessions = refl; locks = refl }) no_snapshot_has_text refl
-    (λ s shows. files_refused s _ _ c.args.snapshot.now parts.catalogue.items shows.catalogue NoSnapshot (none_kept c.args.snapshot.now parts.catalogue.items c.in-Ok.key named missing))
+    (λ s shows. files_refused s _ _ c.args.snapshot.now parts.catalogue.listed shows.catalogue NoSnapshot (none_kept c.args.snapshot.now parts.catalogue.listed c.in-Ok.key named missing))
 
-pub returns-in_default-snapshot_named-clause-from_state : goal.returns-in_default-snapshot_named-clause-from_state
-returns-in_default-snapshot_named-clause-from_state g c =
-    let items = c.args.parts.now.catalogue.items in
+pub returns-in_default-named-clause-from_state : goal.returns-in_default-named-clause-from_state
+returns-in_default-named-clause-from_state g c =
+    let items = c.args.parts.now.catalogue.listed in
     let named : key_of c.args.snapshot.now ≡ Some c.in-Ok.key = search rules in
     let missing : kept_named c.in-Ok.key items ≡ None = search rules in
     answers_refused c.args.snapshot.now items g.D.Disk c.args.parts.now.disk NoSnapshot (none_kept c.args.snapshot.now items c.in-Ok.key named missing)
 
-pub returns-in_default-snapshot_named-clause-unreadable : goal.returns-in_default-snapshot_named-clause-unreadable
-returns-in_default-snapshot_named-clause-unreadable g c =
-    let items = c.args.parts.now.catalogue.items in
+pub returns-in_default-named-clause-unreadable : goal.returns-in_default-named-clause-unreadable
+returns-in_default-named-clause-unreadable g c =
+    let items = c.args.parts.now.catalogue.listed in
     let named : key_of c.args.snapshot.now ≡ Some c.in-Ok.key = search rules in
     let missing : kept_named c.in-Ok.key items ≡ None = search rules in
     tells_refused g.D.Disk c.args.parts.now.disk c.args.snapshot.now items NoSnapshot (none_kept c.args.snapshot.now items c.in-Ok.key named missing) none_apart
@@ -71,11 +71,11 @@ returns-in_default-snapshot_named-clause-unreadable g c =
 pub rows_read-requires : goal.rows_read-requires
 rows_read-requires g c =
     let is : IsKey c.in-Ok.key = search rules in
-    subst IsKey (sym (kept_key c.deref.result.now c.in-Ok.key c.in-Some.kept.now (sym c.in-Some.ensures))) is
+    subst IsKey (sym (kept_key c.args.parts.now.catalogue.listed c.in-Ok.key c.in-Some.kept.now (sym c.in-Some.ensures.value))) is
 
 -- the snapshot in the catalogue
-found : (text : List ℕ) (items seen : List Listed) (key : SnapshotKey) (k : Kept) → key_of text ≡ Some key → seen ≡ items → Some k ≡ kept_named key seen → named_kept text items ≡ Ok k
-found text items seen key k named same there = named_is text items key k named (ap (kept_named key) (sym same) ∙ sym there)
+found : (text : List ℕ) (items : List Listed) (key : SnapshotKey) (k : Kept) → key_of text ≡ Some key → Some k ≡ kept_named key items → named_kept text items ≡ Ok k
+found text items key k named there = named_is text items key k named (sym there)
 
 -- ---- it is damaged
 
@@ -85,31 +85,31 @@ none_some o name is e = cc
 pub returns-in-Some-unreadable-clause-does : goal.returns-in-Some-unreadable-clause-does
 returns-in-Some-unreadable-clause-does g c =
     let old = c.args.parts.now in
-    let items = old.catalogue.items in
+    let items = old.catalogue.listed in
     let k = c.in-Some.kept.now in
     let name = c.in_ok-name.name in
     let there : kept_named c.in-Ok.key items ≡ Some k = search rules in
     let damage : k.unreadable ≡ Some name = search rules in
-    let short = damage_short items c.in-Ok.key k there name old.finished_named damage in
+    let short = c.in-Some.ensures.short _ refl name damage in
     refused_does g.D.Disk old _ c.args._at (Plain (commands.Files c.args.snapshot.now)) (Unreadable name) _ refl refl (record { catalogue = refl; sessions = refl; locks = refl })
     (unreadable_has_text name (omega (arith, short))) refl
     (λ s shows. absurd (none_some k.unreadable name (kept_whole items c.in-Ok.key k there s.snapshots shows.catalogue) damage))
 
 pub returns-in-Some-unreadable-clause-from_state : goal.returns-in-Some-unreadable-clause-from_state
 returns-in-Some-unreadable-clause-from_state g c =
-    let items = c.args.parts.now.catalogue.items in
+    let items = c.args.parts.now.catalogue.listed in
     let k = c.in-Some.kept.now in
     let named : key_of c.args.snapshot.now ≡ Some c.in-Ok.key = search rules in
-    let is = found c.args.snapshot.now items c.deref.result.now c.in-Ok.key k named c.deref.ensures.value c.in-Some.ensures in
+    let is = found c.args.snapshot.now items c.in-Ok.key k named c.in-Some.ensures.value in
     let damage : k.unreadable ≡ Some c.in_ok-name.name = search rules in
     answers_damaged c.args.snapshot.now items g.D.Disk c.args.parts.now.disk k c.in_ok-name.name is damage
 
 pub returns-in-Some-unreadable-clause-unreadable : goal.returns-in-Some-unreadable-clause-unreadable
 returns-in-Some-unreadable-clause-unreadable g c =
-    let items = c.args.parts.now.catalogue.items in
+    let items = c.args.parts.now.catalogue.listed in
     let k = c.in-Some.kept.now in
     let named : key_of c.args.snapshot.now ≡ Some c.in-Ok.key = search rules in
-    let is = found c.args.snapshot.now items c.deref.result.now c.in-Ok.key k named c.deref.ensures.value c.in-Some.ensures in
+    let is = found c.args.snapshot.now items c.in-Ok.key k named c.in-Some.ensures.value in
     let damage : k.unreadable ≡ Some c.in_ok-name.name = search rules in
     tells_damaged g.D.Disk c.args.parts.now.disk c.args.snapshot.now items k c.in_ok-name.name is damage
 
@@ -123,7 +123,7 @@ returns-in_err-rows-clause-does g c =
     let old = c.args.parts.now in
     let stop = c.in_err-rows.field-0.0 in
     let named : key_of c.args.snapshot.now ≡ Some c.in-Ok.key = search rules in
-    let is = found c.args.snapshot.now old.catalogue.items c.deref.result.now c.in-Ok.key c.in-Some.kept.now named c.deref.ensures.value c.in-Some.ensures in
+    let is = found c.args.snapshot.now old.catalogue.listed c.in-Ok.key c.in-Some.kept.now named c.in-Some.ensures.value in
     stopped_does g.D.Disk old _ c.args._at (Plain (commands.Files c.args.snapshot.now)) c.rows_read.result stop _ c.from_residual-in_err-rows.ensures.1 c.in_err-rows.was
     c.rows_read.ensures.reads (record { catalogue = refl; sessions = refl; locks = refl }) c.in_err-rows.ensures.text (refuses_unread c.in-Some.kept.now stop c.in_err-rows.ensures.named)
     (λ s h. files_stop g.D.Disk old s _ _ c.args.snapshot.now c.in-Some.kept.now h is stop (c.in_err-rows.ensures.bytes h.honest) (c.in_err-rows.ensures.value h.honest))
@@ -135,17 +135,17 @@ returns-in_err-rows-clause-leaves g c =
 
 pub returns-in_err-rows-clause-from_state : goal.returns-in_err-rows-clause-from_state
 returns-in_err-rows-clause-from_state g c =
-    let items = c.args.parts.now.catalogue.items in
+    let items = c.args.parts.now.catalogue.listed in
     let named : key_of c.args.snapshot.now ≡ Some c.in-Ok.key = search rules in
-    let is = found c.args.snapshot.now items c.deref.result.now c.in-Ok.key c.in-Some.kept.now named c.deref.ensures.value c.in-Some.ensures in
+    let is = found c.args.snapshot.now items c.in-Ok.key c.in-Some.kept.now named c.in-Some.ensures.value in
     let whole : c.in-Some.kept.now.unreadable ≡ None = search rules in
     answers_stopped c.args.snapshot.now items c.in-Some.kept.now is whole g.D.Disk c.args.parts.now.disk c.in_err-rows.field-0.0 _ c.from_residual-in_err-rows.ensures.1 c.in_err-rows.ensures.named c.in_err-rows.ensures.value
 
 pub returns-in_err-rows-clause-unreadable : goal.returns-in_err-rows-clause-unreadable
 returns-in_err-rows-clause-unreadable g c =
-    let items = c.args.parts.now.catalogue.items in
+    let items = c.args.parts.now.catalogue.listed in
     let named : key_of c.args.snapshot.now ≡ Some c.in-Ok.key = search rules in
-    let is = found c.args.snapshot.now items c.deref.result.now c.in-Ok.key c.in-Some.kept.now named c.deref.ensures.value c.in-Some.ensures in
+    let is = found c.args.snapshot.now items c.in-Ok.key c.in-Some.kept.now named c.in-Some.ensures.value in
     let whole : c.in-Some.kept.now.unreadable ≡ None = search rules in
     tells_stopped g.D.Disk c.args.parts.now.disk c.args.snapshot.now items c.in-Some.kept.now c.in_err-rows.field-0.0 _ c.from_residual-in_err-rows.ensures.1 is whole c.in_err-rows.ensures.named c.in_err-rows.ensures.value
 
@@ -155,7 +155,7 @@ pub returns-clause-does : goal.returns-clause-does
 returns-clause-does g c =
     let old = c.args.parts.now in
     let named : key_of c.args.snapshot.now ≡ Some c.in-Ok.key = search rules in
-    let is = found c.args.snapshot.now old.catalogue.items c.deref.result.now c.in-Ok.key c.in-Some.kept.now named c.deref.ensures.value c.in-Some.ensures in
+    let is = found c.args.snapshot.now old.catalogue.listed c.in-Ok.key c.in-Some.kept.now named c.in-Some.ensures.value in
     read_does g.D.Disk old _ c.args._at (Plain (commands.Files c.args.snapshot.now)) _ _ c.rows_read.ensures.reads (record { catalogue = refl; sessions = refl; locks = refl })
     (files_has_text c.in_ok-rows.rows c.in_ok-rows.ensures.few c.in_ok-rows.ensures.fit) refl tt
     (λ s h. files_rows g.D.Disk old s _ _ c.args.snapshot.now c.in-Some.kept.now h is c.in_ok-rows.rows (c.in_ok-rows.ensures.bytes h.honest) (c.in_ok-rows.ensures.value h.honest))
@@ -167,16 +167,16 @@ returns-clause-leaves g c =
 
 pub returns-clause-from_state : goal.returns-clause-from_state
 returns-clause-from_state g c =
-    let items = c.args.parts.now.catalogue.items in
+    let items = c.args.parts.now.catalogue.listed in
     let named : key_of c.args.snapshot.now ≡ Some c.in-Ok.key = search rules in
-    let is = found c.args.snapshot.now items c.deref.result.now c.in-Ok.key c.in-Some.kept.now named c.deref.ensures.value c.in-Some.ensures in
+    let is = found c.args.snapshot.now items c.in-Ok.key c.in-Some.kept.now named c.in-Some.ensures.value in
     let whole : c.in-Some.kept.now.unreadable ≡ None = search rules in
     answers_rows c.args.snapshot.now items c.in-Some.kept.now is whole g.D.Disk c.args.parts.now.disk c.in_ok-rows.rows c.in_ok-rows.ensures.value
 
 pub returns-clause-unreadable : goal.returns-clause-unreadable
 returns-clause-unreadable g c =
-    let items = c.args.parts.now.catalogue.items in
+    let items = c.args.parts.now.catalogue.listed in
     let named : key_of c.args.snapshot.now ≡ Some c.in-Ok.key = search rules in
-    let is = found c.args.snapshot.now items c.deref.result.now c.in-Ok.key c.in-Some.kept.now named c.deref.ensures.value c.in-Some.ensures in
+    let is = found c.args.snapshot.now items c.in-Ok.key c.in-Some.kept.now named c.in-Some.ensures.value in
     let whole : c.in-Some.kept.now.unreadable ≡ None = search rules in
     tells_rows g.D.Disk c.args.parts.now.disk c.args.snapshot.now items c.in-Some.kept.now c.in_ok-rows.rows is whole c.in_ok-rows.ensures.value

@@ -16,25 +16,25 @@ returns-in_default-clause-does g c =
     let bad : group_of c.args.name.now ≡ None = search rules in
     let parts = c.args.parts.now in
     refused_does g.D.Disk parts parts c.args._at (Plain (commands.Group c.args.name.now)) BadName _ refl refl (same_kept parts) bad_name_has_text refl
-    (λ s shows. group_refuses parts s shows _ _ c.args.name.now BadName (group_refused c.args.name.now parts.catalogue.items bad))
+    (λ s shows. group_refuses parts s shows _ _ c.args.name.now BadName (group_refused c.args.name.now parts.catalogue.listed bad))
 
 pub returns-in_default-clause-from_state : goal.returns-in_default-clause-from_state
 returns-in_default-clause-from_state g c =
     let bad : group_of c.args.name.now ≡ None = search rules in
-    sym (ap reply_told (group_refused c.args.name.now c.args.parts.now.catalogue.items bad))
+    sym (ap reply_told (group_refused c.args.name.now c.args.parts.now.catalogue.listed bad))
 
 pub returns-clause-from_state : goal.returns-clause-from_state
 returns-clause-from_state g c =
     let named : group_of c.args.name.now ≡ Some c.in-Ok.group = search rules in
-    let texts : c.in_ok-texts.texts ≡ texts_in c.in-Ok.group c.args.parts.now.catalogue.items = c.in_ok-texts.ensures.value ∙ ap (texts_in c.in-Ok.group) c.deref.ensures.value in
-    ap (λ t. Keys t) texts ∙ sym (ap reply_told (group_keys c.args.name.now c.args.parts.now.catalogue.items c.in-Ok.group named))
+    let texts : c.in_ok-texts.texts ≡ texts_in c.in-Ok.group c.args.parts.now.catalogue.listed = c.in_ok-texts.ensures.value ∙ ap (texts_in c.in-Ok.group) c.as_slice.ensures.listed in
+    ap (λ t. Keys t) texts ∙ sym (ap reply_told (group_keys c.args.name.now c.args.parts.now.catalogue.listed c.in-Ok.group named))
 
 pub returns-clause-does : goal.returns-clause-does
 returns-clause-does g c =
     let named : group_of c.args.name.now ≡ Some c.in-Ok.group = search rules in
     let parts = c.args.parts.now in
-    let texts : c.in_ok-texts.texts ≡ texts_in c.in-Ok.group parts.catalogue.items = c.in_ok-texts.ensures.value ∙ ap (texts_in c.in-Ok.group) c.deref.ensures.value in
+    let texts : c.in_ok-texts.texts ≡ texts_in c.in-Ok.group parts.catalogue.listed = c.in_ok-texts.ensures.value ∙ ap (texts_in c.in-Ok.group) c.as_slice.ensures.listed in
     read_does g.D.Disk parts parts c.args._at (Plain (commands.Group c.args.name.now)) _ ⊥ (reads_none g.D.Disk _ _ ⊥ refl (λ f. f)) (same_kept parts)
     (keys_has_text c.in_ok-texts.texts c.in_ok-texts.ensures.few c.in_ok-texts.ensures.short) refl tt
     (λ s h. group_answers parts s h.shows _ _ c.args.name.now (Keys c.in_ok-texts.texts)
-    (group_keys c.args.name.now parts.catalogue.items c.in-Ok.group named ∙ ap (λ t. Ok (Keys t)) (sym texts)))
+    (group_keys c.args.name.now parts.catalogue.listed c.in-Ok.group named ∙ ap (λ t. Ok (Keys t)) (sym texts)))

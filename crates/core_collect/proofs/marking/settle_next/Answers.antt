@@ -22,7 +22,7 @@ pass_over-requires g c =
 pub returns-in_default-path_of-clause-next : goal.returns-in_default-path_of-clause-next
 returns-in_default-path_of-clause-next g c =
     let at : next_index c.args.collector.now.plan ≡ Some c.in-Some.index.now = search rules in
-    let missing : path_at c.in-Some.index.now c.args.parts.now.catalogue.items ≡ None = search rules in
+    let missing : path_at c.in-Some.index.now c.args.parts.now.catalogue.listed ≡ None = search rules in
     gone_settles g.D.Disk c.args.parts.now c.args.collector.now c.pass_over.new.collector c.in-Some.index.now at missing c.pass_over.ensures
 
 -- ---- its digests are at hand
@@ -30,7 +30,7 @@ returns-in_default-path_of-clause-next g c =
 pub returns-then-not-is_empty-clause-next : goal.returns-then-not-is_empty-clause-next
 returns-then-not-is_empty-clause-next g c =
     let at : next_index c.args.collector.now.plan ≡ Some c.in-Some.index.now = search rules in
-    let found : path_at c.in-Some.index.now c.args.parts.now.catalogue.items ≡ Some c.in-Some-path_of.path.now = search rules in
+    let found : path_at c.in-Some.index.now c.args.parts.now.catalogue.listed ≡ Some c.in-Some-path_of.path.now = search rules in
     kept_settles g.D.Disk c.args.parts.now c.args.collector.now c.in-Some.index.now c.in-Some-path_of.path.now at found
     (some_items c.args.collector.now.entries c.is_empty.result c.is_empty.ensures c.if-not-is_empty.true)
 
@@ -48,7 +48,7 @@ returns-in_err-collector-clause-next g c =
     let path = c.in-Some-path_of.path.now in
     let unread = c.in_err-collector.field-0.0 in
     let at : next_index old.plan ≡ Some i = search rules in
-    let found : path_at i parts.catalogue.items ≡ Some path = search rules in
+    let found : path_at i parts.catalogue.listed ≡ Some path = search rules in
     let fixed : c.is_fixed-is_fixed.result ≡ is_fixed_name i.name = search rules in
     handed_on (SettlesNext g.D.Disk parts old old) _ unread c.from_residual.ensures.1
     (unread_settles g.D.Disk parts old i path unread at found (none_items old.entries c.is_empty.result c.is_empty.ensures c.if-not-is_empty.false) c.in_err-collector.ensures.named
@@ -75,7 +75,7 @@ returns-then-is_empty-clause-next g c =
     let path = c.in-Some-path_of.path.now in
     let read = c.in_ok-collector.field-0 in
     let at : next_index old.plan ≡ Some i = search rules in
-    let found : path_at i parts.catalogue.items ≡ Some path = search rules in
+    let found : path_at i parts.catalogue.listed ≡ Some path = search rules in
     let fixed : c.is_fixed-is_fixed.result ≡ is_fixed_name i.name = search rules in
     let over = c.pass_over-then-is_empty.ensures in
     empty_settles g.D.Disk parts old c.pass_over-then-is_empty.new.collector i path at found (none_items old.entries c.is_empty.result c.is_empty.ensures c.if-not-is_empty.false)
@@ -91,7 +91,7 @@ returns-clause-next g c =
     let path = c.in-Some-path_of.path.now in
     let read = c.in_ok-collector.field-0 in
     let at : next_index old.plan ≡ Some i = search rules in
-    let found : path_at i parts.catalogue.items ≡ Some path = search rules in
+    let found : path_at i parts.catalogue.listed ≡ Some path = search rules in
     let fixed : c.is_fixed-is_fixed.result ≡ is_fixed_name i.name = search rules in
     read_settles g.D.Disk parts old _ i path at found refl refl refl (none_items old.entries c.is_empty.result c.is_empty.ensures c.if-not-is_empty.false)
     (some_items read c.is_empty-2.result c.is_empty-2.ensures c.if-is_empty.false)

@@ -9,5 +9,5 @@ pub invariant_of-result : goal.invariant_of-result
 invariant_of-result g c =
     let moment = c.args.at.moment in
     let oldest = c.oldest_in.result in
-    let is = c.start.ensures ∙ ap (begun moment oldest) (c.in_ok-indexes.ensures ∙ ap indexes_in c.deref.ensures.value) in
-    record { fits = subst (FitsEntries c.start.result) (sym c.new.ensures.items) (fits_new moment oldest c.args.parts.now.catalogue.items c.start.result is) }
+    let is = c.start.ensures ∙ ap (begun moment oldest) (c.in_ok-indexes.ensures ∙ ap indexes_in c.as_slice.ensures.listed) in
+    record { fits = subst (FitsEntries c.start.result) (sym c.new.ensures.items) (fits_new moment oldest c.args.parts.now.catalogue.listed c.start.result is) }

@@ -25,7 +25,7 @@ returns-in_err-asked-clause-does g c =
     let file = c.args.file.now in
     let offset = c.args.offset in
     let f = session_at old c.args.at.lane in
-    let catalogue = old.catalogue.items in
+    let catalogue = old.catalogue.listed in
     let value = c.in_err-asked.ensures.value offset in
     stopped_does d old old c.args.at (Plain (Download file offset)) c.asked_file.result _ _ c.from_residual.ensures.1 c.in_err-asked.was
     (reads_none d old.disk old.disk _ refl c.asked_file.ensures.unfailed) (same_kept old)
@@ -39,7 +39,7 @@ returns-in_err-asked-clause-unreadable g c =
     let file = c.args.file.now in
     let offset = c.args.offset in
     let f = session_at old c.args.at.lane in
-    let catalogue = old.catalogue.items in
+    let catalogue = old.catalogue.listed in
     tells_unread g.D.Disk old.disk _ _ _ c.from_residual.ensures.1
     (file_stops file offset f catalogue _ _ (file_untold file offset f catalogue) (c.in_err-asked.ensures.value offset))
 
@@ -51,7 +51,7 @@ returns-in_err-part-clause-does g c =
     let old = c.args.parts.now in
     let a = c.in_ok-asked.asked in
     let path : c.as_str.result.now ≡ string_bytes a.path = c.as_str.ensures.value in
-    let asked = file_is c.args.file.now c.args.offset (session_at old c.args.at.lane) old.catalogue.items (string_bytes a.path) a.whole (c.in_ok-asked.ensures.value c.args.offset) in
+    let asked = file_is c.args.file.now c.args.offset (session_at old c.args.at.lane) old.catalogue.listed (string_bytes a.path) a.whole (c.in_ok-asked.ensures.value c.args.offset) in
     stops_does d old _ c.args.at (Plain (Download c.args.file.now c.args.offset)) c.read_part.result _ c.in_err-part.was _ c.from_residual-in_err-part.ensures.1
     c.read_part.ensures.reads (record { catalogue = refl; sessions = refl; locks = refl }) c.in_err-part.ensures.text (read_answers c.as_str.result.now _ c.in_err-part.ensures.kind)
     (λ s h. read_stops {A = Reply} (λ part. part) _ _ _ (c.in_err-part.ensures.exact h.honest)
@@ -80,7 +80,7 @@ returns-in_default-clause-does g c =
     let a = c.in_ok-asked.asked in
     let path : c.as_str.result.now ≡ string_bytes a.path = c.as_str.ensures.value in
     let none : a.whole ≡ None = search rules in
-    let asked = file_is c.args.file.now c.args.offset (session_at old c.args.at.lane) old.catalogue.items (string_bytes a.path) a.whole (c.in_ok-asked.ensures.value c.args.offset) in
+    let asked = file_is c.args.file.now c.args.offset (session_at old c.args.at.lane) old.catalogue.listed (string_bytes a.path) a.whole (c.in_ok-asked.ensures.value c.args.offset) in
     read_does d old _ c.args.at (Plain (Download c.args.file.now c.args.offset)) c.in_ok-part.part _ c.read_part.ensures.reads (record { catalogue = refl; sessions = refl; locks = refl })
     c.in_ok-part.ensures.text (part_answers _ c.in_ok-part.ensures.kind) (part_plain _ c.in_ok-part.ensures.kind)
     (λ s h. asked_part_given d old s c.args.at.lane c.args.at.moment c.args.file.now (string_bytes a.path) c.args.offset a.whole c.requires asked h c.as_str.result.now c.in_ok-part.part path none (c.in_ok-part.ensures.exact h.honest))
@@ -109,7 +109,7 @@ returns-in_err-index-clause-does g c =
     let a = c.in_ok-asked.asked in
     let path : c.as_str-2.result.now ≡ string_bytes a.path = c.as_str-2.ensures.value in
     let some : a.whole ≡ Some c.in-Some.is_fixed = search rules in
-    let asked = file_is c.args.file.now c.args.offset (session_at old c.args.at.lane) old.catalogue.items (string_bytes a.path) a.whole (c.in_ok-asked.ensures.value c.args.offset) in
+    let asked = file_is c.args.file.now c.args.offset (session_at old c.args.at.lane) old.catalogue.listed (string_bytes a.path) a.whole (c.in_ok-asked.ensures.value c.args.offset) in
     stops_does d old _ c.args.at (Plain (Download c.args.file.now c.args.offset)) c.read_index.result _ c.in_err-index.was _ c.from_residual-in_err-index.ensures.1
     c.read_index.ensures.reads (record { catalogue = refl; sessions = refl; locks = refl }) c.in_err-index.ensures.text (read_answers c.as_str-2.result.now _ c.in_err-index.ensures.kind)
     (λ s h. read_stops shown_index _ _ _ (c.in_err-index.ensures.exact h.honest)
@@ -156,7 +156,7 @@ returns-clause-does g c =
     let index = c.in_ok-index.index in
     let path : c.as_str-2.result.now ≡ string_bytes a.path = c.as_str-2.ensures.value in
     let some : a.whole ≡ Some c.in-Some.is_fixed = search rules in
-    let asked = file_is c.args.file.now c.args.offset (session_at old c.args.at.lane) old.catalogue.items (string_bytes a.path) a.whole (c.in_ok-asked.ensures.value c.args.offset) in
+    let asked = file_is c.args.file.now c.args.offset (session_at old c.args.at.lane) old.catalogue.listed (string_bytes a.path) a.whole (c.in_ok-asked.ensures.value c.args.offset) in
     writes_does d old _ c.args.at (Plain (Download c.args.file.now c.args.offset)) index.part _ c.read_index.ensures.reads.serves
     c.in_ok-index.ensures.text (part_answers _ c.in_ok-index.ensures.kind) (part_plain _ c.in_ok-index.ensures.kind)
     (λ safe s h. asked_index_given d old s c.args.at.lane c.args.at.moment c.args.file.now (string_bytes a.path) c.args.offset a.whole c.requires asked h _ (shown_index index) c.in-Some.is_fixed c.as_str-2.result.now a.name

@@ -21,7 +21,7 @@ use Rattle.core_state.proofs.Found.{kept_is, not_kept}
 use Rattle.core_state.proofs.Finding.{mapped, is_some}
 use Rattle.core_state.proofs.LockLemmas.{locked_reader}
 use Rattle.core_state.proofs.NamedLemmas.{list_all-set}
-use Rattle.core_state.proofs.Naming.{damage_short, kept_whole, named_is, none_kept, none_named}
+use Rattle.core_state.proofs.Naming.{kept_whole, named_is, none_kept, none_named}
 use Rattle.core_state.proofs.Soundness.{shows_changed}
 use Rattle.core_state.proofs.Texts.{bad_name_has_text, no_snapshot_has_text, done_has_text, unreadable_has_text}
 use Rattle.core_reader.specs.AnsweredBy.{ActOpens}
@@ -48,14 +48,14 @@ returns-in_err-idle-clause-unreadable g c =
     let f = session_at old c.args.at.lane in
     let busy = c.in_err-idle.ensures.value in
     tells_unread g.D.Disk old.disk _ (Refused _) _ c.from_residual.ensures.1
-    (asks_busy c.args.snapshot.now f old.catalogue.items _ busy, busy_by_state f _ (λ r. (name : List ℕ) → r ≡ Unreadable name → ⊥) state_apart busy)
+    (asks_busy c.args.snapshot.now f old.catalogue.listed _ busy, busy_by_state f _ (λ r. (name : List ℕ) → r ≡ Unreadable name → ⊥) state_apart busy)
 
 pub returns-in_err-idle-clause-from_state : goal.returns-in_err-idle-clause-from_state
 returns-in_err-idle-clause-from_state g c =
     let old = c.args.parts.now in
     let lane = c.args.at.lane in
     stopped (λ r. ActOpens c.args.snapshot.now old old c.args.at r) _ _ c.from_residual.ensures.1
-    (record { answers = sym (ap reply_told (told_busy c.args.snapshot.now lane (session_at old lane) old.catalogue.items old.locks _ c.in_err-idle.ensures.value)); opened = tt })
+    (record { answers = sym (ap reply_told (told_busy c.args.snapshot.now lane (session_at old lane) old.catalogue.listed old.locks _ c.in_err-idle.ensures.value)); opened = tt })
 
 -- ---- the text names no snapshot
 
@@ -71,14 +71,14 @@ returns-in_default-clause-does g c =
 pub returns-in_default-clause-unreadable : goal.returns-in_default-clause-unreadable
 returns-in_default-clause-unreadable g c =
     let old = c.args.parts.now in
-    let items = old.catalogue.items in
+    let items = old.catalogue.listed in
     let bad : key_of c.args.snapshot.now ≡ None = search rules in
     tells_refused c.args.snapshot.now (session_at old c.args.at.lane) items g.D.Disk old.disk BadName c.in_ok-idle.ensures.value (none_named c.args.snapshot.now items bad) bad_apart
 
 pub returns-in_default-clause-from_state : goal.returns-in_default-clause-from_state
 returns-in_default-clause-from_state g c =
     let old = c.args.parts.now in
-    let items = old.catalogue.items in
+    let items = old.catalogue.listed in
     let lane = c.args.at.lane in
     let bad : key_of c.args.snapshot.now ≡ None = search rules in
     record { answers = told_unnamed c.args.snapshot.now lane (session_at old lane) items old.locks BadName c.in_ok-idle.ensures.value (none_named c.args.snapshot.now items bad); opened = tt }
@@ -88,27 +88,27 @@ returns-in_default-clause-from_state g c =
 none_apart : (name : List ℕ) → NoSnapshot ≡ Unreadable name → ⊥
 none_apart name e = cc
 
-pub returns-in_default-snapshot_named-clause-does : goal.returns-in_default-snapshot_named-clause-does
-returns-in_default-snapshot_named-clause-does g c =
+pub returns-in_default-named-clause-does : goal.returns-in_default-named-clause-does
+returns-in_default-named-clause-does g c =
     let old = c.args.parts.now in
     let named : key_of c.args.snapshot.now ≡ Some c.in-Ok.key = search rules in
-    let missing : kept_named c.in-Ok.key old.catalogue.items ≡ None = search rules in
+    let missing : kept_named c.in-Ok.key old.catalogue.listed ≡ None = search rules in
     refused_does g.D.Disk old _ c.args.at (Plain (OpenReader c.args.snapshot.now)) NoSnapshot _ refl refl (same_kept _) no_snapshot_has_text refl
     (λ s shows. open_missing s c.args.at.lane c.args.at.moment c.args.snapshot.now c.in-Ok.key (idle_shown old s c.args.at.lane shows c.requires c.in_ok-idle.ensures.value) named
-    (not_kept old.catalogue.items s.snapshots c.in-Ok.key shows.catalogue missing))
+    (not_kept old.catalogue.listed s.snapshots c.in-Ok.key shows.catalogue missing))
 
-pub returns-in_default-snapshot_named-clause-unreadable : goal.returns-in_default-snapshot_named-clause-unreadable
-returns-in_default-snapshot_named-clause-unreadable g c =
+pub returns-in_default-named-clause-unreadable : goal.returns-in_default-named-clause-unreadable
+returns-in_default-named-clause-unreadable g c =
     let old = c.args.parts.now in
-    let items = old.catalogue.items in
+    let items = old.catalogue.listed in
     let named : key_of c.args.snapshot.now ≡ Some c.in-Ok.key = search rules in
     let missing : kept_named c.in-Ok.key items ≡ None = search rules in
     tells_refused c.args.snapshot.now (session_at old c.args.at.lane) items g.D.Disk old.disk NoSnapshot c.in_ok-idle.ensures.value (none_kept c.args.snapshot.now items c.in-Ok.key named missing) none_apart
 
-pub returns-in_default-snapshot_named-clause-from_state : goal.returns-in_default-snapshot_named-clause-from_state
-returns-in_default-snapshot_named-clause-from_state g c =
+pub returns-in_default-named-clause-from_state : goal.returns-in_default-named-clause-from_state
+returns-in_default-named-clause-from_state g c =
     let old = c.args.parts.now in
-    let items = old.catalogue.items in
+    let items = old.catalogue.listed in
     let lane = c.args.at.lane in
     let named : key_of c.args.snapshot.now ≡ Some c.in-Ok.key = search rules in
     let missing : kept_named c.in-Ok.key items ≡ None = search rules in
@@ -122,19 +122,19 @@ none_some o name is e = cc
 pub returns-in-Some-unreadable-clause-does : goal.returns-in-Some-unreadable-clause-does
 returns-in-Some-unreadable-clause-does g c =
     let old = c.args.parts.now in
-    let items = old.catalogue.items in
+    let items = old.catalogue.listed in
     let k = c.in-Some.kept.now in
     let name = c.in_ok-name.name in
     let there : kept_named c.in-Ok.key items ≡ Some k = search rules in
     let damage : k.unreadable ≡ Some name = search rules in
-    let short = damage_short items c.in-Ok.key k there name old.finished_named damage in
+    let short = c.in-Some.ensures.short _ refl name damage in
     refused_does g.D.Disk old _ c.args.at (Plain (OpenReader c.args.snapshot.now)) (Unreadable name) _ refl refl (same_kept _) (unreadable_has_text name (omega (arith, short))) refl
     (λ s shows. absurd (none_some k.unreadable name (kept_whole items c.in-Ok.key k there s.snapshots shows.catalogue) damage))
 
 pub returns-in-Some-unreadable-clause-unreadable : goal.returns-in-Some-unreadable-clause-unreadable
 returns-in-Some-unreadable-clause-unreadable g c =
     let old = c.args.parts.now in
-    let items = old.catalogue.items in
+    let items = old.catalogue.listed in
     let k = c.in-Some.kept.now in
     let named : key_of c.args.snapshot.now ≡ Some c.in-Ok.key = search rules in
     let there : kept_named c.in-Ok.key items ≡ Some k = search rules in
@@ -144,7 +144,7 @@ returns-in-Some-unreadable-clause-unreadable g c =
 pub returns-in-Some-unreadable-clause-from_state : goal.returns-in-Some-unreadable-clause-from_state
 returns-in-Some-unreadable-clause-from_state g c =
     let old = c.args.parts.now in
-    let items = old.catalogue.items in
+    let items = old.catalogue.listed in
     let lane = c.args.at.lane in
     let k = c.in-Some.kept.now in
     let named : key_of c.args.snapshot.now ≡ Some c.in-Ok.key = search rules in
@@ -160,11 +160,11 @@ returns-clause-does g c =
     let lane = c.args.at.lane in
     let k = c.in-Some.kept.now in
     let named : key_of c.args.snapshot.now ≡ Some c.in-Ok.key = search rules in
-    let there : kept_named c.in-Ok.key old.catalogue.items ≡ Some k = search rules in
+    let there : kept_named c.in-Ok.key old.catalogue.listed ≡ Some k = search rules in
     let new : model.Reader = record { key = c.in-Ok.key; noted = [] } in
     changed_does g.D.Disk old _ c.args.at (Plain (OpenReader c.args.snapshot.now)) Done refl done_has_text refl tt
     (λ s h.
-    let shown = mapped shown_snapshot (snapshot_named c.in-Ok.key s.snapshots) k (sym (kept_is old.catalogue.items s.snapshots c.in-Ok.key (h.shows).catalogue) ∙ there) in
+    let shown = mapped shown_snapshot (snapshot_named c.in-Ok.key s.snapshots) k (sym (kept_is old.catalogue.listed s.snapshots c.in-Ok.key (h.shows).catalogue) ∙ there) in
     let l : lane < length s.sessions = omega (arith, ((h.shows).sound).lanes, c.requires) in
     let none = idle_shown old s lane h.shows c.requires c.in_ok-idle.ensures.value in
     let sound = sound_reader s lane new c.requires (record { finished = is_some _ shown.0 shown.1 }) (h.shows).sound in (
@@ -178,7 +178,7 @@ returns-clause-does g c =
 pub returns-clause-unreadable : goal.returns-clause-unreadable
 returns-clause-unreadable g c =
     let old = c.args.parts.now in
-    let items = old.catalogue.items in
+    let items = old.catalogue.listed in
     let k = c.in-Some.kept.now in
     let named : key_of c.args.snapshot.now ≡ Some c.in-Ok.key = search rules in
     let there : kept_named c.in-Ok.key items ≡ Some k = search rules in
@@ -188,7 +188,7 @@ returns-clause-unreadable g c =
 pub returns-clause-from_state : goal.returns-clause-from_state
 returns-clause-from_state g c =
     let old = c.args.parts.now in
-    let items = old.catalogue.items in
+    let items = old.catalogue.listed in
     let lane = c.args.at.lane in
     let k = c.in-Some.kept.now in
     let named : key_of c.args.snapshot.now ≡ Some c.in-Ok.key = search rules in

@@ -59,18 +59,18 @@ returns-clause-does g c =
 
 pub returns-in_err-plan-clause-damaged : goal.returns-in_err-plan-clause-damaged
 returns-in_err-plan-clause-damaged g c =
-    wrong_unread g.D.Disk (c.args.parts.now).disk (planned (range_asked c.args.file.now c.args.offset c.args.length (session_at c.args.parts.now c.args.at.lane) c.args.parts.now.catalogue.items)) _ _ c.from_residual.ensures.1
+    wrong_unread g.D.Disk (c.args.parts.now).disk (planned (range_asked c.args.file.now c.args.offset c.args.length (session_at c.args.parts.now c.args.at.lane) c.args.parts.now.catalogue.listed)) _ _ c.from_residual.ensures.1
     (planned_needs {A = Vec Part Global} (λ plan. plan.items) _ _ c.in_err-plan.ensures.value c.in_err-plan.ensures.stops)
 
 pub returns-in_err-bytes-clause-damaged : goal.returns-in_err-bytes-clause-damaged
 returns-in_err-bytes-clause-damaged g c =
     let plan : c.deref.result.now ≡ c.in_ok-plan.plan.items = c.deref.ensures.value in
     wrong_read g.D.Disk (c.args.parts.now).disk {A = Vec ℕ Global} (λ bytes. bytes.items)
-    (planned (range_asked c.args.file.now c.args.offset c.args.length (session_at c.args.parts.now c.args.at.lane) c.args.parts.now.catalogue.items)) c.deref.result.now _ _ c.from_residual-in_err-bytes.ensures.1
+    (planned (range_asked c.args.file.now c.args.offset c.args.length (session_at c.args.parts.now c.args.at.lane) c.args.parts.now.catalogue.listed)) c.deref.result.now _ _ c.from_residual-in_err-bytes.ensures.1
     (ap planned c.in_ok-plan.ensures.value ∙ sym plan) c.in_err-bytes.ensures.damage c.in_err-bytes.ensures.value
 
 pub returns-clause-damaged : goal.returns-clause-damaged
 returns-clause-damaged g c =
     let plan : c.deref.result.now ≡ c.in_ok-plan.plan.items = c.deref.ensures.value in
-    wrong_none g.D.Disk (c.args.parts.now).disk (planned (range_asked c.args.file.now c.args.offset c.args.length (session_at c.args.parts.now c.args.at.lane) c.args.parts.now.catalogue.items)) c.deref.result.now _ c.from_vec.result
+    wrong_none g.D.Disk (c.args.parts.now).disk (planned (range_asked c.args.file.now c.args.offset c.args.length (session_at c.args.parts.now c.args.at.lane) c.args.parts.now.catalogue.listed)) c.deref.result.now _ c.from_vec.result
     (ap planned c.in_ok-plan.ensures.value ∙ sym plan) c.in_ok-bytes.ensures.value

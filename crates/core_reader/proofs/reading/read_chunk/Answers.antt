@@ -28,7 +28,7 @@ returns-in_err-path-clause-does g c =
     let old = c.args.parts.now in
     let name = c.args.name.now in
     let f = session_at old c.args.at.lane in
-    let catalogue = old.catalogue.items in
+    let catalogue = old.catalogue.listed in
     let value = c.in_err-path.ensures.value in
     stopped_does d old old c.args.at (ReadChunk name c.args.entry) c.path_of.result _ _ c.from_residual.ensures.1 c.in_err-path.was
     (reads_none d old.disk old.disk _ refl c.path_of.ensures.unfailed) (same_kept old)
@@ -44,7 +44,7 @@ returns-in_err-path-clause-unreadable g c =
     let old = c.args.parts.now in
     let name = c.args.name.now in
     let f = session_at old c.args.at.lane in
-    let catalogue = old.catalogue.items in
+    let catalogue = old.catalogue.listed in
     tells_unread g.D.Disk old.disk _ _ _ c.from_residual.ensures.1 (place_stops name f catalogue _ _ (entry_unplaced name c.args.entry f catalogue) c.in_err-path.ensures.value)
 
 pub returns-in_err-path-clause-damaged : goal.returns-in_err-path-clause-damaged
@@ -53,7 +53,7 @@ returns-in_err-path-clause-damaged g c =
     let old = c.args.parts.now in
     let name = c.args.name.now in
     let f = session_at old c.args.at.lane in
-    let catalogue = old.catalogue.items in
+    let catalogue = old.catalogue.listed in
     damages_unread d old.disk _ _ _ _ c.from_residual.ensures.1
     (place_stops name f catalogue _ _ (entry_undamaged name c.args.entry f catalogue (d.honest old.disk) (d.content old.disk)) c.in_err-path.ensures.value)
 
@@ -65,7 +65,7 @@ returns-then-not-is_index-clause-does g c =
     let name = c.args.name.now in
     let path = string_bytes c.in_ok-path.path in
     let bad : is_index_name name ≡ false = search rules in
-    let placed = place_is name (session_at old c.args.at.lane) old.catalogue.items path c.in_ok-path.ensures.value in
+    let placed = place_is name (session_at old c.args.at.lane) old.catalogue.listed path c.in_ok-path.ensures.value in
     refused_does g.D.Disk old _ c.args.at (ReadChunk name c.args.entry) NoFile _ refl refl (same_kept _) no_file_has_text refl
     (λ s shows. chunk_unnamed old s c.args.at.lane name c.args.entry shows c.requires path placed bad)
 
@@ -74,7 +74,7 @@ returns-then-not-is_index-clause-by_disk g c =
     let old = c.args.parts.now in
     let path = string_bytes c.in_ok-path.path in
     let bad : is_index_name c.args.name.now ≡ false = search rules in
-    chunk_unindexed g.D.Disk old c.args.at c.args.name.now c.args.entry path (place_is c.args.name.now (session_at old c.args.at.lane) old.catalogue.items path c.in_ok-path.ensures.value) bad
+    chunk_unindexed g.D.Disk old c.args.at c.args.name.now c.args.entry path (place_is c.args.name.now (session_at old c.args.at.lane) old.catalogue.listed path c.in_ok-path.ensures.value) bad
 
 pub returns-then-not-is_index-clause-unreadable : goal.returns-then-not-is_index-clause-unreadable
 returns-then-not-is_index-clause-unreadable g c =
@@ -84,7 +84,7 @@ returns-then-not-is_index-clause-unreadable g c =
     let f = session_at old c.args.at.lane in
     let bad : is_index_name name ≡ false = search rules in
     tells_other g.D.Disk old.disk _ _ _ (λ name e. cc)
-    (entry_unnamed name c.args.entry f old.catalogue.items path (place_is name f old.catalogue.items path c.in_ok-path.ensures.value) bad)
+    (entry_unnamed name c.args.entry f old.catalogue.listed path (place_is name f old.catalogue.listed path c.in_ok-path.ensures.value) bad)
 
 pub returns-then-not-is_index-clause-damaged : goal.returns-then-not-is_index-clause-damaged
 returns-then-not-is_index-clause-damaged g c =
@@ -95,7 +95,7 @@ returns-then-not-is_index-clause-damaged g c =
     let f = session_at old c.args.at.lane in
     let bad : is_index_name name ≡ false = search rules in
     damages_none d old.disk _ _ _ _ (λ digest found e. cc)
-    (λ honest. ap (asked_damage (d.content old.disk)) (entry_unnamed name c.args.entry f old.catalogue.items path (place_is name f old.catalogue.items path c.in_ok-path.ensures.value) bad))
+    (λ honest. ap (asked_damage (d.content old.disk)) (entry_unnamed name c.args.entry f old.catalogue.listed path (place_is name f old.catalogue.listed path c.in_ok-path.ensures.value) bad))
 
 -- ---- the entry is refused by what stands there
 
@@ -104,7 +104,7 @@ returns-in_err-digest-clause-does g c =
     let d = g.D.Disk in
     let old = c.args.parts.now in
     let path = string_bytes c.in_ok-path.path in
-    let placed = place_is c.args.name.now (session_at old c.args.at.lane) old.catalogue.items path c.in_ok-path.ensures.value in
+    let placed = place_is c.args.name.now (session_at old c.args.at.lane) old.catalogue.listed path c.in_ok-path.ensures.value in
     let good : is_index_name c.args.name.now ≡ true = search rules in
     stops_does d old _ c.args.at (ReadChunk c.args.name.now c.args.entry) c.read_entry.result _ c.in_err-digest.was _ c.from_residual-in_err-digest.ensures.1
     c.read_entry.ensures.reads (record { catalogue = refl; sessions = refl; locks = refl }) c.in_err-digest.ensures.text (entry_error_answers c.as_str.result.now _ c.in_err-digest.ensures.kind)
@@ -121,7 +121,7 @@ pub returns-in_err-digest-clause-by_disk : goal.returns-in_err-digest-clause-by_
 returns-in_err-digest-clause-by_disk g c =
     let old = c.args.parts.now in
     let path = string_bytes c.in_ok-path.path in
-    let placed = place_is c.args.name.now (session_at old c.args.at.lane) old.catalogue.items path c.in_ok-path.ensures.value in
+    let placed = place_is c.args.name.now (session_at old c.args.at.lane) old.catalogue.listed path c.in_ok-path.ensures.value in
     let good : is_index_name c.args.name.now ≡ true = search rules in
     entry_unread g.D.Disk old c.args.at c.args.name.now c.args.entry path placed good c.as_str.result.now c.is_fixed.result c.as_str.ensures.value c.is_fixed.ensures _ _
     c.from_residual-in_err-digest.ensures.1 c.in_err-digest.ensures.exact
@@ -131,10 +131,10 @@ returns-in_err-digest-clause-unreadable g c =
     let d = g.D.Disk in
     let old = c.args.parts.now in
     let path = string_bytes c.in_ok-path.path in
-    let placed = place_is c.args.name.now (session_at old c.args.at.lane) old.catalogue.items path c.in_ok-path.ensures.value in
+    let placed = place_is c.args.name.now (session_at old c.args.at.lane) old.catalogue.listed path c.in_ok-path.ensures.value in
     let good : is_index_name c.args.name.now ≡ true = search rules in
     tells_stopped d old.disk {A = Reply} (λ part. part) _ (as_entry c.args.name.now c.args.entry path) c.read_entry.result _ c.in_err-digest.was _ c.from_residual-in_err-digest.ensures.1
-    (entry_asked c.args.name.now c.args.entry (session_at old c.args.at.lane) old.catalogue.items path placed good)
+    (entry_asked c.args.name.now c.args.entry (session_at old c.args.at.lane) old.catalogue.listed path placed good)
     (read_at path c.as_str.result.now _ c.as_str.ensures.value c.in_err-digest.ensures.kind)
     (λ h. entry_stop (d.content old.disk) path c.as_str.result.now c.args.name.now c.args.entry c.is_fixed.result c.as_str.ensures.value c.is_fixed.ensures _ (c.in_err-digest.ensures.exact h))
 
@@ -143,12 +143,12 @@ returns-in_err-digest-clause-damaged g c =
     let d = g.D.Disk in
     let old = c.args.parts.now in
     let path = string_bytes c.in_ok-path.path in
-    let placed = place_is c.args.name.now (session_at old c.args.at.lane) old.catalogue.items path c.in_ok-path.ensures.value in
+    let placed = place_is c.args.name.now (session_at old c.args.at.lane) old.catalogue.listed path c.in_ok-path.ensures.value in
     let good : is_index_name c.args.name.now ≡ true = search rules in
-    let asked = entry_asked c.args.name.now c.args.entry (session_at old c.args.at.lane) old.catalogue.items path placed good in
+    let asked = entry_asked c.args.name.now c.args.entry (session_at old c.args.at.lane) old.catalogue.listed path placed good in
     damages_unread d old.disk _ _ _ _ c.from_residual-in_err-digest.ensures.1
     (unread_undamaged c.as_str.result.now _ (d.honest old.disk)
-    (asked_damage (d.content old.disk) (asked_entry c.args.name.now c.args.entry (session_at old c.args.at.lane) old.catalogue.items) ≡ None) _
+    (asked_damage (d.content old.disk) (asked_entry c.args.name.now c.args.entry (session_at old c.args.at.lane) old.catalogue.listed) ≡ None) _
     c.in_err-digest.ensures.kind c.in_err-digest.ensures.exact
     (λ refusal honest gives. damage_unread (d.content old.disk) path c.as_str.result.now c.args.name.now c.args.entry c.is_fixed.result c.as_str.ensures.value c.is_fixed.ensures _ refusal asked gives))
 
@@ -159,7 +159,7 @@ returns-in_err-bytes-clause-does g c =
     let d = g.D.Disk in
     let old = c.args.parts.now in
     let path = string_bytes c.in_ok-path.path in
-    let placed = place_is c.args.name.now (session_at old c.args.at.lane) old.catalogue.items path c.in_ok-path.ensures.value in
+    let placed = place_is c.args.name.now (session_at old c.args.at.lane) old.catalogue.listed path c.in_ok-path.ensures.value in
     let good : is_index_name c.args.name.now ≡ true = search rules in
     let digest = c.in_ok-digest.digest in
     stopped_does d old _ c.args.at (ReadChunk c.args.name.now c.args.entry) c.read_bytes.result _ _ c.from_residual-in_err-bytes.ensures.1 c.in_err-bytes.was
@@ -184,7 +184,7 @@ returns-in_err-bytes-clause-by_disk g c = λ honest.
     let d = g.D.Disk in
     let old = c.args.parts.now in
     let path = string_bytes c.in_ok-path.path in
-    let placed = place_is c.args.name.now (session_at old c.args.at.lane) old.catalogue.items path c.in_ok-path.ensures.value in
+    let placed = place_is c.args.name.now (session_at old c.args.at.lane) old.catalogue.listed path c.in_ok-path.ensures.value in
     let good : is_index_name c.args.name.now ≡ true = search rules in
     chunk_stops d old c.args.at c.args.name.now c.args.entry path placed good c.as_str.result.now c.is_fixed.result c.as_str.ensures.value c.is_fixed.ensures
     c.in_ok-digest.digest (d.content c.read_entry.new.disk) (c.in_ok-digest.ensures.exact honest) (c.read_entry.ensures.reads.same honest) _ _
@@ -195,9 +195,9 @@ returns-in_err-bytes-clause-unreadable g c =
     let d = g.D.Disk in
     let old = c.args.parts.now in
     let path = string_bytes c.in_ok-path.path in
-    let placed = place_is c.args.name.now (session_at old c.args.at.lane) old.catalogue.items path c.in_ok-path.ensures.value in
+    let placed = place_is c.args.name.now (session_at old c.args.at.lane) old.catalogue.listed path c.in_ok-path.ensures.value in
     let good : is_index_name c.args.name.now ≡ true = search rules in
-    let asked = entry_asked c.args.name.now c.args.entry (session_at old c.args.at.lane) old.catalogue.items path placed good in
+    let asked = entry_asked c.args.name.now c.args.entry (session_at old c.args.at.lane) old.catalogue.listed path placed good in
     tells_unloaded d old.disk _ (as_entry c.args.name.now c.args.entry path) asked c.in_ok-digest.digest _ _ c.from_residual-in_err-bytes.ensures.1 c.in_err-bytes.ensures.damage
     (λ h. entry_got (d.content old.disk) path c.as_str.result.now c.args.name.now c.args.entry c.is_fixed.result c.as_str.ensures.value c.is_fixed.ensures c.in_ok-digest.digest (c.in_ok-digest.ensures.exact h))
 
@@ -206,10 +206,10 @@ returns-in_err-bytes-clause-damaged g c =
     let d = g.D.Disk in
     let old = c.args.parts.now in
     let path = string_bytes c.in_ok-path.path in
-    let placed = place_is c.args.name.now (session_at old c.args.at.lane) old.catalogue.items path c.in_ok-path.ensures.value in
+    let placed = place_is c.args.name.now (session_at old c.args.at.lane) old.catalogue.listed path c.in_ok-path.ensures.value in
     let digest = c.in_ok-digest.digest in
     let good : is_index_name c.args.name.now ≡ true = search rules in
-    let asked = entry_asked c.args.name.now c.args.entry (session_at old c.args.at.lane) old.catalogue.items path placed good in
+    let asked = entry_asked c.args.name.now c.args.entry (session_at old c.args.at.lane) old.catalogue.listed path placed good in
     damages_found d old.disk _ _ digest _ _ c.from_residual-in_err-bytes.ensures.1 c.in_err-bytes.ensures.damage tt
     (λ honest fault is. damage_told (d.content old.disk) path c.as_str.result.now c.args.name.now c.args.entry c.is_fixed.result c.as_str.ensures.value c.is_fixed.ensures _ digest fault
     (d.content c.read_entry.new.disk) asked (c.in_ok-digest.ensures.exact honest) (c.read_entry.ensures.reads.same honest)
@@ -222,7 +222,7 @@ returns-clause-does g c =
     let d = g.D.Disk in
     let old = c.args.parts.now in
     let path = string_bytes c.in_ok-path.path in
-    let placed = place_is c.args.name.now (session_at old c.args.at.lane) old.catalogue.items path c.in_ok-path.ensures.value in
+    let placed = place_is c.args.name.now (session_at old c.args.at.lane) old.catalogue.listed path c.in_ok-path.ensures.value in
     let good : is_index_name c.args.name.now ≡ true = search rules in
     let digest = c.in_ok-digest.digest in
     let bytes = c.in_ok-bytes.bytes in
@@ -248,7 +248,7 @@ returns-clause-by_disk g c = λ honest.
     let d = g.D.Disk in
     let old = c.args.parts.now in
     let path = string_bytes c.in_ok-path.path in
-    let placed = place_is c.args.name.now (session_at old c.args.at.lane) old.catalogue.items path c.in_ok-path.ensures.value in
+    let placed = place_is c.args.name.now (session_at old c.args.at.lane) old.catalogue.listed path c.in_ok-path.ensures.value in
     let good : is_index_name c.args.name.now ≡ true = search rules in
     chunk_given d old c.args.at c.args.name.now c.args.entry path placed good c.as_str.result.now c.is_fixed.result c.as_str.ensures.value c.is_fixed.ensures
     c.in_ok-digest.digest (d.content c.read_entry.new.disk) (c.in_ok-digest.ensures.exact honest) (c.read_entry.ensures.reads.same honest)
@@ -259,9 +259,9 @@ returns-clause-unreadable g c =
     let d = g.D.Disk in
     let old = c.args.parts.now in
     let path = string_bytes c.in_ok-path.path in
-    let placed = place_is c.args.name.now (session_at old c.args.at.lane) old.catalogue.items path c.in_ok-path.ensures.value in
+    let placed = place_is c.args.name.now (session_at old c.args.at.lane) old.catalogue.listed path c.in_ok-path.ensures.value in
     let good : is_index_name c.args.name.now ≡ true = search rules in
-    let asked = entry_asked c.args.name.now c.args.entry (session_at old c.args.at.lane) old.catalogue.items path placed good in
+    let asked = entry_asked c.args.name.now c.args.entry (session_at old c.args.at.lane) old.catalogue.listed path placed good in
     tells_readable d old.disk _ (as_entry c.args.name.now c.args.entry path) asked 0 (Some (Data c.in_ok-bytes.bytes)) (λ n e. cc)
     (λ h. entry_got (d.content old.disk) path c.as_str.result.now c.args.name.now c.args.entry c.is_fixed.result c.as_str.ensures.value c.is_fixed.ensures c.in_ok-digest.digest (c.in_ok-digest.ensures.exact h))
 
@@ -270,10 +270,10 @@ returns-clause-damaged g c =
     let d = g.D.Disk in
     let old = c.args.parts.now in
     let path = string_bytes c.in_ok-path.path in
-    let placed = place_is c.args.name.now (session_at old c.args.at.lane) old.catalogue.items path c.in_ok-path.ensures.value in
+    let placed = place_is c.args.name.now (session_at old c.args.at.lane) old.catalogue.listed path c.in_ok-path.ensures.value in
     let digest = c.in_ok-digest.digest in
     let good : is_index_name c.args.name.now ≡ true = search rules in
-    let asked = entry_asked c.args.name.now c.args.entry (session_at old c.args.at.lane) old.catalogue.items path placed good in
+    let asked = entry_asked c.args.name.now c.args.entry (session_at old c.args.at.lane) old.catalogue.listed path placed good in
     damages_none d old.disk _ _ 0 (Some (Data c.in_ok-bytes.bytes)) (λ d f e. cc)
     (λ honest. damage_none (d.content old.disk) path c.as_str.result.now c.args.name.now c.args.entry c.is_fixed.result c.as_str.ensures.value c.is_fixed.ensures _ digest c.in_ok-bytes.bytes
     (d.content c.read_entry.new.disk) asked (c.in_ok-digest.ensures.exact honest) (c.read_entry.ensures.reads.same honest)

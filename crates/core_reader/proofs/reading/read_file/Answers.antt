@@ -17,7 +17,7 @@ returns-in_err-path-clause-does g c =
     let old = c.args.parts.now in
     let name = c.args.name.now in
     let f = session_at old c.args.at.lane in
-    let catalogue = old.catalogue.items in
+    let catalogue = old.catalogue.listed in
     let value = c.in_err-path.ensures.value in
     stopped_does d old old c.args.at (ReadFile name c.args.offset) c.path_of.result _ _ c.from_residual.ensures.1 c.in_err-path.was
     (reads_none d old.disk old.disk _ refl c.path_of.ensures.unfailed) (same_kept old)
@@ -33,7 +33,7 @@ returns-in_err-path-clause-unreadable g c =
     let old = c.args.parts.now in
     let name = c.args.name.now in
     let f = session_at old c.args.at.lane in
-    let catalogue = old.catalogue.items in
+    let catalogue = old.catalogue.listed in
     tells_unread g.D.Disk old.disk _ _ _ c.from_residual.ensures.1 (place_stops name f catalogue _ _ (part_unplaced name c.args.offset f catalogue) c.in_err-path.ensures.value)
 
 -- ---- it is refused by what stands there
@@ -44,7 +44,7 @@ returns-in_err-part-clause-does g c =
     let old = c.args.parts.now in
     let name = c.args.name.now in
     let path = string_bytes c.in_ok-path.path in
-    let placed = place_is name (session_at old c.args.at.lane) old.catalogue.items path c.in_ok-path.ensures.value in
+    let placed = place_is name (session_at old c.args.at.lane) old.catalogue.listed path c.in_ok-path.ensures.value in
     stops_does d old _ c.args.at (ReadFile name c.args.offset) c.read_part.result _ c.in_err-part.was _ c.from_residual-in_err-part.ensures.1
     c.read_part.ensures.reads (record { catalogue = refl; sessions = refl; locks = refl }) c.in_err-part.ensures.text (read_error_answers c.as_str.result.now _ c.in_err-part.ensures.kind)
     (λ s h. read_stops {A = Reply} (λ part. part) _ _ _ (c.in_err-part.ensures.exact h.honest)
@@ -66,7 +66,7 @@ returns-in_err-part-clause-unreadable g c =
     let old = c.args.parts.now in
     let path = string_bytes c.in_ok-path.path in
     tells_stopped d old.disk {A = Reply} (λ part. part) _ (as_part c.args.offset path) c.read_part.result _ c.in_err-part.was _ c.from_residual-in_err-part.ensures.1
-    (part_asked c.args.name.now c.args.offset (session_at old c.args.at.lane) old.catalogue.items path c.in_ok-path.ensures.value)
+    (part_asked c.args.name.now c.args.offset (session_at old c.args.at.lane) old.catalogue.listed path c.in_ok-path.ensures.value)
     (read_at path c.as_str.result.now _ c.as_str.ensures.value c.in_err-part.ensures.kind)
     (λ h. part_stop (d.content old.disk) path c.as_str.result.now c.args.offset None _ c.as_str.ensures.value refl (c.in_err-part.ensures.exact h))
 
@@ -78,7 +78,7 @@ returns-clause-does g c =
     let old = c.args.parts.now in
     let name = c.args.name.now in
     let path = string_bytes c.in_ok-path.path in
-    let placed = place_is name (session_at old c.args.at.lane) old.catalogue.items path c.in_ok-path.ensures.value in
+    let placed = place_is name (session_at old c.args.at.lane) old.catalogue.listed path c.in_ok-path.ensures.value in
     read_does d old _ c.args.at (ReadFile name c.args.offset) c.in_ok-part.part _ c.read_part.ensures.reads (record { catalogue = refl; sessions = refl; locks = refl })
     c.in_ok-part.ensures.text (filled_answers c.args.offset _ c.in_ok-part.ensures.kind c.in_ok-part.ensures.filled) (part_plain _ c.in_ok-part.ensures.kind)
     (λ s h. read_given d old s c.args.at.lane name path c.as_str.result.now c.args.offset c.requires c.path_of.ensures.name placed c.as_str.ensures.value h c.in_ok-part.part (c.in_ok-part.ensures.exact h.honest))
@@ -99,5 +99,5 @@ returns-clause-unreadable g c =
     let old = c.args.parts.now in
     let path = string_bytes c.in_ok-path.path in
     tells_given d old.disk _ (as_part c.args.offset path) c.in_ok-part.part
-    (part_asked c.args.name.now c.args.offset (session_at old c.args.at.lane) old.catalogue.items path c.in_ok-path.ensures.value) c.in_ok-part.ensures.kind
+    (part_asked c.args.name.now c.args.offset (session_at old c.args.at.lane) old.catalogue.listed path c.in_ok-path.ensures.value) c.in_ok-part.ensures.kind
     (λ h. part_got (d.content old.disk) path c.as_str.result.now c.args.offset None c.in_ok-part.part c.as_str.ensures.value refl (c.in_ok-part.ensures.exact h))

@@ -46,7 +46,7 @@ pub invariant_of-parts : goal.invariant_of-parts
 invariant_of-parts g c =
     let old = c.args.parts.now in
     let same = ap (set old.sessions.items c.args.at.lane) ((c.in_err-new.ensures c.args.at.moment)).same ∙ found_stays old.sessions.items c.args.at.lane c.index_mut-session.result.now c.index_mut-session.ensures.value in
-    record { lanes = old.lanes; named = ap (list_all is_named) same ∙ old.named; finished_named = old.finished_named }
+    record { lanes = old.lanes; named = ap (list_all is_named) same ∙ old.named }
 
 -- ---- it is put
 

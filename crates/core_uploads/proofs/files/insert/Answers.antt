@@ -1,7 +1,7 @@
 use Rattle.std.proofs.Common.{◌≡◌, ◌≤◌, ◌∙◌, ap, length, arith}
 use Rattle.std.specs.Prelude.{position, unwrap_or}
 use Rattle.std.specs.List.{insert}
-use Rattle.core_uploads.proofs.Places.{place_is, place_within, taken_in}
+use Rattle.core_state.proofs.Places.{place_is, place_within, taken_in}
 use Rattle.core_uploads.proofs.UploadLemmas.{is_after, insert_stored-is}
 use Rattle.core_uploads.proofs.files.insert.Goals as goal
 

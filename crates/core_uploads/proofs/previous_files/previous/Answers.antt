@@ -27,7 +27,7 @@ returns-in_err-writer-clause-leaves g c =
 
 pub returns-in_err-writer-clause-unreadable : goal.returns-in_err-writer-clause-unreadable
 returns-in_err-writer-clause-unreadable g c =
-    tells_unwritten g.D.Disk c.args.parts.now.disk c.args.name.now c.args.offset _ c.args.parts.now.catalogue.items _ _ c.from_residual.ensures.1 c.in_err-writer.ensures.value
+    tells_unwritten g.D.Disk c.args.parts.now.disk c.args.name.now c.args.offset _ c.args.parts.now.catalogue.listed _ _ c.from_residual.ensures.1 c.in_err-writer.ensures.value
 
 -- ---- a bad name
 
@@ -41,7 +41,7 @@ returns-in_err-name-clause-leaves g c =
 
 pub returns-in_err-name-clause-unreadable : goal.returns-in_err-name-clause-unreadable
 returns-in_err-name-clause-unreadable g c =
-    tells_unnamed g.D.Disk c.args.parts.now.disk c.args.name.now c.args.offset _ c.args.parts.now.catalogue.items _ _ c.from_residual-in_err-name.ensures.1 c.in_err-name.ensures.stops
+    tells_unnamed g.D.Disk c.args.parts.now.disk c.args.name.now c.args.offset _ c.args.parts.now.catalogue.listed _ _ c.from_residual-in_err-name.ensures.1 c.in_err-name.ensures.stops
 
 -- ---- no such file
 
@@ -49,7 +49,7 @@ pub returns-in_err-path-clause-does : goal.returns-in_err-path-clause-does
 returns-in_err-path-clause-does g c =
     let old = c.args.parts.now in
     let within : c.args.at.lane < length old.sessions.items = omega (arith, old.lanes, old.sessions.ok.0, c.requires) in
-    let found : base_file ((c.in-Writer.w).session).writer.base c.args.name.now old.catalogue.items ≡ Err c.in_err-path.field-0.0 = search rules in
+    let found : base_file ((c.in-Writer.w).session).writer.base c.args.name.now old.catalogue.listed ≡ Err c.in_err-path.field-0.0 = search rules in
     no_base_does g.D.Disk old c.args.at c.args.name.now c.args.offset _ refl (record { catalogue = refl; sessions = refl; locks = refl }) c.in_err-path.field-0.0 _ c.from_residual-in_err-path.ensures.1 c.requires c.in-Writer.w
     (found_wants old.sessions.items c.args.at.lane c.index.result.now c.in-Writer.w within c.index.ensures c.in-Writer.is) c.in_ok-name.ensures.name.1 found c.in_err-path.ensures.text c.in_err-path.ensures.kind
 
@@ -60,8 +60,8 @@ pub returns-in_err-path-clause-unreadable : goal.returns-in_err-path-clause-unre
 returns-in_err-path-clause-unreadable g c =
     let old = c.args.parts.now in
     let within : c.args.at.lane < length old.sessions.items = omega (arith, old.lanes, old.sessions.ok.0, c.requires) in
-    let found : base_file ((c.in-Writer.w).session).writer.base c.args.name.now old.catalogue.items ≡ Err c.in_err-path.field-0.0 = search rules in
-    tells_no_base g.D.Disk old.disk c.args.name.now c.args.offset _ old.catalogue.items c.in-Writer.w c.in_err-path.field-0.0 _ c.from_residual-in_err-path.ensures.1
+    let found : base_file ((c.in-Writer.w).session).writer.base c.args.name.now old.catalogue.listed ≡ Err c.in_err-path.field-0.0 = search rules in
+    tells_no_base g.D.Disk old.disk c.args.name.now c.args.offset _ old.catalogue.listed c.in-Writer.w c.in_err-path.field-0.0 _ c.from_residual-in_err-path.ensures.1
     (found_at old.sessions.items c.args.at.lane c.index.result.now c.in-Writer.w within c.index.ensures c.in-Writer.is) c.in_ok-name.ensures.name.1 found
 
 -- ---- it is not read
@@ -71,7 +71,7 @@ returns-in_err-given-clause-does g c = let d = g.D.Disk in
     let old = c.args.parts.now in
     let within : c.args.at.lane < length old.sessions.items = omega (arith, old.lanes, old.sessions.ok.0, c.requires) in
     let named : c.in_ok-name.name ≡ c.args.name.now = c.in_ok-name.ensures.name.0 in
-    let found : base_file ((c.in-Writer.w).session).writer.base c.args.name.now old.catalogue.items ≡ Ok c.in_ok-path.path.now = search rules in
+    let found : base_file ((c.in-Writer.w).session).writer.base c.args.name.now old.catalogue.listed ≡ Ok c.in_ok-path.path.now = search rules in
     unread_does d old c.args.at c.args.name.now c.args.offset _ _ c.read_file.ensures.reads c.in-Writer.w c.in_ok-path.path.now c.requires
     (found_wants old.sessions.items c.args.at.lane c.index.result.now c.in-Writer.w within c.index.ensures c.in-Writer.is) c.in_ok-name.ensures.name.1 found
     c.in_err-given.field-0.0 _ c.from_residual-in_err-given.ensures.1 (λ f. c.in_err-given.was ∙ ap (λ y. Err y) (read_failed _ f)) (record { catalogue = refl; sessions = refl; locks = refl })
@@ -88,8 +88,8 @@ returns-in_err-given-clause-unreadable g c = let d = g.D.Disk in
     let old = c.args.parts.now in
     let within : c.args.at.lane < length old.sessions.items = omega (arith, old.lanes, old.sessions.ok.0, c.requires) in
     let named : c.in_ok-name.name ≡ c.args.name.now = c.in_ok-name.ensures.name.0 in
-    let found : base_file ((c.in-Writer.w).session).writer.base c.args.name.now old.catalogue.items ≡ Ok c.in_ok-path.path.now = search rules in
-    tells_unread d old.disk c.args.name.now c.args.offset _ old.catalogue.items c.in-Writer.w c.in_ok-path.path.now
+    let found : base_file ((c.in-Writer.w).session).writer.base c.args.name.now old.catalogue.listed ≡ Ok c.in_ok-path.path.now = search rules in
+    tells_unread d old.disk c.args.name.now c.args.offset _ old.catalogue.listed c.in-Writer.w c.in_ok-path.path.now
     (found_at old.sessions.items c.args.at.lane c.index.result.now c.in-Writer.w within c.index.ensures c.in-Writer.is) c.in_ok-name.ensures.name.1 found
     c.in_err-given.field-0.0 _ c.from_residual-in_err-given.ensures.1 c.in_err-given.ensures.kind
     (λ honest. subst (λ n. Gives shown_given (Err c.in_err-given.field-0.0) (previous_by (whole_by n) (d.content old.disk) c.in_ok-path.path.now c.args.offset)) named (c.in_err-given.ensures.exact honest))
@@ -108,7 +108,7 @@ invariant_of-parts-2-clause-named g c =
     let old = c.args.parts.now in
     let within : c.args.at.lane < length old.sessions.items = omega (arith, old.lanes, old.sessions.ok.0, c.requires) in
     list_all-set is_named old.sessions.items c.args.at.lane c.note.new.session old.named
-    (named_noted c.note.result (map indexes.known_of c.deref-2.result.now) c.index_mut-session.result.now c.note.new.session c.note.ensures.ok c.note.ensures.err (list_all-at is_named old.sessions.items c.args.at.lane c.index_mut-session.result.now old.named within c.index_mut-session.ensures.value))
+    (named_noted c.note.result (map indexes.known_of c.deref.result.now) c.index_mut-session.result.now c.note.new.session c.note.ensures.ok c.note.ensures.err (list_all-at is_named old.sessions.items c.args.at.lane c.index_mut-session.result.now old.named within c.index_mut-session.ensures.value))
 
 pub returns-in_err-note-clause-does : goal.returns-in_err-note-clause-does
 returns-in_err-note-clause-does g c =
@@ -131,8 +131,8 @@ returns-clause-does g c = let d = g.D.Disk in
     let within : c.args.at.lane < length old.sessions.items = omega (arith, old.lanes, old.sessions.ok.0, c.requires) in
     let again = found_again old.sessions.items c.args.at.lane c.index.result.now c.index_mut-session.result.now within c.index.ensures c.index_mut-session.ensures.value in
     let named : c.in_ok-name.name ≡ c.args.name.now = c.in_ok-name.ensures.name.0 in
-    let found : base_file ((c.in-Writer.w).session).writer.base c.args.name.now old.catalogue.items ≡ Ok c.in_ok-path.path.now = search rules in
-    let items : c.deref-2.result.now ≡ c.in_ok-given.given.pieces.items = search rules in
+    let found : base_file ((c.in-Writer.w).session).writer.base c.args.name.now old.catalogue.listed ≡ Ok c.in_ok-path.path.now = search rules in
+    let items : c.deref.result.now ≡ c.in_ok-given.given.pieces.items = search rules in
     given_does d old c.args.at c.args.name.now c.args.offset _ _ c.read_file.ensures.reads c.in-Writer.w c.in_ok-path.path.now c.requires
     (found_wants old.sessions.items c.args.at.lane c.index.result.now c.in-Writer.w within c.index.ensures c.in-Writer.is) c.in_ok-name.ensures.name.1 found
     c.in_ok-given.given c.note.new.session c.index_mut-session.result.now c.in_ok-given.ensures.kind c.in_ok-given.ensures.text
@@ -147,8 +147,8 @@ returns-clause-unreadable g c = let d = g.D.Disk in
     let old = c.args.parts.now in
     let within : c.args.at.lane < length old.sessions.items = omega (arith, old.lanes, old.sessions.ok.0, c.requires) in
     let named : c.in_ok-name.name ≡ c.args.name.now = c.in_ok-name.ensures.name.0 in
-    let found : base_file ((c.in-Writer.w).session).writer.base c.args.name.now old.catalogue.items ≡ Ok c.in_ok-path.path.now = search rules in
-    tells_given d old.disk c.args.name.now c.args.offset _ old.catalogue.items c.in-Writer.w c.in_ok-path.path.now
+    let found : base_file ((c.in-Writer.w).session).writer.base c.args.name.now old.catalogue.listed ≡ Ok c.in_ok-path.path.now = search rules in
+    tells_given d old.disk c.args.name.now c.args.offset _ old.catalogue.listed c.in-Writer.w c.in_ok-path.path.now
     (found_at old.sessions.items c.args.at.lane c.index.result.now c.in-Writer.w within c.index.ensures c.in-Writer.is) c.in_ok-name.ensures.name.1 found
     c.in_ok-given.given c.in_ok-given.ensures.kind
     (λ honest. subst (λ n. previous_by (whole_by n) (d.content old.disk) c.in_ok-path.path.now c.args.offset ≡ Ok (shown_given c.in_ok-given.given)) named (c.in_ok-given.ensures.exact honest))

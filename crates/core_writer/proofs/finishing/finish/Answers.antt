@@ -7,13 +7,13 @@ use Rattle.core_state.specs.declared.kept.Session.TheVariants.{Idle}
 use Rattle.core_state.specs.Catalogue.{closed}
 use Rattle.core_state.specs.Changes.{IsFirm, LeavesChange, after}
 use Rattle.core_state.specs.Wanted.{session_at}
-use Rattle.core_state.specs.Named.{is_named, is_named_snapshot}
+use Rattle.core_state.specs.Named.{is_named}
 use Rattle.core_state.specs.Replies.{refuses_finish}
 use Rattle.core_state.proofs.Commanding.{failed_does, failed_leaves, not_still, refused_does, same_kept, unwritten_does, writes_does, writes_leaves}
 use Rattle.core_state.proofs.NamedLemmas.{list_all-set, list_all-at}
 use Rattle.core_state.proofs.Texts.{no_file_has_text, done_has_text}
 use Rattle.core_writer.specs.Finished.{manifest_in}
-use Rattle.core_writer.proofs.FinishLemmas.{not_writing, tests_refuse, tests_there, tests_done, finish_change, finish_done, finish_adds, named_closed, settled_by}
+use Rattle.core_writer.proofs.FinishLemmas.{not_writing, tests_refuse, tests_there, tests_done, finish_change, finish_done, finish_adds, settled_by}
 use Rattle.core_writer.proofs.Stopping.{early_does, err_as, idle_set, session_found}
 use Rattle.core_writer.proofs.TouchLemmas.{false_true}
 use Rattle.core_writer.proofs.finishing.finish.Goals as goal
@@ -42,7 +42,7 @@ returns-in_err-path-clause-does g c =
 pub returns-in_err-finish-clause-does : goal.returns-in_err-finish-clause-does
 returns-in_err-finish-clause-does g c =
     failed_does g.D.Disk c.args.parts.now _ c.args.at (Plain Finish) c.finish.result _ _ c.from_residual-in_err-finish.ensures.1 c.in_err-finish.was
-    c.finish.ensures.serves (λ none h. (c.finish.ensures.unchanged none).0 h) (record { catalogue = c.reserve.ensures.items; sessions = refl; locks = refl })
+    c.finish.ensures.serves (λ none h. (c.finish.ensures.unchanged none).0 h) (record { catalogue = c.reserve.ensures.same; sessions = refl; locks = refl })
 
 pub returns-in_err-finish-clause-leaves : goal.returns-in_err-finish-clause-leaves
 returns-in_err-finish-clause-leaves g c = let d = g.D.Disk in
@@ -52,7 +52,7 @@ returns-in_err-finish-clause-leaves g c = let d = g.D.Disk in
     let change = finish_change (session_at old c.args.at.lane) _ _ (ap manifest_in here ∙ told) in
     failed_leaves d old _ c.args.at (Plain Finish) c.finish.result _ _ c.from_residual-in_err-finish.ensures.1 c.in_err-finish.was
     (λ none h. (c.finish.ensures.unchanged none).0 h) (λ none. inr (c.finish.ensures.unchanged none).1)
-    (subst (LeavesChange d old.disk _) (sym change) (inr c.finish.ensures.crash)) (record { catalogue = c.reserve.ensures.items; sessions = refl; locks = refl }) refl (λ none closing. cc)
+    (subst (LeavesChange d old.disk _) (sym change) (inr c.finish.ensures.crash)) (record { catalogue = c.reserve.ensures.same; sessions = refl; locks = refl }) refl (λ none closing. cc)
     (λ s h. tests_done old s c.args.at _ h.shows c.requires c.in_ok-writer.ensures.value c.in_ok-check.ensures.plain)
 
 pub returns-clause-does : goal.returns-clause-does
@@ -64,7 +64,7 @@ returns-clause-does g c =
     writes_does g.D.Disk old _ c.args.at (Plain Finish) _ _ c.finish.ensures.serves done_has_text refl tt
     (λ safe s h. finish_done g.D.Disk old _ s c.args.at _ _ _ h c.requires c.in_ok-writer.ensures.value c.in_ok-check.ensures.plain (ap manifest_in here ∙ told)
     c.in_ok-finish.ensures.installed
-    (c.close.ensures.catalogue ∙ ap (closed c.args.at.number c.index_mut-session.result.now) c.reserve.ensures.items ∙ ap (λ x. closed c.args.at.number x old.catalogue.items) (sym session))
+    (c.close.ensures.catalogue ∙ ap (closed c.args.at.number c.index_mut-session.result.now) c.reserve.ensures.same ∙ ap (λ x. closed c.args.at.number x old.catalogue.listed) (sym session))
     (ap (set old.sessions.items c.args.at.lane) c.close.ensures.session) c.release.ensures)
 
 pub returns-clause-leaves : goal.returns-clause-leaves
@@ -77,19 +77,18 @@ returns-clause-leaves g c = let d = g.D.Disk in
     writes_leaves d old _ c.args.at (Plain Finish) _ tt refl
     (λ h. c.in_ok-finish.ensures.installed h ∙ ap (λ x. after x (d.content old.disk)) (sym change))
     (subst (LeavesChange d old.disk _) (sym change) (inr c.finish.ensures.crash)) (subst (IsFirm d old.disk _) (sym change) c.in_ok-finish.ensures.firm)
-    (c.close.ensures.catalogue ∙ ap (closed c.args.at.number c.index_mut-session.result.now) c.reserve.ensures.items ∙ ap (λ x. closed c.args.at.number x old.catalogue.items) (sym session))
+    (c.close.ensures.catalogue ∙ ap (closed c.args.at.number c.index_mut-session.result.now) c.reserve.ensures.same ∙ ap (λ x. closed c.args.at.number x old.catalogue.listed) (sym session))
     (not_still (Plain Finish) refl)
     (finish_adds d old _ c.args.at.lane _ _ c.requires (ap manifest_in here ∙ told) c.in_ok-finish.ensures.installed)
     (λ _. idle_set old c.args.at.lane _ c.requires c.close.ensures.session) (λ writes. absurd (false_true writes))
+
+pub close-requires-clause-named : goal.close-requires-clause-named
+close-requires-clause-named g c =
+    let old = c.args.parts.now in
+    let within : c.args.at.lane < length old.sessions.items = omega (arith, old.lanes, old.sessions.ok.0, c.requires) in
+    list_all-at is_named old.sessions.items c.args.at.lane c.index_mut-session.result.now old.named within c.index_mut-session.ensures.value
 
 pub invariant_of-parts-2-clause-named : goal.invariant_of-parts-2-clause-named
 invariant_of-parts-2-clause-named g c =
     let old = c.args.parts.now in
     ap (λ x. list_all is_named (set old.sessions.items c.args.at.lane x)) c.close.ensures.session ∙ (list_all-set is_named old.sessions.items c.args.at.lane Idle old.named refl)
-
-pub invariant_of-parts-2-clause-finished_named : goal.invariant_of-parts-2-clause-finished_named
-invariant_of-parts-2-clause-finished_named g c =
-    let old = c.args.parts.now in
-    let within : c.args.at.lane < length old.sessions.items = omega (arith, old.lanes, old.sessions.ok.0, c.requires) in
-    ap (list_all is_named_snapshot) (c.close.ensures.catalogue ∙ ap (closed c.args.at.number c.index_mut-session.result.now) c.reserve.ensures.items)
-    ∙ named_closed c.args.at.number c.index_mut-session.result.now old.catalogue.items (list_all-at is_named old.sessions.items c.args.at.lane c.index_mut-session.result.now old.named within c.index_mut-session.ensures.value) old.finished_named

@@ -1,8 +1,7 @@
-use Rattle.std.proofs.Common.{◌≡◌, ◌∙◌, ℕ, List, Option, ap, refl, subst, sym, map, rules, Some, None}
+use Rattle.std.proofs.Common.{◌≡◌, ◌∙◌, ℕ, List, Option, ap, refl, subst, rules, Some, None}
 use Rattle.store_types.specs.declared.names.SnapshotKey.{SnapshotKey}
 use Rattle.store_types.specs.declared.refusal.Refusal.TheVariants.{BadName}
-use Rattle.store_types.specs.Names.{IsKey, key_of, group_of_key}
-use Rattle.lock_book.specs.Locks.{group_holder, other_than}
+use Rattle.store_types.specs.Names.{IsKey, key_of}
 use Rattle.store_model.specs.WriterSteps.{new_writer}
 use Rattle.backup_session.specs.Session as backups
 use Rattle.backup_session.specs.Session.{settled}
@@ -22,7 +21,6 @@ use Rattle.core_state.proofs.Commanding.{busy_does, changed_does, refused_does, 
 use Rattle.core_state.proofs.NamedLemmas.{list_all-set}
 use Rattle.core_state.proofs.Texts.{bad_name_has_text, base_has_text}
 use Rattle.core_writer.specs.AnsweredBy.{writer_told}
-use Rattle.core_writer.specs.Opened.{base_kept}
 use Rattle.core_writer.proofs.OpenedTold.{told_based, told_busy, told_unbased, told_unnamed}
 use Rattle.core_writer.proofs.OpeningLemmas.{named_new, not_idle, bad_named, opening_refuses, opens}
 use Rattle.core_writer.proofs.Stopping.{early_does}
@@ -37,8 +35,8 @@ pub returns-in_err-idle-clause-from_state : goal.returns-in_err-idle-clause-from
 returns-in_err-idle-clause-from_state g c =
     let old = c.args.parts.now in
     let lane = c.args.at.lane in
-    told_stopped (writer_told c.args.snapshot.now lane (session_at old lane) old.catalogue.items old.locks) _ _ c.from_residual.ensures.1
-    (told_busy c.args.snapshot.now lane (session_at old lane) old.catalogue.items old.locks _ c.in_err-idle.ensures.value)
+    told_stopped (writer_told c.args.snapshot.now lane (session_at old lane) old.catalogue.listed old.locks) _ _ c.from_residual.ensures.1
+    (told_busy c.args.snapshot.now lane (session_at old lane) old.catalogue.listed old.locks _ c.in_err-idle.ensures.value)
 
 pub returns-in_default-clause-does : goal.returns-in_default-clause-does
 returns-in_default-clause-does g c =
@@ -52,21 +50,21 @@ returns-in_default-clause-from_state g c =
     let old = c.args.parts.now in
     let lane = c.args.at.lane in
     let bad : key_of c.args.snapshot.now ≡ None = search rules in
-    told_unnamed c.args.snapshot.now lane (session_at old lane) old.catalogue.items old.locks c.in_ok-idle.ensures.value bad
+    told_unnamed c.args.snapshot.now lane (session_at old lane) old.catalogue.listed old.locks c.in_ok-idle.ensures.value bad
 
 pub returns-in_err-begun-clause-does : goal.returns-in_err-begun-clause-does
 returns-in_err-begun-clause-does g c =
     let old = c.args.parts.now in
     let named : key_of c.args.snapshot.now ≡ Some c.in-Ok.key = search rules in
     early_does g.D.Disk refuses_writer old _ c.args.at (Plain (OpenWriter c.args.snapshot.now)) _ _ c.from_residual-in_err-begun.ensures.1 refl (record { catalogue = refl; sessions = refl; locks = c.in_err-begun.ensures.err }) c.in_err-begun.ensures.stop (λ refusal is. is)
-    (λ s h. opening_refuses old s c.args.at.lane c.args.at.moment c.args.snapshot.now c.in-Ok.key _ _ c.requires.lane c.in_ok-idle.ensures.value named c.deref.ensures.value c.in_err-begun.ensures.value h.shows)
+    (λ s h. opening_refuses old s c.args.at.lane c.args.at.moment c.args.snapshot.now c.in-Ok.key _ c.requires.lane c.in_ok-idle.ensures.value named c.in_err-begun.ensures.value h.shows)
 
 pub returns-in_err-begun-clause-from_state : goal.returns-in_err-begun-clause-from_state
 returns-in_err-begun-clause-from_state g c =
     let old = c.args.parts.now in
     let lane = c.args.at.lane in
     let named : key_of c.args.snapshot.now ≡ Some c.in-Ok.key = search rules in
-    told_unbased c.args.snapshot.now lane (session_at old lane) old.catalogue.items old.locks c.in-Ok.key _ c.in_ok-idle.ensures.value named c.deref.ensures.value _ _
+    told_unbased c.args.snapshot.now lane (session_at old lane) old.catalogue.listed old.locks c.in-Ok.key c.in_ok-idle.ensures.value named _ _
     c.from_residual-in_err-begun.ensures.1 c.in_err-begun.ensures.value
 
 pub invariant_of-parts-2-clause-named : goal.invariant_of-parts-2-clause-named
@@ -87,7 +85,7 @@ returns-clause-does g c =
     let told = c.in_ok-begun.ensures.value in
     changed_does g.D.Disk old _ c.args.at (Plain (OpenWriter c.args.snapshot.now)) _ refl (base_has_text begun.text c.in_ok-begun.ensures.short) refl tt
     (λ s h. opens g.D.Disk old _ s c.args.at.lane c.args.at.moment c.args.snapshot.now c.in-Ok.key begun.base _ _ c.requires.lane c.in_ok-idle.ensures.value named key
-    (ap (λ xs. base_kept (map (λ x. x.kept) xs) (other_than c.args.at.lane (group_holder old.locks (group_of_key c.in-Ok.key))) c.in-Ok.key) (sym c.deref.ensures.value) ∙ told.0) refl refl c.in_ok-begun.ensures.taken
+    told.0 refl refl c.in_ok-begun.ensures.taken
     (ap (λ v. Writer (record { session = v; files = c.new.result })) c.open_writer.ensures.opened ∙ ap (λ fs. writing c.in-Ok.key c.args.at.moment begun.base fs) c.new.ensures)
     (subst (λ (x : backups.Session). Shows x.writer (new_writer c.in-Ok.key c.args.at.moment begun.base)) c.open_writer.ensures.opened c.open_writer.ensures.plain)
     (ap (λ t. Base t) told.1) h)
@@ -97,5 +95,5 @@ returns-clause-from_state g c =
     let old = c.args.parts.now in
     let lane = c.args.at.lane in
     let named : key_of c.args.snapshot.now ≡ Some c.in-Ok.key = search rules in
-    told_based c.args.snapshot.now lane (session_at old lane) old.catalogue.items old.locks c.in-Ok.key _ c.in_ok-idle.ensures.value named c.deref.ensures.value
+    told_based c.args.snapshot.now lane (session_at old lane) old.catalogue.listed old.locks c.in-Ok.key c.in_ok-idle.ensures.value named
     c.in_ok-begun.begun c.in_ok-begun.ensures.value

@@ -1,15 +1,9 @@
 use Rattle.std.proofs.Common.{◌≡◌, ◌∙◌, ℕ, ap, sym, Result, Option, Some, None, Err}
 use Rattle.std.specs.Prelude.{option_map}
 use Rattle.std.specs.Result.{result_err}
-use Rattle.store_types.specs.Names.{group_of_key}
 use Rattle.lock_book.specs.declared.LaneHolds.{LaneHolds}
-use Rattle.core_state.proofs.NamedLemmas.{is_key}
-use Rattle.core_writer.proofs.OpenedLemmas.{may_open, latest_named}
+use Rattle.core_writer.proofs.OpenedLemmas.{may_open}
 use Rattle.core_writer.proofs.opening.take_locks.Goals as goal
-
-pub base_text-requires : goal.base_text-requires
-base_text-requires c = λ x is.
-    is_key x.now (latest_named (group_of_key c.args.key.now) c.args.catalogue.now x.now c.requires ((may_open _ _ _ _ c.in_ok-base.ensures.value).latest ∙ ap (option_map (λ k. k.now)) is))
 
 some_none : (n : ℕ) → (let o : Option ℕ = Some n in o ≡ None) → ⊥
 some_none n e = cc

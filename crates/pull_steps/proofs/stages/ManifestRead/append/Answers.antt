@@ -1,7 +1,7 @@
 use Rattle.std.proofs.Common.{◌≡◌, ◌++◌, ◌≤◌, ◌<◌, length, take, ap, ◌∙◌, arith}
 use Rattle.std.proofs.lemmas.List.{take_at}
+use Rattle.blob_codec.specs.Blob.{blob_limit}
 use Rattle.store_model.specs.Load.{read_manifest}
-use Rattle.store_model.specs.SizeLimits.{blob_limit}
 use Rattle.store_history.specs.Pulling.{asks, manifest_read, reading_manifest}
 use Rattle.pull_steps.specs.States.{shown_course}
 use Rattle.pull_steps.proofs.Parts.{manifest_long, manifest_more, manifest_whole}

@@ -6,10 +6,10 @@ use Rattle.snapshot_files.specs.Scanned.{HasNames}
 use Rattle.core_state.specs.declared.kept.Listed.{Listed}
 use Rattle.core_state.specs.Named.{is_named_snapshot}
 use Rattle.core_state.specs.Numbers.{first_number}
-use Rattle.core_opening.specs.Opening.{AreListed}
+use Rattle.core_opening.specs.Opening.{AreListed, NumbersAll}
 use Rattle.core_opening.proofs.Keeping.{listed_more, is_named, all_named_more}
 use Rattle.core_opening.proofs.Numbered.{found_numbered}
-use Rattle.core_opening.proofs.cataloguing.listed_of.Goals as goal
+use Rattle.core_opening.proofs.cataloguing.catalogue_of.Goals as goal
 
 pub loop-found-preserved : goal.loop-found-preserved
 loop-found-preserved c =
@@ -28,4 +28,4 @@ loop-found-preserved c =
     }
 
 pub returns-clause-numbers : goal.returns-clause-numbers
-returns-clause-numbers c = found_numbered c.loop-found.yielded c.loop-found.listed.items c.loop-found.invariant.listed
+returns-clause-numbers c = subst NumbersAll (sym c.from_vec.ensures) (found_numbered c.loop-found.yielded c.loop-found.listed.items c.loop-found.invariant.listed)
