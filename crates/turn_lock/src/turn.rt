@@ -2,7 +2,7 @@
 ghost use Rattle.std.specs.Prelude.{◌≡◌, ℕ, ◌+◌, ◌-◌, ◌/◌, ◌^◌, ◌<◌, ◌≤◌, true, false, List, [], length, IfOk, IfErr, IfNone};
 ghost use Rattle.std.specs.List.{range_with_len};
 ghost use mathlib.Core.List.{IsPrefix};
-ghost use Rattle.turn_lock.specs.State.{IsNewTurn, seat_after_join};
+ghost use Rattle.turn_lock.specs.State.{IsNewTurn, seat_after_join, seat_after_split, seat_split_off};
 ghost use Rattle.turn_lock.specs.Places.{RisesWithin};
 ghost use Rattle.turn_lock.specs.Steps.{IsWaiting, Takes, TakesFound};
 
@@ -144,12 +144,12 @@ impl<T: Replays> Turn<T> {
         requires own { seat.turn ≡ self.now.id }
         requires idle { seat.holding ≡ false }
         requires reach { 2 ≤ seat.reach }
-        ensures left { result.0 ≡ record seat { reach = seat.reach - seat.reach / 2 } }
-        ensures right { result.1 ≡ record seat { mine = []; reach = seat.reach / 2 } }
+        ensures left { result.0 ≡ seat_after_split seat }
+        ensures right { result.1 ≡ seat_split_off seat }
     {
-        let mut inner = seat.into_inner();
-        let other = self.table.shared.split_seat::<Halves>(&mut inner);
-        (Seat { inner }, Seat { inner: other })
+        let mut left = seat;
+        let right = self.split_off(&mut left);
+        (left, right)
     }
 
     /// Makes one seat of two. It has seen what the one that saw more had seen, and has both seats' own places.
@@ -161,11 +161,35 @@ impl<T: Replays> Turn<T> {
         ensures right { IsPrefix right.seen result.seen }
         ensures rises { RisesWithin 0 (length result.seen) result.mine }
     {
-        let shared = &self.table.shared;
-        let mut inner = left.into_inner();
-        shared.join_seat::<Both>(&mut inner, right.into_inner());
-        shared.load::<Settle>(&mut inner, TICKET);
+        let mut seat = left;
+        self.absorb(&mut seat, right);
+        seat
+    }
+
+    /// Takes a second seat out of one, as `split` does.
+    pub fn split_off(&self, seat: &mut Seat<T>) -> Seat<T>
+        requires own { seat.old.turn ≡ self.now.id }
+        requires idle { seat.old.holding ≡ false }
+        requires reach { 2 ≤ seat.old.reach }
+        ensures left { seat.new ≡ seat_after_split seat.old }
+        ensures right { result ≡ seat_split_off seat.old }
+    {
+        let inner = self.table.shared.split_seat::<Halves>(&mut seat.inner);
         Seat { inner }
+    }
+
+    /// Puts a second seat into one, as `join` does.
+    pub fn absorb(&self, seat: &mut Seat<T>, other: Seat<T>)
+        requires own { (seat.old.turn ≡ self.now.id) × (other.turn ≡ self.now.id) }
+        requires idle { (seat.old.holding ≡ false) × (other.holding ≡ false) }
+        ensures seat { seat.new ≡ seat_after_join seat.old other }
+        ensures left { IsPrefix seat.old.seen seat.new.seen }
+        ensures right { IsPrefix other.seen seat.new.seen }
+        ensures rises { RisesWithin 0 (length seat.new.seen) seat.new.mine }
+    {
+        let shared = &self.table.shared;
+        shared.join_seat::<Both>(&mut seat.inner, other.into_inner());
+        shared.load::<Settle>(&mut seat.inner, TICKET);
     }
 
     /// Ends the turn. The seat is made of all that were split, so its own places are those of all events.

@@ -1,0 +1,4 @@
+pub mod Picking
+pub mod Merging
+pub mod Joining
+pub mod Wants

@@ -1,0 +1,137 @@
+-- A lane that ended by want of memory has an entry of it.
+use Rattle.std.proofs.Common.{◌≡◌, ◌==◌, ◌||◌, ℕ, Bool, true, false, List, [], ◌∷◌, Option, Some, None, if◌then◌else◌, refl, sym, ap, subst, ◌∙◌}
+use Rattle.std.specs.List.{list_any}
+use Rattle.std.proofs.lemmas.Bool.{eq-eqb, eqb-true}
+use Rattle.store_types.specs.declared.order.TheConstants.{PART_KIND, MEMORY_KIND, START_KIND}
+use Rattle.wire_commands.specs.declared.reply.Reply.{Reply}
+use Rattle.store_model.specs.declared.ending.Ending.TheVariants as endings
+use Rattle.store_model.specs.Job.{Asking, Job, over, asking}
+use Rattle.store_model.specs.Jobs.{take as job_take}
+use Rattle.store_model.specs.Lanes.{Next, job_step, plain, sync, collect, collecting, bye, broken, end}
+use Rattle.store_history.specs.declared.act.Answer.{Answer}
+use Rattle.store_history.specs.declared.act.Event.{Event}
+use Rattle.store_history.specs.Acts.{Class, stepping, reaching, starting, sweeping, wanting, ending, class_of}
+use Rattle.store_history.specs.History.{entry, entries, kind}
+use Rattle.store_history.specs.LaneRun.{Position, begin, next_at, tells, goes_on, pulls_on, heard_at, heard_pulling, heard_by, heard, wants, behind, position_after, heard_as, LaneRan, Runs, Does, EndsSo}
+use Rattle.store_history.specs.Pulling.{Pulling, SyncJob, reports, asks, sought, take as pull_take}
+use Rattle.seat_history.specs.Lanes.{LastsAreWants}
+
+abbrev is_cut : Option Bool → Bool
+is_cut None = false
+is_cut (Some b) = b
+
+record Quiet (p : Position) : Type 0 where
+  pub spent : p.is_spent ≡ false
+  pub whole : is_cut p.collecting ≡ false
+  pub on : p.is_over ≡ false
+
+tells_quiet : (p : Position) (left : List ℕ) (r : Reply) → Quiet p → Quiet (tells p left r)
+tells_quiet p left r q = record { spent = q.spent; whole = q.whole; on = q.on }
+
+goes_quiet : (p : Position) (left : List ℕ) (job : Job) → Quiet p → Quiet (goes_on p left job)
+unfolding goes_on
+goes_quiet p left (over report) q = tells_quiet p left report q
+goes_quiet p left (asking j) q = record { spent = q.spent; whole = q.whole; on = q.on }
+
+pulls_quiet : (p : Position) (left : List ℕ) (job : SyncJob) → Quiet p → Quiet (pulls_on p left job)
+unfolding pulls_on
+pulls_quiet p left (reports report) q = tells_quiet p left report q
+pulls_quiet p left (asks x) q = record { spent = q.spent; whole = q.whole; on = q.on }
+
+at_quiet : (p : Position) (n : ℕ) (r : Option Reply) (next : Next) → (n == MEMORY_KIND) ≡ false → Quiet p → Quiet (heard_at p n r next)
+unfolding heard_at
+at_quiet p n (Some r) (job_step j left) other q = goes_quiet p left (job_take j r) q
+at_quiet p n (Some r) (plain c left) other q = tells_quiet p left r q
+at_quiet p n (Some r) (sync group left) other q = by_test (n == PART_KIND)
+  where
+    by_test : (b : Bool) → Quiet (if b then pulls_on p p.left (sought group r) else tells p left r)
+    by_test true = pulls_quiet p p.left (sought group r) q
+    by_test false = tells_quiet p left r q
+at_quiet p n (Some r) (collect left) other q = tells_quiet p left r q
+at_quiet p n None (collect left) other q = by_test (n == START_KIND)
+  where
+    by_test : (b : Bool) → Quiet (if b then record p { left = left; collecting = Some false } else p)
+    by_test true = record { spent = q.spent; whole = refl; on = q.on }
+    by_test false = q
+at_quiet p n (Some r) (collecting is_out_of_memory) other q =
+    subst (λ b. Quiet (if b then record p { collecting = Some true } else tells (record p { collecting = None }) p.left r)) (sym other)
+    (record { spent = q.spent; whole = refl; on = q.on })
+at_quiet p n (Some r) (broken refusal) other q =
+    subst (λ b. Quiet (if b then record (tells p [] r) { is_spent = true } else p)) (sym other) q
+at_quiet p n (Some r) bye other q = q
+at_quiet p n (Some r) end other q = q
+at_quiet p n None (job_step j left) other q = q
+at_quiet p n None (plain c left) other q = q
+at_quiet p n None (sync group left) other q = q
+at_quiet p n None (collecting is_out_of_memory) other q = q
+at_quiet p n None (broken refusal) other q = q
+at_quiet p n None bye other q = q
+at_quiet p n None end other q = q
+
+pulling_quiet : (p : Position) (x : Pulling) (r : Option Reply) → Quiet p → Quiet (heard_pulling p x r)
+pulling_quiet p x (Some r) q = pulls_quiet p (behind p x (next_at p)) (pull_take x r) q
+pulling_quiet p x None q = q
+
+by_quiet : (o : Option Pulling) (p : Position) (n : ℕ) (r : Option Reply) → (n == MEMORY_KIND) ≡ false → Quiet p → Quiet (heard_by o p n r)
+by_quiet None p n r other q = at_quiet p n r (next_at p) other q
+by_quiet (Some x) p n r other q = pulling_quiet p x r q
+
+-- no want of memory so far
+record Calm (p : Position) : Type 0 where
+  pub short : p.is_out_of_memory ≡ false
+  pub quiet : Quiet p
+
+none_wants : (n : ℕ) (o : Option Bool) → (n == MEMORY_KIND) ≡ false → is_cut o ≡ false → wants n o ≡ false
+none_wants n None other whole = other
+none_wants n (Some true) other whole = whole
+none_wants n (Some false) other whole = other
+
+heard_calm : (p : Position) (a : Answer) → ((a.entry).kind == MEMORY_KIND) ≡ false → a.last ≡ false → Calm p → Calm (heard p a)
+unfolding heard
+heard_calm p a other none c = let q = by_quiet p.pull p (a.entry).kind a.reply other c.quiet in record {
+  short = none_wants (a.entry).kind p.collecting other (c.quiet).whole;
+  quiet = record { spent = ap (λ b. b || (heard_by p.pull p (a.entry).kind a.reply).is_spent) none ∙ q.spent; whole = q.whole; on = q.on };
+}
+
+true_false : true ≡ false → ⊥
+true_false e = cc
+
+false_true : false ≡ true → ⊥
+false_true e = cc
+
+not_last : (v : Event) → ((v.answer).last ≡ true → kind v ≡ MEMORY_KIND) → (kind v == MEMORY_KIND) ≡ false → (v.answer).last ≡ false
+not_last v lasting other = by_last (v.answer).last refl
+  where
+    by_last : (b : Bool) → (v.answer).last ≡ b → (v.answer).last ≡ false
+    by_last false is = is
+    by_last true is = absurd (true_false (sym (eq-eqb (kind v) MEMORY_KIND (lasting is)) ∙ other))
+
+no_end : (p : Position) → Calm p → (p.is_out_of_memory || p.is_spent) ≡ true → ⊥
+no_end p c wanted = false_true (sym (ap (λ b. b || p.is_spent) c.short ∙ (c.quiet).spent) ∙ wanted)
+
+later_calm : (c : Class) (p : Position) (v : Event) (vs : List Event) → Does c endings.NoMemory p v vs → (kind v == MEMORY_KIND) ≡ false → (v.answer).last ≡ false → Calm p
+    → Calm (heard_as c endings.NoMemory p v.answer)
+later_calm stepping p v vs does other none calm = heard_calm p v.answer other none calm
+later_calm reaching p v vs does other none calm = heard_calm p v.answer other none calm
+later_calm starting p v vs does other none calm = heard_calm p v.answer other none calm
+later_calm sweeping p v vs does other none calm = heard_calm p v.answer other none calm
+later_calm wanting p v vs does other none calm = heard_calm p v.answer other none calm
+later_calm ending p v vs does other none calm = absurd (no_end p calm (does.0).0)
+
+wanted_from : (p : Position) (es : List Event) (told : List Reply) → Runs endings.NoMemory p es told → LastsAreWants es → Calm p → list_any (λ e. e.kind == MEMORY_KIND) (entries es) ≡ true
+unfolding position_after
+wanted_from p [] told runs lasting calm = absurd (true_false (sym runs.0 ∙ (calm.quiet).on))
+wanted_from p (v ∷ vs) told runs lasting calm =
+    by_test (kind v == MEMORY_KIND) refl (wanted_from (heard_as (class_of v.act) endings.NoMemory p v.answer) vs told runs.2 lasting.1)
+  where
+    by_test : (b : Bool) → (kind v == MEMORY_KIND) ≡ b
+        → (Calm (heard_as (class_of v.act) endings.NoMemory p v.answer) → list_any (λ e. e.kind == MEMORY_KIND) (entries vs) ≡ true)
+        → ((kind v == MEMORY_KIND) || list_any (λ e. e.kind == MEMORY_KIND) (entries vs)) ≡ true
+    by_test true is behind = ap (λ b. b || list_any (λ e. e.kind == MEMORY_KIND) (entries vs)) is
+    by_test false is behind =
+        ap (λ b. b || list_any (λ e. e.kind == MEMORY_KIND) (entries vs)) is
+        ∙ behind (later_calm (class_of v.act) p v vs runs.1 is (not_last v lasting.0 is) calm)
+
+-- among its entries there is one of want of memory
+pub memory_is_entered : (input : List ℕ) (events : List Event) (told : List Reply) → LaneRan input endings.NoMemory events told → LastsAreWants events → list_any (λ e. e.kind == MEMORY_KIND) (entries events) ≡ true
+memory_is_entered input events told ran lasting = wanted_from (begin input) events told ran lasting (record { short = refl; quiet = record { spent = refl; whole = refl; on = refl } })
