@@ -82,6 +82,7 @@ TABLES = {
             unreadable(f"{A}/a.conf.blob"),
             part(blob(manifest(A))),
         ],
+        "NO_MANIFEST": [file_rows((MANIFEST, 14, sha256(blob(b"[]")))), part(blob(b"[]"))],
     },
     "plain_tests/src/weaving.rt": {
         "ZEROS": [chunk_as(sha256(ZEROS), blob(b"", crc=0xc71c0011))],

@@ -1,5 +1,3 @@
-mod snapshot;
-
 use crate::asserts::{same, same_at};
 use disk_trait::{Disk, DiskError, FailingDisk, MemoryDisk};
 use file_install::{drop_firm, install, install_firm};
@@ -14,18 +12,12 @@ enum Change {
     DropFirm,
 }
 
-fn make<D: Disk>(
-    rt: &impl Abort,
-    alloc: Global,
-    disk: &mut D,
-    name: &str,
-    change: Change,
-) -> Result<(), DiskError> {
-    assert!(rt; name.len() <= 251);
+// Makes a change of the file `a`.
+fn make<D: Disk>(alloc: Global, disk: &mut D, change: Change) -> Result<(), DiskError> {
     match change {
-        Change::Install => install(disk, alloc, name, b"new one"),
-        Change::InstallFirm => install_firm(disk, alloc, name, b"new one"),
-        Change::DropFirm => Ok(drop_firm(disk, name)?),
+        Change::Install => install(disk, alloc, "a", b"new one"),
+        Change::InstallFirm => install_firm(disk, alloc, "a", b"new one"),
+        Change::DropFirm => Ok(drop_firm(disk, "a")?),
     }
 }
 
@@ -90,7 +82,7 @@ fn try_change(
     wants: &[Left; 3],
 ) -> Result<(), Fail> {
     let is_whole = k == calls_of(change);
-    let outcome = make(rt, alloc, &mut disk, "a", change);
+    let outcome = make(alloc, &mut disk, change);
     same_at(rt, (change, k), outcome.is_ok(), is_whole);
     same_at(rt, (change, k), disk.faults(), if is_whole { 0 } else { 1 });
     let mut left = disk.into_inner();

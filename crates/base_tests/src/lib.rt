@@ -1,4 +1,4 @@
-//! The tests of names, ports, what a writer may name, locks, turns, prunes and files that are installed.
+//! The tests of names, ports, locks, turns, prunes and files that are installed.
 #![tactic(auto)]
 
 #[cfg(test)]
@@ -7,8 +7,6 @@ mod asserts;
 mod crc;
 #[cfg(test)]
 mod install;
-#[cfg(test)]
-mod known;
 #[cfg(test)]
 mod locks;
 #[cfg(test)]

@@ -1,10 +1,8 @@
 use crate::asserts::{same, same_at};
-use std::alloc::Global;
+use std::alloc::{AllocError, Global};
 use std::process::Abort;
 use std::test::Fail;
-use store_types::{
-    BadBlob, BadName, Bytes, FileName, GroupKey, Kind, Rows, SnapshotKey, date_of_day,
-};
+use store_types::{BadBlob, BadName, FileName, GroupKey, Kind, SnapshotKey, date_of_day};
 
 /// A snapshot's text, and what it names. The seconds are those of `date -u +%s`.
 type Row = (&'static str, Kind, &'static str, u64);
@@ -121,39 +119,42 @@ fn snapshots(rt: HostRuntime) -> Result<(), Fail> {
     Ok(())
 }
 
-fn try_no_snapshots(rt: &impl Abort, alloc: Global, texts: &[&str]) -> Result<(), Fail> {
+/// What a text may be the name of.
+#[derive(Clone, Copy, Debug)]
+enum Named {
+    Snapshot,
+    Group,
+    File,
+}
+
+fn is_name(alloc: Global, named: Named, text: &[u8]) -> Result<bool, AllocError> {
+    match named {
+        Named::Snapshot => Ok(SnapshotKey::parse(alloc, text)?.is_ok()),
+        Named::Group => Ok(GroupKey::parse(alloc, text)?.is_ok()),
+        Named::File => Ok(FileName::check(alloc, text)?.is_ok()),
+    }
+}
+
+fn try_no_names(
+    rt: &impl Abort,
+    alloc: Global,
+    named: Named,
+    texts: &[&str],
+) -> Result<(), AllocError> {
     for text in texts {
-        let key = SnapshotKey::parse(alloc, text.as_bytes())?;
-        same_at(rt, *text, key.is_err(), true);
+        let found = is_name(alloc, named, text.as_bytes())?;
+        same_at(rt, (named, *text), found, false);
     }
     Ok(())
 }
 
 #[test]
-fn no_snapshots(rt: HostRuntime) -> Result<(), Fail> {
-    try_no_snapshots(&rt, rt.alloc(), &NO_SNAPSHOTS)
-}
-
-#[test]
-fn no_times(rt: HostRuntime) -> Result<(), Fail> {
-    try_no_snapshots(&rt, rt.alloc(), &NO_TIMES)
-}
-
-#[test]
-fn no_groups(rt: HostRuntime) -> Result<(), Fail> {
-    for text in &NO_GROUPS {
-        let key = GroupKey::parse(rt.alloc(), text.as_bytes())?;
-        same_at(&rt, *text, key.is_err(), true);
-    }
-    Ok(())
-}
-
-#[test]
-fn no_file_names(rt: HostRuntime) -> Result<(), Fail> {
-    for text in &NO_FILE_NAMES {
-        let name = FileName::check(rt.alloc(), text.as_bytes())?;
-        same_at(&rt, *text, name.is_err(), true);
-    }
+fn no_names(rt: HostRuntime) -> Result<(), Fail> {
+    let alloc = rt.alloc();
+    try_no_names(&rt, alloc, Named::Snapshot, &NO_SNAPSHOTS)?;
+    try_no_names(&rt, alloc, Named::Snapshot, &NO_TIMES)?;
+    try_no_names(&rt, alloc, Named::Group, &NO_GROUPS)?;
+    try_no_names(&rt, alloc, Named::File, &NO_FILE_NAMES)?;
     Ok(())
 }
 
@@ -173,10 +174,10 @@ fn keys(rt: HostRuntime) -> Result<(), Fail> {
 }
 
 /// A name, and whether it is one of a fixed index, a dynamic index and a blob.
-type Named = (&'static str, (bool, bool, bool));
+type FileRow = (&'static str, (bool, bool, bool));
 
 /// File names in their order.
-static FILE_NAMES: [Named; 4] = [
+static FILE_NAMES: [FileRow; 4] = [
     (
         "aaaaaaaabbbbbbbbccccccccddddddddeeeeeeeeffffffff0000000011_.blob",
         (false, false, true),
@@ -186,8 +187,8 @@ static FILE_NAMES: [Named; 4] = [
     ("root.didx", (false, true, false)),
 ];
 
-fn check_file(rt: &impl Abort, alloc: Global, named: &Named) -> Result<FileName, Fail> {
-    let (text, kinds) = named;
+fn check_file(rt: &impl Abort, alloc: Global, row: &FileRow) -> Result<FileName, Fail> {
+    let (text, kinds) = row;
     let name = FileName::check(alloc, text.as_bytes())??;
     same(rt, name.print(alloc)?.as_str(), *text);
     let found = (name.is_fixed(), name.is_dynamic(), name.is_blob());
@@ -208,32 +209,13 @@ fn check_file(rt: &impl Abort, alloc: Global, named: &Named) -> Result<FileName,
 fn file_names(rt: HostRuntime) -> Result<(), Fail> {
     let alloc = rt.alloc();
     let mut before: Option<FileName> = None;
-    for named in &FILE_NAMES {
-        let name = check_file(&rt, alloc, named)?;
+    for row in &FILE_NAMES {
+        let name = check_file(&rt, alloc, row)?;
         if let Some(before) = before {
-            same_at(&rt, named.0, before < name, true);
+            same_at(&rt, row.0, before < name, true);
         }
         before = Some(name);
     }
-    Ok(())
-}
-
-#[test]
-fn bytes(rt: HostRuntime) -> Result<(), Fail> {
-    let alloc = rt.alloc();
-    let bytes = Bytes::from_slice(alloc, b"abc")?;
-    same(&rt, bytes.clone()?.into_vec().as_slice(), b"abc");
-    same(&rt, Bytes::new(alloc) < bytes, true);
-    Ok(())
-}
-
-#[test]
-fn rows(rt: HostRuntime) -> Result<(), Fail> {
-    let alloc = rt.alloc();
-    let rows = Rows::from_vec([7u64, 9].to_vec(alloc)?);
-    same(&rt, rows.as_slice(), &[7, 9]);
-    same(&rt, rows.into_vec().len(), 2);
-    same(&rt, Rows::<u64>::new(alloc).as_slice().len(), 0);
     Ok(())
 }
 

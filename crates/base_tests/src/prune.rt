@@ -98,13 +98,7 @@ fn kept(alloc: Global, times: &[(u32, bool)], keep: Keep) -> Result<String, Fail
     text_of(alloc, &marks)
 }
 
-/// Whether two moments are in one period, by an option that keeps two of these.
-fn share_period(alloc: Global, first: u32, second: u32, keep: Keep) -> Result<bool, Fail> {
-    let kept = kept(alloc, &[(first, true), (second, true)], keep)?;
-    Ok(kept.as_str() != "kk")
-}
-
-/// Compares whether two moments are in one period with whether they should be.
+/// Compares whether two moments are in one period, by an option that keeps two of these, with whether they should be.
 fn try_period(
     rt: &impl Abort,
     alloc: Global,
@@ -112,8 +106,8 @@ fn try_period(
     keep: Keep,
     want: bool,
 ) -> Result<(), Fail> {
-    let found = share_period(alloc, moments.0, moments.1, keep)?;
-    same_at(rt, (moments, keep), found, want);
+    let kept = kept(alloc, &[(moments.0, true), (moments.1, true)], keep)?;
+    same_at(rt, (moments, keep), kept.as_str() != "kk", want);
     Ok(())
 }
 

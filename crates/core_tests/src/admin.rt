@@ -9,6 +9,7 @@ use crate::calls::{
     SECOND_BASE, UNREADABLE, after, frame, keep, try_calls,
 };
 use crate::fixtures::{DIGITS, FIRST, MANIFEST_PATH, MemoryCore, OTHER, SECOND, WITH_FILE, opened};
+use blob_codec::encode;
 use core_admin::admin_act;
 use core_state::{Act, Answer, Family, Parts};
 use disk_trait::{Disk, MemoryDisk};
@@ -122,6 +123,37 @@ fn snapshots_are_told(rt: HostRuntime) -> Result<(), Fail> {
         try_calls(&rt, &mut parts, alloc, calls)?;
     }
     Ok(())
+}
+
+/// The blob of a manifest of the first that lists so many files.
+fn listing(alloc: Global, count: u64) -> Result<Vec<u8>, Fail> {
+    let front =
+        "{\"backup-id\":\"a\",\"backup-time\":1579069803,\"backup-type\":\"host\",\"files\":[";
+    let mut text = String::from_str(alloc, front)?;
+    let csum = "69dcb4830c28203c26a1dade2d893d7f1d13cdba5eb39e348b008f3a5a0fb688";
+    for number in 0..count {
+        text.push_str(if 0 < number { "," } else { "" })?;
+        write!(
+            text,
+            "{{\"filename\":\"{number}.blob\",\"size\":21,\"csum\":\"{csum}\"}}"
+        )?;
+    }
+    text.push_str("]}")?;
+    Ok(encode(alloc, text.as_bytes())?.ok().ok_or("too long")?)
+}
+
+/// A manifest that was put there since the datastore was opened lists 64 files, which no FINISH makes.
+#[test]
+fn a_manifest_of_64_files_is_none(rt: HostRuntime) -> Result<(), Fail> {
+    let alloc = rt.alloc();
+    let mut parts = written(&rt, alloc)?;
+    parts.disk.put(alloc, MANIFEST_PATH, &listing(alloc, 64)?)?;
+    try_calls(
+        &rt,
+        &mut parts,
+        alloc,
+        &[(5, Call::Files(FIRST), UNREADABLE)],
+    )
 }
 
 /// A writer has the second as base, which is not forgotten then.

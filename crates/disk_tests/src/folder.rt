@@ -1,7 +1,7 @@
 //! Which files and folders a disk over a folder syncs, and when.
 
 use crate::asserts::same_at;
-use crate::maps::{Change, listed, make, make_all};
+use crate::maps::{Change, folder_at, make, make_all, try_list};
 use crate::watched::{Record, Watched};
 use disk_trait::{Disk, DiskError};
 use file_disk::FileDisk;
@@ -99,28 +99,33 @@ static ROWS: [(Change, Fault, &str); 38] = [
     (Change::Sync, Fault::None, ""),
 ];
 
-fn try_rows(rt: HostRuntime, abort: &impl Abort) -> Result<(), Fail> {
-    let alloc = rt.alloc();
-    let record = Record::new(alloc);
-    let mut disk = watched_disk(rt, &record)?;
+fn wanted(fault: Fault) -> Result<(), DiskError> {
+    match fault {
+        Fault::None => Ok(()),
+        Fault::Full | Fault::Unsynced => Err(DiskError::Failed),
+    }
+}
+
+fn try_rows<D: Disk>(
+    rt: &impl Abort,
+    alloc: Global,
+    record: &Record,
+    disk: &mut D,
+) -> Result<(), Fail> {
     for (row, (change, fault, want)) in ROWS.iter().enumerate() {
         record.full.set(*fault == Fault::Full);
         record.fails.set(*fault == Fault::Unsynced);
-        let outcome = make(abort, alloc, &mut disk, *change);
-        let failed = Err(DiskError::Failed);
-        same_at(
-            abort,
-            row,
-            outcome,
-            if *fault == Fault::None {
-                Ok(())
-            } else {
-                failed
-            },
-        );
-        same_at(abort, row, taken(alloc, &record)?.as_str(), *want);
+        let outcome = make(rt, alloc, disk, *change);
+        same_at(rt, row, outcome, wanted(*fault));
+        same_at(rt, row, taken(alloc, record)?.as_str(), *want);
     }
     Ok(())
+}
+
+fn try_watched(rt: HostRuntime, abort: &impl Abort) -> Result<(), Fail> {
+    let record = Record::new(rt.alloc());
+    let mut disk = watched_disk(rt, &record)?;
+    try_rows(abort, rt.alloc(), &record, &mut disk)
 }
 
 fn make_root(rt: HostRuntime, below: &str) -> Result<(), Fail> {
@@ -132,7 +137,7 @@ fn make_root(rt: HostRuntime, below: &str) -> Result<(), Fail> {
 #[test]
 fn names_wait_for_the_sync(rt: HostRuntime) -> Result<(), Fail> {
     make_root(rt, "disk_tests_synced/x/y")?;
-    try_rows(rt, &rt)?;
+    try_watched(rt, &rt)?;
     fs::remove_dir_all(&rt, ROOT)?;
     Ok(())
 }
@@ -161,6 +166,33 @@ static LEFT: [(&[Change], &str); 3] = [
     ),
 ];
 
+// A run that makes changes, and then no more.
+fn leave(
+    rt: HostRuntime,
+    abort: &impl Abort,
+    record: &Record,
+    changes: &[Change],
+) -> Result<(), Fail> {
+    let mut killed = watched_disk(rt, record)?;
+    make_all(abort, rt.alloc(), &mut killed, changes)?;
+    Ok(())
+}
+
+// What is synced by the first sync, and then nothing.
+fn try_syncs<D: Disk>(
+    rt: &impl Abort,
+    alloc: Global,
+    record: &Record,
+    disk: &mut D,
+    want: &str,
+) -> Result<(), Fail> {
+    for want in [want, ""] {
+        disk.sync()?;
+        same_at(rt, want, taken(alloc, record)?.as_str(), want);
+    }
+    Ok(())
+}
+
 // The next run finds the folder as it is to be, and puts nothing: only its syncs count.
 fn try_left(
     rt: HostRuntime,
@@ -168,18 +200,11 @@ fn try_left(
     changes: &[Change],
     want: &str,
 ) -> Result<(), Fail> {
-    let alloc = rt.alloc();
-    let record = Record::new(alloc);
-    let mut killed = watched_disk(rt, &record)?;
-    make_all(abort, alloc, &mut killed, changes)?;
-    drop(killed);
-    let _ = taken(alloc, &record)?;
+    let record = Record::new(rt.alloc());
+    leave(rt, abort, &record, changes)?;
+    let _ = taken(rt.alloc(), &record)?;
     let mut next = watched_disk(rt, &record)?;
-    for want in [want, ""] {
-        next.sync()?;
-        same_at(abort, want, taken(alloc, &record)?.as_str(), want);
-    }
-    Ok(())
+    try_syncs(abort, rt.alloc(), &record, &mut next, want)
 }
 
 #[test]
@@ -203,6 +228,23 @@ static LISTED: [(&[Change], &str, usize); 5] = [
     (&[Change::Remove("x/f")], "", 6),
 ];
 
+// The names twice, with how many folders were read.
+fn try_reads<D: Disk>(
+    rt: &impl Abort,
+    alloc: Global,
+    record: &Record,
+    disk: &mut D,
+    want: &str,
+    reads: usize,
+) -> Result<(), Fail> {
+    for more in [0, 3] {
+        try_list(rt, alloc, disk, "", want)?;
+        same_at(rt, want, record.reads.get(), reads.saturating_add(more));
+    }
+    Ok(())
+}
+
+// A sync, and changes behind it.
 fn try_listed(
     rt: HostRuntime,
     abort: &impl Abort,
@@ -210,17 +252,11 @@ fn try_listed(
     want: &str,
     reads: usize,
 ) -> Result<(), Fail> {
-    let alloc = rt.alloc();
-    let record = Record::new(alloc);
+    let record = Record::new(rt.alloc());
     let mut disk = watched_disk(rt, &record)?;
     disk.sync()?;
-    make_all(abort, alloc, &mut disk, changes)?;
-    for more in [0, 3] {
-        let names = listed(alloc, &mut disk, "")?;
-        same_at(abort, want, names.as_str(), want);
-        same_at(abort, want, record.reads.get(), reads.saturating_add(more));
-    }
-    Ok(())
+    make_all(abort, rt.alloc(), &mut disk, changes)?;
+    try_reads(abort, rt.alloc(), &record, &mut disk, want, reads)
 }
 
 #[test]
@@ -234,18 +270,18 @@ fn a_first_sync_lists(rt: HostRuntime) -> Result<(), Fail> {
     Ok(())
 }
 
+fn try_below<D: Disk>(rt: &impl Abort, alloc: Global, disk: &mut D) -> Result<(), Fail> {
+    disk.sync()?;
+    try_list(rt, alloc, disk, "x/", "x/f")
+}
+
 // Right behind the first sync.
 #[test]
 fn names_below_a_folder_are_listed(rt: HostRuntime) -> Result<(), Fail> {
     make_root(rt, "disk_tests_synced/x/y")?;
     fs::write(&rt, "disk_tests_synced/x/f", b"f")?;
     fs::write(&rt, "disk_tests_synced/g", b"g")?;
-    let alloc = rt.alloc();
-    let record = Record::new(alloc);
-    let mut disk = watched_disk(rt, &record)?;
-    disk.sync()?;
-    let names = listed(alloc, &mut disk, "x/")?;
-    same_at(&rt, "x/", names.as_str(), "x/f");
+    try_below(&rt, rt.alloc(), &mut folder_at(rt, &rt, ROOT)?)?;
     fs::remove_dir_all(&rt, ROOT)?;
     Ok(())
 }

@@ -1,7 +1,7 @@
 //! One disk a folder, or several that only read it.
 
 use crate::asserts::{same, same_at};
-use crate::maps::{CHANGES, Change, folder_at, listed, make, read};
+use crate::maps::{CHANGES, Change, folder_at, make, read, try_list};
 use disk_trait::{Disk, DiskError, Failed};
 use file_disk::{AtOnce, FileDisk};
 use std::alloc::{AllocError, Global};
@@ -38,34 +38,65 @@ fn try_all_fail<D: Disk>(rt: &impl Abort, alloc: Global, disk: &mut D) {
     same(rt, disk.faults(), disk.calls());
 }
 
-fn try_alone<R: Threads + Sync + Abort>(rt: HostRuntime, threads: &R) -> Result<(), Fail> {
-    let alloc = rt.alloc();
-    let mut first = folder_at(rt, threads, ROOT)?;
+// The first has the folder, so each call of the others fails.
+fn try_beside<A: Disk, B: Disk, C: Disk>(
+    rt: &impl Abort,
+    alloc: Global,
+    first: &mut A,
+    second: &mut B,
+    third: &mut C,
+) -> Result<(), Fail> {
     first.put(alloc, "a", b"one")?;
-    try_all_fail(threads, alloc, &mut folder_at(rt, threads, ROOT)?);
-    try_all_fail(threads, alloc, &mut shared_at(rt, threads, ROOT)?);
-    same(threads, listed(alloc, &mut first, "")?.as_str(), "a");
+    try_all_fail(rt, alloc, second);
+    try_all_fail(rt, alloc, third);
+    try_list(rt, alloc, first, "", "a")?;
     first.put(alloc, "b", b"two")?;
     first.sync()?;
-    same(threads, first.faults(), 0);
-    drop(first);
-    let mut third = folder_at(rt, threads, ROOT)?;
-    same(threads, listed(alloc, &mut third, "")?.as_str(), "a b");
+    same(rt, first.faults(), 0);
     Ok(())
 }
 
+fn try_alone<R: Threads + Sync + Abort>(rt: HostRuntime, threads: &R) -> Result<(), Fail> {
+    let mut first = folder_at(rt, threads, ROOT)?;
+    let mut second = folder_at(rt, threads, ROOT)?;
+    let mut third = shared_at(rt, threads, ROOT)?;
+    try_beside(threads, rt.alloc(), &mut first, &mut second, &mut third)
+}
+
+// When it has gone, the next has it.
+fn try_next<R: Threads + Sync + Abort>(rt: HostRuntime, threads: &R) -> Result<(), Fail> {
+    let mut next = folder_at(rt, threads, ROOT)?;
+    try_list(threads, rt.alloc(), &mut next, "", "a b")
+}
+
+// Two read the folder, so each call of one that would have it fails.
+fn try_readers<A: Disk, B: Disk, C: Disk>(
+    rt: &impl Abort,
+    alloc: Global,
+    first: &mut A,
+    second: &mut B,
+    alone: &mut C,
+) -> Result<(), Fail> {
+    first.sync()?;
+    same(rt, first.size("a")?, Some(3));
+    try_list(rt, alloc, second, "", "a b")?;
+    try_all_fail(rt, alloc, alone);
+    // (its sync changes nothing)
+    try_changes(rt, alloc, second, &CHANGES[..3]);
+    try_list(rt, alloc, first, "", "a b")
+}
+
 fn try_shared<R: Threads + Sync + Abort>(rt: HostRuntime, threads: &R) -> Result<(), Fail> {
-    let alloc = rt.alloc();
     let mut first = shared_at(rt, threads, ROOT)?;
     let mut second = shared_at(rt, threads, ROOT)?;
-    first.sync()?;
-    same(threads, first.size("a")?, Some(3));
-    same(threads, listed(alloc, &mut second, "")?.as_str(), "a b");
-    try_all_fail(threads, alloc, &mut folder_at(rt, threads, ROOT)?);
-    // (its sync changes nothing)
-    try_changes(threads, alloc, &mut second, &CHANGES[..3]);
-    same(threads, listed(alloc, &mut first, "")?.as_str(), "a b");
-    Ok(())
+    let mut alone = folder_at(rt, threads, ROOT)?;
+    try_readers(threads, rt.alloc(), &mut first, &mut second, &mut alone)
+}
+
+// Each change of one whose folder is no more there fails, and it finds no file.
+fn try_moved<D: Disk>(rt: &impl Abort, alloc: Global, disk: &mut D) {
+    try_changes(rt, alloc, disk, &CHANGES);
+    same(rt, disk.size("a"), Err(Failed));
 }
 
 // The folder at the root is another than was locked.
@@ -74,8 +105,7 @@ fn try_other<R: Threads + Sync + Abort>(rt: HostRuntime, threads: &R) -> Result<
     disk.sync()?;
     fs::rename(&rt, ROOT, "disk_tests_moved")?;
     fs::create_dir(&rt, ROOT)?;
-    try_changes(threads, rt.alloc(), &mut disk, &CHANGES);
-    same(threads, disk.size("a"), Err(Failed));
+    try_moved(threads, rt.alloc(), &mut disk);
     let moved = fs::read(&rt, "disk_tests_moved/a")?;
     same(threads, moved.as_slice(), b"one");
     same(threads, fs::read_dir(&rt, ROOT)?.count(), 0);
@@ -88,6 +118,7 @@ fn one_disk_has_a_folder(rt: HostRuntime) -> Result<(), Fail> {
     let _ = fs::remove_dir_all(&rt, ROOT);
     fs::create_dir(&rt, ROOT)?;
     try_alone(rt, &rt)?;
+    try_next(rt, &rt)?;
     try_shared(rt, &rt)?;
     try_other(rt, &rt)?;
     fs::remove_dir_all(&rt, ROOT)?;

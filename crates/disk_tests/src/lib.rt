@@ -1,4 +1,4 @@
-//! The tests of disks: in memory, over a real folder, and failing.
+//! The tests of disks over real folders.
 #![tactic(auto)]
 
 #[cfg(test)]
@@ -13,8 +13,6 @@ mod holds;
 mod links;
 #[cfg(test)]
 mod maps;
-#[cfg(test)]
-mod memory;
 #[cfg(test)]
 mod refused;
 #[cfg(test)]

@@ -1,7 +1,7 @@
 //! Links, and folders in the place of files: each call that meets one fails, and nothing is changed behind it.
 
-use crate::asserts::{same, same_at};
-use crate::maps::{Change, folder_at, listed, make, read};
+use crate::asserts::same_at;
+use crate::maps::{Change, folder_at, listed, make, read, try_list};
 use disk_trait::{Disk, DiskError, Failed};
 use std::alloc::Global;
 use std::fs;
@@ -69,25 +69,32 @@ fn make_linked(rt: HostRuntime, link: &str, to: &str) -> Result<(), Fail> {
     Ok(())
 }
 
-// A link is met by a listing that it is below, and by the walk of the first sync.
+// A link is met by a listing that it is below, and by the walk of the first sync. Outside nothing has changed.
+fn try_met<A: Disk, B: Disk>(
+    rt: &impl Abort,
+    alloc: Global,
+    disk: &mut A,
+    outside: &mut B,
+    name: &'static str,
+) -> Result<(), Fail> {
+    try_name(rt, alloc, disk, name)?;
+    same_at(rt, name, disk.list(alloc, "").is_err(), true);
+    same_at(rt, name, disk.list(alloc, name).is_err(), true);
+    same_at(rt, name, disk.sync(), Err(Failed));
+    same_at(rt, name, disk.size("old")?, Some(3));
+    same_at(rt, name, disk.faults(), disk.calls().saturating_sub(1));
+    same_at(rt, name, listed(alloc, outside, "")?.as_str(), "host/a/m");
+    Ok(())
+}
+
 fn try_link<R: Threads + Sync + Abort>(
     rt: HostRuntime,
     threads: &R,
     name: &'static str,
 ) -> Result<(), Fail> {
-    let alloc = rt.alloc();
     let mut disk = folder_at(rt, threads, ROOT)?;
-    try_name(threads, alloc, &mut disk, name)?;
-    same_at(threads, name, disk.list(alloc, "").is_err(), true);
-    same_at(threads, name, disk.list(alloc, name).is_err(), true);
-    same_at(threads, name, disk.sync(), Err(Failed));
-    same_at(threads, name, disk.size("old")?, Some(3));
-    same_at(threads, name, disk.faults(), disk.calls().saturating_sub(1));
-    let outside = listed(alloc, &mut folder_at(rt, threads, OUTSIDE)?, "")?;
-    same_at(threads, name, outside.as_str(), "host/a/m");
-    let kept = fs::read(&rt, "disk_tests_outside/host/a/m")?;
-    same_at(threads, name, kept.as_slice(), b"kept");
-    Ok(())
+    let mut outside = folder_at(rt, threads, OUTSIDE)?;
+    try_met(threads, rt.alloc(), &mut disk, &mut outside, name)
 }
 
 #[test]
@@ -95,6 +102,8 @@ fn no_link_is_followed(rt: HostRuntime) -> Result<(), Fail> {
     for (link, to, name) in &LINKS {
         make_linked(rt, link, to)?;
         try_link(rt, &rt, name)?;
+        let kept = fs::read(&rt, "disk_tests_outside/host/a/m")?;
+        same_at(&rt, *name, kept.as_slice(), b"kept");
     }
     fs::remove_dir_all(&rt, ROOT)?;
     fs::remove_dir_all(&rt, OUTSIDE)?;
@@ -102,21 +111,19 @@ fn no_link_is_followed(rt: HostRuntime) -> Result<(), Fail> {
 }
 
 // A folder stands where a file should be. It may be listed.
-fn try_folder_as_file<R: Threads + Sync + Abort>(rt: HostRuntime, threads: &R) -> Result<(), Fail> {
-    let alloc = rt.alloc();
-    let root = "disk_tests_as_file";
-    let _ = fs::remove_dir_all(&rt, root);
-    fs::create_dir_all(&rt, "disk_tests_as_file/m")?;
-    fs::write(&rt, "disk_tests_as_file/old", b"old")?;
-    let mut disk = folder_at(rt, threads, root)?;
+fn try_folder_as_file<D: Disk>(rt: &impl Abort, alloc: Global, disk: &mut D) -> Result<(), Fail> {
     disk.sync()?;
-    try_name(threads, alloc, &mut disk, "m")?;
-    same(threads, listed(alloc, &mut disk, "")?.as_str(), "old");
-    fs::remove_dir_all(&rt, root)?;
-    Ok(())
+    try_name(rt, alloc, disk, "m")?;
+    try_list(rt, alloc, disk, "", "old")
 }
 
 #[test]
 fn a_folder_is_no_file(rt: HostRuntime) -> Result<(), Fail> {
-    try_folder_as_file(rt, &rt)
+    let root = "disk_tests_as_file";
+    let _ = fs::remove_dir_all(&rt, root);
+    fs::create_dir_all(&rt, "disk_tests_as_file/m")?;
+    fs::write(&rt, "disk_tests_as_file/old", b"old")?;
+    try_folder_as_file(&rt, rt.alloc(), &mut folder_at(rt, &rt, root)?)?;
+    fs::remove_dir_all(&rt, root)?;
+    Ok(())
 }

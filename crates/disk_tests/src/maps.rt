@@ -1,7 +1,7 @@
 //! What any disk does: it is a map from names to bytes.
 
 use crate::asserts::{same, same_at};
-use disk_trait::{Disk, DiskError, Failed, MemoryDisk};
+use disk_trait::{Disk, DiskError, Failed, FailingDisk, MemoryDisk};
 use file_disk::{AtOnce, FileDisk};
 use std::alloc::{AllocError, Global};
 use std::fs;
@@ -215,28 +215,53 @@ pub fn folder_at<'a, R: Threads + Sync>(
     FileDisk::alone(rt, AtOnce::new(rt, threads), rt.alloc(), root)
 }
 
-fn try_folder<R: Threads + Sync + Abort>(rt: HostRuntime, threads: &R) -> Result<(), Fail> {
-    let alloc = rt.alloc();
-    let root = "disk_tests_map";
-    let _ = fs::remove_dir_all(&rt, root);
-    try_no_folder(threads, alloc, &mut folder_at(rt, threads, root)?)?;
-    same(threads, fs::exists(&rt, root)?, false);
-    fs::write(&rt, root, b"a file")?;
-    try_no_folder(threads, alloc, &mut folder_at(rt, threads, root)?)?;
-    fs::remove_file(&rt, root)?;
-    fs::create_dir(&rt, root)?;
+fn try_missing<R: Threads + Sync + Abort>(
+    rt: HostRuntime,
+    threads: &R,
+    root: &str,
+) -> Result<(), Fail> {
     let mut disk = folder_at(rt, threads, root)?;
-    try_all(threads, alloc, &mut disk)?;
-    try_bad_names(threads, alloc, &mut disk)?;
-    let text = fs::read_to_string(&rt, "disk_tests_map/e/f")?;
-    same(threads, text.as_str(), "four");
-    fs::remove_dir_all(&rt, root)?;
-    Ok(())
+    try_no_folder(threads, rt.alloc(), &mut disk)
+}
+
+fn try_folder<R: Threads + Sync + Abort>(
+    rt: HostRuntime,
+    threads: &R,
+    root: &str,
+) -> Result<(), Fail> {
+    let mut disk = folder_at(rt, threads, root)?;
+    try_all(threads, rt.alloc(), &mut disk)?;
+    try_bad_names(threads, rt.alloc(), &mut disk)
 }
 
 #[test]
 fn folder_is_a_map(rt: HostRuntime) -> Result<(), Fail> {
-    try_folder(rt, &rt)
+    let root = "disk_tests_map";
+    let _ = fs::remove_dir_all(&rt, root);
+    try_missing(rt, &rt, root)?;
+    same(&rt, fs::exists(&rt, root)?, false);
+    fs::write(&rt, root, b"a file")?;
+    try_missing(rt, &rt, root)?;
+    fs::remove_file(&rt, root)?;
+    fs::create_dir(&rt, root)?;
+    try_folder(rt, &rt, root)?;
+    let text = fs::read_to_string(&rt, "disk_tests_map/e/f")?;
+    same(&rt, text.as_str(), "four");
+    fs::remove_dir_all(&rt, root)?;
+    Ok(())
+}
+
+// What a disk must be to be moved to another thread.
+fn try_sent<D: Disk + Send + Drop>(rt: &impl Abort, disk: D) {
+    same(rt, disk.faults(), 0);
+}
+
+#[test]
+fn crosses_threads(rt: HostRuntime) -> Result<(), Fail> {
+    let memory = MemoryDisk::new(rt.alloc());
+    try_sent(&rt, FailingDisk::stopping_after(memory, 0));
+    try_sent(&rt, folder_at(rt, &rt, "none")?);
+    Ok(())
 }
 
 // One of each.

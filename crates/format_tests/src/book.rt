@@ -2,7 +2,7 @@
 
 use crate::asserts::{same, same_at};
 use crate::fixtures::front;
-use atime_book::{Book, Counts, cutoff};
+use atime_book::{Book, cutoff};
 use std::alloc::Global;
 use std::test::Fail;
 use store_types::Digest32;
@@ -58,31 +58,6 @@ fn touched(book: &Book) -> (Option<u64>, Option<u64>, Option<u64>) {
 }
 
 #[test]
-fn touched_and_swept(rt: HostRuntime) -> Result<(), Fail> {
-    let mut book = Book::new(rt.alloc());
-    same(&rt, book.moment(), 0);
-    same(&rt, touched(&book), (None, None, None));
-    same(&rt, book.sweep_one(&digest(1), 10), false);
-    for (byte, moment) in [(2, 7), (1, 5), (1, 9)] {
-        book.touch(&digest(byte), moment)?;
-    }
-    same(&rt, touched(&book), (Some(9), Some(7), None));
-    same(&rt, book.sweep_one(&digest(1), 9), false);
-    same(&rt, touched(&book), (Some(9), Some(7), None));
-    same(&rt, book.sweep_one(&digest(1), 10), true);
-    same(&rt, touched(&book), (None, Some(7), None));
-    book.touch(&digest(2), 6)?;
-    book.touch_known(&digest(2), 5);
-    book.touch_known(&digest(3), 8);
-    same(&rt, touched(&book), (None, Some(7), None));
-    book.touch_known(&digest(2), 8);
-    same(&rt, touched(&book), (None, Some(8), None));
-    book.forget(&digest(2));
-    same(&rt, touched(&book), (None, None, None));
-    Ok(())
-}
-
-#[test]
 fn of_chunks_that_are_there(rt: HostRuntime) -> Result<(), Fail> {
     let text = written(rt.alloc())?;
     let saved = Book::read(rt.alloc(), &text)?.ok_or("a book")?;
@@ -93,28 +68,6 @@ fn of_chunks_that_are_there(rt: HostRuntime) -> Result<(), Fail> {
     same(&rt, book.moment(), 1_000_000);
     book.touch_known(&digest(3), 1_000_007);
     same(&rt, touched(&book), (Some(5), None, Some(1_000_007)));
-    Ok(())
-}
-
-/// A collector's start, and how many chunks count as used and as pending then.
-static COUNTS: [(u64, (u64, u64)); 4] = [
-    (0, (2, 0)),
-    (5, (2, 0)),
-    (6, (1, 1)),
-    (1_000_001, (0, 2)),
-];
-
-#[test]
-fn counted(rt: HostRuntime) -> Result<(), Fail> {
-    let text = written(rt.alloc())?;
-    let book = Book::read(rt.alloc(), &text)?.ok_or("a book")?;
-    for (start, (used, pending)) in &COUNTS {
-        let expected = Counts {
-            used: *used,
-            pending: *pending,
-        };
-        same_at(&rt, *start, book.counts(*start), expected);
-    }
     Ok(())
 }
 

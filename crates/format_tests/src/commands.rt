@@ -282,8 +282,10 @@ fn put<K: Sink>(reply: &Reply, sink: &mut K) -> Result<u64, Failed>
 }
 
 fn try_command(rt: &impl Abort, alloc: Global, body: &[u8]) -> Result<(), Fail> {
-    let command = Command::read(alloc, body)??;
-    same(rt, command.text(alloc)?.as_slice(), body);
+    let read = Command::read(alloc, body)?;
+    same_at(rt, body, read.is_ok(), true);
+    let command = read?;
+    same_at(rt, body, command.text(alloc)?.as_slice(), body);
     Ok(())
 }
 
@@ -295,18 +297,11 @@ fn try_commands(rt: &impl Abort, alloc: Global, bodies: &[&[u8]]) -> Result<(), 
 }
 
 #[test]
-fn commands_of_writers(rt: HostRuntime) -> Result<(), Fail> {
-    try_commands(&rt, rt.alloc(), &WRITER_COMMANDS)
-}
-
-#[test]
-fn commands_of_readers(rt: HostRuntime) -> Result<(), Fail> {
-    try_commands(&rt, rt.alloc(), &READER_COMMANDS)
-}
-
-#[test]
-fn commands_outside_of_sessions(rt: HostRuntime) -> Result<(), Fail> {
-    try_commands(&rt, rt.alloc(), &OTHER_COMMANDS)
+fn commands(rt: HostRuntime) -> Result<(), Fail> {
+    let alloc = rt.alloc();
+    try_commands(&rt, alloc, &WRITER_COMMANDS)?;
+    try_commands(&rt, alloc, &READER_COMMANDS)?;
+    try_commands(&rt, alloc, &OTHER_COMMANDS)
 }
 
 fn try_no_commands(rt: &impl Abort, alloc: Global, bodies: &[&[u8]]) -> Result<(), Fail> {
@@ -318,32 +313,23 @@ fn try_no_commands(rt: &impl Abort, alloc: Global, bodies: &[&[u8]]) -> Result<(
 }
 
 #[test]
-fn no_commands_of_writers(rt: HostRuntime) -> Result<(), Fail> {
-    try_no_commands(&rt, rt.alloc(), &BAD_WRITER_BODIES)
-}
-
-#[test]
-fn no_commands_of_readers(rt: HostRuntime) -> Result<(), Fail> {
-    try_no_commands(&rt, rt.alloc(), &BAD_READER_BODIES)
-}
-
-#[test]
-fn no_commands_outside_of_sessions(rt: HostRuntime) -> Result<(), Fail> {
-    try_no_commands(&rt, rt.alloc(), &BAD_OTHER_BODIES)
-}
-
-#[test]
-fn no_commands_by_their_codes(rt: HostRuntime) -> Result<(), Fail> {
-    try_no_commands(&rt, rt.alloc(), &BAD_CODES)
+fn no_commands(rt: HostRuntime) -> Result<(), Fail> {
+    let alloc = rt.alloc();
+    try_no_commands(&rt, alloc, &BAD_WRITER_BODIES)?;
+    try_no_commands(&rt, alloc, &BAD_READER_BODIES)?;
+    try_no_commands(&rt, alloc, &BAD_OTHER_BODIES)?;
+    try_no_commands(&rt, alloc, &BAD_CODES)
 }
 
 fn try_reply(rt: &impl Abort, alloc: Global, code: u8, frame: &[u8]) -> Result<(), Fail> {
     let body = frame.get(4..).ok_or("no frame")?;
-    let reply = Reply::read(alloc, code, body)?.ok_or("no reply")?;
+    let reply = Reply::read(alloc, code, body)?;
+    same_at(rt, (code, body), reply.is_some(), true);
+    let reply = reply.ok_or("no reply")?;
     let mut sink = MemSink::new(alloc, Vec::new(alloc));
     reply.put(&mut sink)?;
-    same(rt, sink.as_bytes(), frame);
-    same(rt, put(&reply, &mut sink)?, frame.len() as u64);
+    same_at(rt, code, sink.as_bytes(), frame);
+    same_at(rt, code, put(&reply, &mut sink)?, frame.len() as u64);
     Ok(())
 }
 
@@ -355,13 +341,10 @@ fn try_replies(rt: &impl Abort, alloc: Global, replies: &[(u8, &[u8])]) -> Resul
 }
 
 #[test]
-fn replies_in_sessions(rt: HostRuntime) -> Result<(), Fail> {
-    try_replies(&rt, rt.alloc(), &SESSION_REPLIES)
-}
-
-#[test]
-fn replies_outside_of_sessions(rt: HostRuntime) -> Result<(), Fail> {
-    try_replies(&rt, rt.alloc(), &OTHER_REPLIES)
+fn replies(rt: HostRuntime) -> Result<(), Fail> {
+    let alloc = rt.alloc();
+    try_replies(&rt, alloc, &SESSION_REPLIES)?;
+    try_replies(&rt, alloc, &OTHER_REPLIES)
 }
 
 /// Refusals as replies to a code that no command has.
@@ -374,17 +357,10 @@ fn try_refusals(rt: &impl Abort, alloc: Global, frames: &[&[u8]]) -> Result<(), 
 
 #[test]
 fn refusals(rt: HostRuntime) -> Result<(), Fail> {
-    try_refusals(&rt, rt.alloc(), &REFUSALS)
-}
-
-#[test]
-fn later_refusals(rt: HostRuntime) -> Result<(), Fail> {
-    try_refusals(&rt, rt.alloc(), &LATER_REFUSALS)
-}
-
-#[test]
-fn last_refusals(rt: HostRuntime) -> Result<(), Fail> {
-    try_refusals(&rt, rt.alloc(), &LAST_REFUSALS)
+    let alloc = rt.alloc();
+    try_refusals(&rt, alloc, &REFUSALS)?;
+    try_refusals(&rt, alloc, &LATER_REFUSALS)?;
+    try_refusals(&rt, alloc, &LAST_REFUSALS)
 }
 
 fn try_no_reply(rt: &impl Abort, alloc: Global, code: u8, body: &[u8]) -> Result<(), Fail> {
@@ -401,20 +377,13 @@ fn try_no_replies(rt: &impl Abort, alloc: Global, bodies: &[(u8, &[u8])]) -> Res
 }
 
 #[test]
-fn no_replies_in_sessions(rt: HostRuntime) -> Result<(), Fail> {
-    try_no_replies(&rt, rt.alloc(), &BAD_SESSION_REPLIES)
-}
-
-#[test]
-fn no_replies_outside_of_sessions(rt: HostRuntime) -> Result<(), Fail> {
-    try_no_replies(&rt, rt.alloc(), &BAD_OTHER_REPLIES)
-}
-
-/// No replies to the opening of a writer.
-#[test]
-fn no_refusals(rt: HostRuntime) -> Result<(), Fail> {
+fn no_replies(rt: HostRuntime) -> Result<(), Fail> {
+    let alloc = rt.alloc();
+    try_no_replies(&rt, alloc, &BAD_SESSION_REPLIES)?;
+    try_no_replies(&rt, alloc, &BAD_OTHER_REPLIES)?;
+    // to the opening of a writer
     for body in &BAD_REFUSALS {
-        try_no_reply(&rt, rt.alloc(), 10, body)?;
+        try_no_reply(&rt, alloc, 10, body)?;
     }
     Ok(())
 }

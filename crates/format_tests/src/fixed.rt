@@ -14,15 +14,12 @@ const CSUM: [u8; 32] = [
     0xd0, 0x08, 0x6d, 0x5f, 0x23, 0x1a, 0xd3, 0xe0, 0x50, 0x71, 0xff, 0x5e, 0x88, 0x26, 0xd7, 0x54,
 ];
 
-/// The index of an archive in two pieces of 4,096, of which the second may be shorter.
-fn two_pieces(rt: &impl Abort, alloc: Global, last: u32) -> Result<Vec<u8>, Fail> {
-    assert!(rt; 1 <= last && last <= 4096);
-    let mut writer = FixedWriter::new(alloc, [1; 16], 1_579_069_803, 4096 + last as u64, 4096);
+/// The index of an archive in a piece of 4,096 and one of one byte.
+fn two_pieces(rt: &impl Abort, alloc: Global) -> Result<Vec<u8>, Fail> {
+    let mut writer = FixedWriter::new(alloc, [1; 16], 1_579_069_803, 4097, 4096);
     writer.append(&Digest32([7; 32]), 4096)?;
-    writer.append(&Digest32([9; 32]), last)?;
-    let (entries, end, csum) = writer.facts();
-    same(rt, (entries, end), (2, 4096 + last as u64));
-    same(rt, csum, Digest32(CSUM));
+    writer.append(&Digest32([9; 32]), 1)?;
+    same(rt, writer.facts(), (2, 4097, Digest32(CSUM)));
     Ok(writer.close(alloc)?)
 }
 
@@ -40,7 +37,7 @@ static PARTS: [(usize, usize, &[u8]); 8] = [
 
 #[test]
 fn text_of_a_short_last_piece(rt: HostRuntime) -> Result<(), Fail> {
-    let text = two_pieces(&rt, rt.alloc(), 1)?;
+    let text = two_pieces(&rt, rt.alloc())?;
     same(&rt, text.len(), 4160);
     same_parts(&rt, &text, &PARTS);
     let head = zeros(rt.alloc(), 4096 - 80)?;
@@ -59,7 +56,7 @@ fn piece(view: &FixedView, i: u32) -> Option<(Digest32, (u64, u64))> {
 
 #[test]
 fn view_of_a_short_last_piece(rt: HostRuntime) -> Result<(), Fail> {
-    let text = two_pieces(&rt, rt.alloc(), 1)?;
+    let text = two_pieces(&rt, rt.alloc())?;
     let view = FixedView::open_on(&text)?;
     same(&rt, view.len(), 2);
     same(&rt, piece(&view, 0), Some((Digest32([7; 32]), (0, 4096))));
@@ -70,30 +67,6 @@ fn view_of_a_short_last_piece(rt: HostRuntime) -> Result<(), Fail> {
     );
     same(&rt, (view.size(), view.chunk_size()), (4097, 4096));
     same(&rt, view.csum(), Digest32(CSUM));
-    Ok(())
-}
-
-#[test]
-fn two_whole_pieces(rt: HostRuntime) -> Result<(), Fail> {
-    let text = two_pieces(&rt, rt.alloc(), 4096)?;
-    let view = FixedView::open_on(&text)?;
-    same(&rt, view.len(), 2);
-    same(&rt, piece(&view, 0), Some((Digest32([7; 32]), (0, 4096))));
-    same(
-        &rt,
-        piece(&view, 1),
-        Some((Digest32([9; 32]), (4096, 8192))),
-    );
-    Ok(())
-}
-
-#[test]
-fn pieces_at_once(rt: HostRuntime) -> Result<(), Fail> {
-    let mut writer = FixedWriter::new(rt.alloc(), [1; 16], 1_579_069_803, 4097, 4096);
-    let pieces = [(Digest32([7; 32]), 4096), (Digest32([9; 32]), 1)];
-    writer.append_all(rt.alloc(), &pieces)?;
-    same(&rt, (writer.len(), writer.end()), (2, 4097));
-    same(&rt, writer.facts().2, Digest32(CSUM));
     Ok(())
 }
 
@@ -130,7 +103,7 @@ static FRONTS: [(usize, Option<IndexFault>); 4] = [
 
 #[test]
 fn first_cause(rt: HostRuntime) -> Result<(), Fail> {
-    let text = two_pieces(&rt, rt.alloc(), 1)?;
+    let text = two_pieces(&rt, rt.alloc())?;
     for (at, byte, cause) in &CAUSES {
         let mut changed = text.clone()?;
         put(&mut changed, *at, &[*byte]);

@@ -1,5 +1,4 @@
-//! The tests of formats: blobs, frames, commands and replies, indexes, manifests and books, against bytes made elsewhere;
-//! and of a collection's plan.
+//! The tests of formats: blobs, frames, commands and replies, indexes, manifests and books, against bytes made elsewhere.
 #![tactic(auto)]
 
 #[cfg(test)]
@@ -20,5 +19,3 @@ mod fixtures;
 mod frames;
 #[cfg(test)]
 mod manifests;
-#[cfg(test)]
-mod plan;

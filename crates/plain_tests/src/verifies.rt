@@ -37,6 +37,8 @@ const DOWNLOAD: u8 = 21;
 
 const GET_CHUNK: u8 = 22;
 
+const CLOSE_READER: u8 = 24;
+
 const FILES: u8 = 31;
 
 /// The index's name, behind its length.
@@ -259,7 +261,9 @@ fn is_reply_to(step: &Step, reply: &Reply) -> bool
     match (step, reply) {
         (Step::Command(Command::OpenReader { .. }), Reply::Done) => true,
         (Step::Command(Command::Files { .. }), Reply::Files(_)) => true,
+        (Step::Command(Command::Files { .. }), Reply::Refused(_)) => true,
         (Step::Command(Command::CloseReader), Reply::Done) => true,
+        (Step::Command(Command::CloseReader), Reply::Refused(_)) => true,
         (Step::ReadFile { .. }, Reply::Part { .. }) => true,
         (Step::ReadFile { .. }, Reply::Refused(_)) => true,
         (Step::ReadChunk { .. }, Reply::Data(_)) => true,
@@ -509,8 +513,11 @@ fn what_is_too_long_is_not_read_on(rt: HostRuntime) -> Result<(), Fail> {
     Ok(())
 }
 
+/// Replies to steps behind OPEN_READER, of commands by their codes.
+type Answers = &'static [(u8, &'static [u8])];
+
 /// FILES tells a blob and the manifest; the blob is gone, and the manifest is read.
-static GONE: [(u8, &[u8]); 3] = [
+static GONE: Answers = &[
     (
         FILES,
         b"\0\x02\x0ba.conf.blob\x15\0\0\0\0\0\0\0i\xdc\xb4\x83\x0c( <&\xa1\xda\xde-\x89=\x7f\x1d\x13\xcd\xba^\xb3\x9e4\x8b\0\x8f:Z\x0f\xb6\x88\x0findex.json.blobV\0\0\0\0\0\0\0\xc1j.\x19\xd5R\x1a\xca\xf0\x88\xf4=\x8do\x0b\xa1\x15\x198\xc1]X\x98\xda\xe2Gt$tAN\xa2",
@@ -522,17 +529,94 @@ static GONE: [(u8, &[u8]); 3] = [
     ),
 ];
 
-fn answer_gone(rt: &(impl Threads + Sync), alloc: Global, job: &mut Job) -> Result<(), Fail> {
-    for (code, body) in &GONE {
-        answer(rt, alloc, job, *code, body)?;
+/// FILES tells the manifest, which is a blob, as it is listed, and no manifest.
+static NO_MANIFEST: Answers = &[
+    (
+        FILES,
+        b"\0\x01\x0findex.json.blob\x0e\0\0\0\0\0\0\0\x13\xa9p<{{\x99t\x1d\x85\xa2m\xc0\x8a\xbcv\x17\xb9x\xcf\xe6\x01\x9f\xcc<g\x89<\xd2\xb5\x02\xc7",
+    ),
+    (
+        DOWNLOAD,
+        b"\0\x0e\0\0\0\0\0\0\0B\xab8\x07\xbe\x83p\xa1)\xbbL\x0d[]",
+    ),
+];
+
+/// A job behind its OPEN_READER and these replies.
+fn answered(rt: &(impl Threads + Sync), alloc: Global, answers: Answers) -> Result<Job, Fail> {
+    let mut job = begun(rt, alloc)?;
+    for (code, body) in answers {
+        answer(rt, alloc, &mut job, *code, body)?;
     }
+    Ok(job)
+}
+
+/// So many files are read, of which one is none.
+#[test]
+fn a_file_that_is_none_is_a_fault(rt: HostRuntime) -> Result<(), Fail> {
+    let alloc = rt.alloc();
+    let job = answered(&rt, alloc, GONE)?;
+    try_report(&rt, alloc, job, (2, 0, 0), Err(1))?;
+    let job = answered(&rt, alloc, NO_MANIFEST)?;
+    try_report(&rt, alloc, job, (1, 0, 0), Err(1))
+}
+
+/// FILES tells no files, and that the snapshot is gone; that the disk failed before, at entry 7; that there is no memory.
+const NO_FILES: &[u8] = &[0, 0];
+
+const NO_SNAPSHOT: &[u8] = &[8];
+
+const HALTED: &[u8] = &[27, 7, 0, 0, 0, 0, 0, 0, 0];
+
+const NO_MEMORY: &[u8] = &[28];
+
+const DONE: &[u8] = &[0];
+
+/// What is reported where a step is refused: behind the close of the reader, which comes again where memory is wanting for it, but at
+/// once where the disk failed.
+static ENDED: [(Answers, &str); 5] = [
+    (&[(FILES, NO_SNAPSHOT), (CLOSE_READER, DONE)], "NoSnapshot"),
+    (&[(FILES, HALTED)], "Halted { place: 7 }"),
+    (
+        &[(FILES, NO_FILES), (CLOSE_READER, HALTED)],
+        "Halted { place: 7 }",
+    ),
+    (
+        &[
+            (FILES, NO_FILES),
+            (CLOSE_READER, NO_MEMORY),
+            (CLOSE_READER, DONE),
+        ],
+        "NoMemory",
+    ),
+    (
+        &[
+            (FILES, NO_SNAPSHOT),
+            (CLOSE_READER, NO_MEMORY),
+            (CLOSE_READER, DONE),
+        ],
+        "NoSnapshot",
+    ),
+];
+
+fn try_ended(
+    rt: &(impl Abort + Threads + Sync),
+    alloc: Global,
+    answers: Answers,
+    wanted: &str,
+) -> Result<(), Fail> {
+    let job = answered(rt, alloc, answers)?;
+    let Reply::Refused(refusal) = report_of(alloc, job)? else {
+        return Err("another report".into());
+    };
+    let text = format!(in alloc; "{refusal:?}")?;
+    same(rt, text.as_str(), wanted);
     Ok(())
 }
 
 #[test]
-fn a_file_that_is_gone_is_a_fault(rt: HostRuntime) -> Result<(), Fail> {
-    let alloc = rt.alloc();
-    let mut job = begun(&rt, alloc)?;
-    answer_gone(&rt, alloc, &mut job)?;
-    try_report(&rt, alloc, job, (2, 0, 0), Err(1))
+fn a_refused_step_is_reported(rt: HostRuntime) -> Result<(), Fail> {
+    for (answers, wanted) in &ENDED {
+        try_ended(&rt, rt.alloc(), *answers, *wanted)?;
+    }
+    Ok(())
 }

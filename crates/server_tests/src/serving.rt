@@ -350,11 +350,13 @@ static REMOTE_WORDS: [&[&str]; 3] = [
     &["run", "root", "session", "--remote", "there"],
 ];
 
-/// A remote without a name, one that is an option, and one before `run`.
-static NO_WORDS: [&[&str]; 3] = [
+/// A remote without a name, one that is an option, and one before `run`; an option beside a remote, and five words with none.
+static NO_WORDS: [&[&str]; 5] = [
     &["run", "root", "session", "--remote"],
     &["run", "root", "session", "--remote", "-x"],
     &["--remote", "there", "run", "root", "session"],
+    &["run", "--remote", "there", "-x", "session"],
+    &["run", "root", "session", "there", "other"],
 ];
 
 fn try_remote(rt: &impl Abort, alloc: Global, all: &[&str]) -> Result<(), Fail> {
@@ -391,6 +393,30 @@ fn other_words_are_none(rt: HostRuntime) -> Result<(), Fail> {
     for all in &NO_WORDS {
         let plan = plan_words(alloc, &words_of(alloc, all)?);
         same(&rt, plan.err(), Some(WordFault::NoReading));
+    }
+    Ok(())
+}
+
+/// Each exit status with its number and its name.
+static STATUSES: [(Status, u8, &str); 12] = [
+    (Status::Ok, 0, "Ok"),
+    (Status::BadFrame, 1, "BadFrame"),
+    (Status::Usage, 2, "Usage"),
+    (Status::DiskFault, 3, "DiskFault"),
+    (Status::SourceFault, 4, "SourceFault"),
+    (Status::SinkFault, 5, "SinkFault"),
+    (Status::NoMemory, 6, "NoMemory"),
+    (Status::TooManyLanes, 7, "TooManyLanes"),
+    (Status::Unequal, 8, "Unequal"),
+    (Status::SourceTooLong, 9, "SourceTooLong"),
+    (Status::RemoteFault, 10, "RemoteFault"),
+    (Status::BadOrder, 11, "BadOrder"),
+];
+
+#[test]
+fn statuses_are_numbered_and_named(rt: HostRuntime) -> Result<(), Fail> {
+    for (status, number, name) in &STATUSES {
+        same(&rt, (status.number(), status.name()), (*number, *name));
     }
     Ok(())
 }

@@ -42,6 +42,8 @@ enum Call {
     /// The same, of two whole ones.
     PreviousWhole,
     Append(&'static [(Digest32, u64)]),
+    /// `abc` as often as it is taken, 4,096 times a call.
+    AppendOn,
     /// By the number of pieces, their size and the checksum. The file is kept.
     Close(u64, u64, Digest32),
     /// The same, but the file goes back.
@@ -135,6 +137,29 @@ fn append(w: &mut Writer, alloc: Global, entries: &[(Digest32, u64)]) -> Result<
     }
 }
 
+/// As many entries as a call has, of `abc`, from an offset on.
+fn entries_from(alloc: Global, start: u64) -> Result<Vec<(Digest32, u64)>, Fail> {
+    let mut entries = Vec::with_capacity(alloc, 4096)?;
+    for place in 0..4096u64 {
+        entries.push((ABC, start.saturating_add(place.saturating_mul(3))))?;
+    }
+    Ok(entries)
+}
+
+fn append_on(w: &mut Writer, alloc: Global) -> Result<Told, Fail>
+    requires { w.old.pending ≡ None }
+    ensures { OnOk result (w.new.pending ≡ None) }
+{
+    for call in 0..257u64 {
+        let entries = entries_from(alloc, call.saturating_mul(12_288))?;
+        let told = append(w, alloc, &entries)?;
+        if told.is_err() {
+            return Ok(told);
+        }
+    }
+    Ok(Ok(0))
+}
+
 fn close(
     w: &mut Writer,
     alloc: Global,
@@ -204,6 +229,7 @@ fn make(w: &mut Writer, alloc: Global, call: Call) -> Result<Told, Fail>
         Call::PreviousShort => note_short(w, alloc),
         Call::PreviousWhole => note_whole(w, alloc),
         Call::Append(entries) => append(w, alloc, entries),
+        Call::AppendOn => append_on(w, alloc),
         Call::Close(count, size, csum) => close(w, alloc, count, size, &csum, true),
         Call::CloseBack(count, size, csum) => close(w, alloc, count, size, &csum, false),
         Call::Blob(name) => take(w, alloc, named(alloc, name)?, b"", true),
@@ -304,6 +330,15 @@ const WRONG_FACTS: Calls = &[
     ),
 ];
 
+/// An index has as many entries as it may have.
+const FULL: Calls = &[
+    (Call::AppendOn, Err(Fault::TooMany(1_048_576))),
+    (
+        Call::Close(0, 0, NOTHING),
+        Err(Fault::BadClose(CloseFault::Count(1_048_576))),
+    ),
+];
+
 const CLOSINGS: Calls = &[
     (Call::CloseBack(2, 5, CSUM), Ok(4176)),
     (Call::Close(2, 5, CSUM), Ok(4176)),
@@ -392,11 +427,12 @@ const MISLISTED: Calls = &[
 ];
 
 /// What is called of a new writer, and then tried: on dynamic archives.
-static DYNAMIC: [(Calls, Calls); 4] = [
+static DYNAMIC: [(Calls, Calls); 5] = [
     (BEGUN, ALL_OR_NOTHING),
     (GROWN, WRONG_FACTS),
     (GROWN, CLOSINGS),
     (BEGUN, NAMES),
+    (BEGUN, FULL),
 ];
 
 /// On fixed archives, and on the manifest's file.

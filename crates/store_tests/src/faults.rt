@@ -16,7 +16,6 @@ pub(crate) enum Fault {
     OpenIndexes(u8),
     BadManifest(u8),
     ManifestMismatch(&'static str, u8),
-    NotAllowed,
     TooMany(u32),
     BadRange(u64),
     Unreadable(&'static str),
@@ -37,7 +36,6 @@ pub(crate) fn refusal(alloc: Global, fault: Fault) -> Result<Refusal, AllocError
             file: Bytes::from_slice(alloc, name.as_bytes())?,
             field,
         },
-        Fault::NotAllowed => Refusal::NotAllowed,
         Fault::TooMany(limit) => Refusal::TooMany { limit },
         Fault::BadRange(size) => Refusal::BadRange { size },
         Fault::Unreadable(path) => Refusal::Unreadable {

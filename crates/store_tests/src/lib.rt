@@ -1,4 +1,4 @@
-//! The tests of sessions in memory, and of chunks and files on a disk.
+//! The tests of a writer's session in memory, and of chunks and files on a disk.
 #![tactic(auto)]
 
 #[cfg(test)]
@@ -13,8 +13,6 @@ mod faults;
 mod fixtures;
 #[cfg(test)]
 mod opening;
-#[cfg(test)]
-mod restore;
 #[cfg(test)]
 mod snapshots;
 #[cfg(test)]

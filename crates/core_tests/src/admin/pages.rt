@@ -30,7 +30,8 @@ fn list_many(parts: &mut Parts<MemoryDisk>, alloc: Global, count: u64) -> Result
             files,
             unreadable: None,
         };
-        parts.catalogue.push(Listed { number, kept })?;
+        parts.catalogue.reserve()?;
+        parts.catalogue.insert_reserved(Listed { number, kept });
     }
     Ok(())
 }
