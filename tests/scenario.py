@@ -6,8 +6,8 @@ COMMANDS = (
     "CLOSE_READER LIST FILES FORGET PRUNE VERIFY SYNC GC GROUP BYE"
 )
 WORDS = {getattr(session, name): name for name in COMMANDS.split()}
-# One byte, or 32 of them, a dozen times or more.
-REPEATED = re.compile(rb"(.)\1{11,}|(.{32})\2{11,}", re.S)
+# One byte, or 32 or 40 of them, a dozen times or more.
+REPEATED = re.compile(rb"(.)\1{11,}|(.{32})\2{11,}|(.{40})\3{11,}", re.S)
 
 
 def plainly(data):
@@ -19,7 +19,7 @@ def spelled(data):
     """Bytes so, and what is repeated by its count and digits in braces."""
     out, at = [], 0
     for run in REPEATED.finditer(data):
-        group = run.group(1) or run.group(2)
+        group = run.group(1) or run.group(2) or run.group(3)
         out += [plainly(data[at : run.start()]), f"\\{{{len(run.group()) // len(group)} {group.hex()}}}"]
         at = run.end()
     return "".join(out) + plainly(data[at:])
@@ -38,6 +38,12 @@ def reply_word(body):
 
 def place(name, data):
     return [f"put {plainly(name.encode())} {spelled(data)}".rstrip()]
+
+
+def place_zeros(name, count):
+    """A file of so many zeros, in runs of 2^24 at most."""
+    runs = [min(1 << 24, count - start) for start in range(0, count, 1 << 24)]
+    return [f"put {plainly(name.encode())} " + "".join(f"\\{{{run} 00}}" for run in runs)]
 
 
 def gone(name):
@@ -165,6 +171,11 @@ def remote_fails(*numbers):
     return ["remote-fails " + " ".join(map(str, numbers))]
 
 
+def taken(*numbers):
+    """Reads of the disk by these calls, from 0, find nothing: another program took the file."""
+    return ["taken " + " ".join(map(str, numbers))]
+
+
 def stops(count):
     """So does every call of the disk behind so many."""
     return [f"stops {count}"]
@@ -205,7 +216,10 @@ def flat(parts):
 
 
 def scenario(name, *parts):
-    return [f"= {name}", *flat(parts), ""]
+    lines = flat(parts)
+    served = max((place for place, it in enumerate(lines) if it.split(" ")[0] in ("ends", "sweep")), default=0)
+    assert not any(it[0] in "<>" for it in lines[served:]), f"not served: {name}"
+    return [f"= {name}", *lines, ""]
 
 
 def text_of(module):

@@ -149,6 +149,7 @@ REUSED = [
     # a refused PREVIOUS, and one of a blob, add nothing
     (previous("root.didx", 4177), bad_range(4176)),
     (previous(MANIFEST, 213), part(blob(LISTED), 213)),
+    (previous(MANIFEST, 214), bad_range(213)),
     (NAME_ABC, UNKNOWN),
     # one of the index adds its pieces, whatever the offset
     (previous("root.didx", 4136), part(ROOT, 4136)),

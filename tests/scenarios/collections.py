@@ -2,6 +2,7 @@
 own."""
 from scenarios.backups import *
 from scenarios.books import ABC_THERE, BOOK, KEPT, TAKE_OVER
+from scenarios.pulls import SHARED
 
 A_THIRD = "host/a/2020-01-15T06:30:05Z"
 VW = f".chunks/{sha256(b'vw').hex()[:4]}/{sha256(b'vw').hex()}"
@@ -30,8 +31,9 @@ def gc_of(now, used, pending, removed):
 
 
 def run(moments, turns, entry_kinds, book_after, chunks):
+    """A session by a clock with these readings, and then 0, where moments do not fall; and what it leaves."""
     return [
-        *clock(*moments),
+        *clock(*moments, 0),
         *talk(turns),
         *kinds(*entry_kinds),
         *saved(),
@@ -84,7 +86,7 @@ def failed(call, command, entry):
     return scenario(
         f"call {call} of a collection fails",
         start_from(TWO_BACKUPS),
-        clock(1_200_000),
+        clock(1_200_000, 0),
         fails(OPENING + call),
         talk(turns, "DiskFault"),
         kinds(*ended, 6),
@@ -107,7 +109,7 @@ def later(snapshots, used, removed):
 
 def found_by(since, until, turns, names):
     state = found(since, until, turns, names)
-    return [state[0], *clock(1_300_000), *state[1:]]
+    return [state[0], *clock(1_300_000, 0), *state[1:]]
 
 
 ROOTS = [PLAIN, f"{A}/root.didx"]
@@ -127,6 +129,12 @@ SCENARIOS = [
         run([1_100_000], [(forget(A), DONE), gc_of(1_100_000, 0, 0, 2), (LIST, rows())], [0, 3, 1, 1, 4, 0, 6], book(1_100_000), []),
         # where no chunk is there, the act that lists them visits none
         run([1_200_000], [gc_of(1_200_000, 0, 0, 0)] * 2, [3, 1, 4, 3, 1, 4, 6], book(1_200_000), []),
+    ),
+    scenario(
+        "indexes of each kind are marked, and one without entries is passed over",
+        clock(1_000_000),
+        talk(SHARED + [gc_of(1_000_000, 3, 0, 0)]),
+        kinds(*[0] * len(SHARED), 3, 1, 1, 1, 1, 1, 1, 4, 6),
     ),
     scenario(
         "the one goes that was touched before the cutoff, and the one stays that was touched at it",
@@ -198,7 +206,7 @@ SCENARIOS = [
     scenario(
         "its writing calls",
         start_from(TWO_BACKUPS),
-        clock(1_200_000),
+        clock(1_200_000, 0),
         talk(SWEPT),
         kinds(*SWEPT_KINDS),
         # FORGET removes a manifest and an index, and syncs between; the second chunk that is visited goes; the end saves the book
@@ -209,7 +217,7 @@ SCENARIOS = [
     scenario(
         "it is stopped",
         start_from(TWO_BACKUPS),
-        clock(1_200_000),
+        clock(1_200_000, 0),
         sent(SWEPT),
         # both snapshots; the second, and `de` still, up to the collection's end; the second alone, from the second visit on
         found_by(0, 1, later([A, A_LATER], 3, 0), ROOTS + LATER_ROOTS),
@@ -219,7 +227,7 @@ SCENARIOS = [
     ),
     scenario(
         "moments never fall",
-        clock(100, 90, 110),
+        clock(100, 90, 110, 0),
         talk([(LIST, rows()), (LIST, rows()), (bye(), DONE)]),
         kinds(0, 0, 6),
         ["moments 100 100 110"],

@@ -149,7 +149,7 @@ BOOK_THERE = (".chunks/book", 56)
 # The files that each may leave behind a crash, how many calls its disk has, and what is found then.
 CRASHES = [
     ("read back", READ_BACK, [PLAIN_THERE, BOOK_THERE], 12, FOUND),
-    ("unfinished", UNFINISHED, [PLAIN_THERE, CONF_THERE, B_THERE, BOOK_THERE], 18, FOUND),
+    ("unfinished, to BYE", [*UNFINISHED, (bye(), DONE)], [PLAIN_THERE, CONF_THERE, B_THERE, BOOK_THERE], 18, FOUND),
     ("aborted", ABORTED, [UPLOAD_THERE, BOOK_THERE], 10, [NONE_FOUND]),
     ("a chunk and an index", STORED, [ABC_THERE, INDEX_THERE, (".chunks/book", 96)], 15, [NONE_FOUND]),
 ]

@@ -66,6 +66,19 @@ INDEX_DAMAGED = [
     (abort(), DONE),
     (forget(A), DONE),
 ]
+# Nor is any where its size is none of an index: it has a piece more than one may have.
+FIXED_NAME, FIXED_LISTED = f"{A}/root.fidx", blob(manifest(A, listed("root.fidx", 3, fixed_csum([b"abc"]))))
+LONG_INDEX = INDEX_HEADER + 32 * 1048577
+INDEX_TOO_LONG = [
+    (LIST, rows((A, 2))),
+    (open_reader(A), DONE),
+    (download("root.fidx"), unreadable(FIXED_NAME)),
+    (close_reader(), DONE),
+    (open_writer(A_LATER), base(A)),
+    (previous("root.fidx"), unreadable(FIXED_NAME)),
+    (abort(), DONE),
+    (forget(A), DONE),
+]
 # The newer of two is damaged: the next must be later, and is over the older.
 NEWER_DAMAGED = [
     (LIST, rows((A, 1), (A_LATER, None))),
@@ -91,6 +104,8 @@ FOLDERS = [
         FILE_MISSING,
         [(f"{A}/b.blob", 21)],
     ),
+    ("both listed files are missing", [(PLAIN, blob(manifest(A, *BOTH_LISTED)))], FILE_MISSING, []),
+    ("both are missing, in the other order", [(PLAIN, blob(manifest(A, *reversed(BOTH_LISTED))))], FILE_MISSING, []),
     ("the index is none", [(PLAIN, ROOT_LISTED), (A_ROOT, b"abc")], INDEX_DAMAGED, []),
     ("the newer manifest is none", [plain(A), (LATER_PLAIN, b"abc")], NEWER_DAMAGED, []),
     (
@@ -125,12 +140,13 @@ LONG = [
     ("host/", f"/2020-01-15T06:30:03Z/{MANIFEST}.tmp", False),
 ]
 
-# A snapshot, what is left of another, and a temporary file.
+# A snapshot, what is left of another, and a temporary file, beside a book of no touches.
 OPENED = [(PLAIN, ROOT_LISTED), (A_ROOT, b"abc"), (f"{A_LATER}/a.conf.blob", CONF), ("notes.tmp", b"abc")]
 OPENED_SIZES = [(name, len(data)) for name, data in OPENED]
+OPENED_BOOK = place(".chunks/book", book(NOW))
 # Which of them stand once its disk has failed that call of opening: sync, a list of all names, two removals, the manifest's size, the
-# manifest, the size of the file that it lists, and the book's. The book is then saved by three.
-STANDING = [4, 4, 4, 3, 2, 2, 2, 2]
+# manifest, the size of the file that it lists, and the book's size, its count of touches, and the book. It is then saved by three.
+STANDING = [4, 4, 4, 3, 2, 2, 2, 2, 2, 2]
 OPEN_CALLS = len(STANDING)
 
 
@@ -145,10 +161,11 @@ def long_name(front, end, stays):
 
 
 def failed_opening(call, count, line):
-    """No command is read."""
+    """No command is read. A later session finds the snapshot."""
     return scenario(
         f"an opening fails: {line[0]}",
         flat(place(*it) for it in OPENED),
+        OPENED_BOOK,
         crash(1),
         line,
         asked(LIST),
@@ -156,6 +173,8 @@ def failed_opening(call, count, line):
         entries(0),
         faults(1),
         files_left([*OPENED_SIZES[:2], *OPENED_SIZES[2:][4 - count :]]),
+        talk(INDEX_DAMAGED),
+        files_left([]),
     )
 
 
@@ -180,6 +199,7 @@ SCENARIOS = [
         MANIFEST_DAMAGED,
         [],
     ),
+    scenario("the index is too long", place(PLAIN, FIXED_LISTED), place_zeros(FIXED_NAME, LONG_INDEX), talk(INDEX_TOO_LONG), files_left([])),
     *(long_name(*it) for it in LONG),
     *(
         failed_opening(call, count, line)
@@ -189,6 +209,7 @@ SCENARIOS = [
     scenario(
         "an opening is stopped",
         flat(place(*it) for it in OPENED),
+        OPENED_BOOK,
         crash(1),
         sent([(LIST, rows((A, 2)))]),
         found(0, 99, INDEX_DAMAGED, []),
@@ -197,6 +218,7 @@ SCENARIOS = [
     scenario(
         "its writing calls",
         flat(place(*it) for it in OPENED),
+        OPENED_BOOK,
         ends("Ok", 0, 0),
         writes("sdd psr"),
         made(OPEN_CALLS + 3),

@@ -1,5 +1,7 @@
 """Faults in a SYNC: what the remote lacks or has damaged, reads of it that fail, and a disk that stops."""
+from scenarios.archives import AGAIN
 from scenarios.backups import *
+from scenarios.folders import MANY_LISTED
 from scenarios.pulls import SYNC_A
 from scenarios.verifies import A_CONF, A_ROOT, LENGTHS, OF_ANOTHER_GROUP, SHORTER, TOO_LONG, both_listed, of_lengths
 
@@ -26,6 +28,8 @@ LENGTH_READ = [
     CHUNK_READ,
 ]
 
+FIXED_NONE = [(PLAIN, blob(manifest(A, listed("root.fidx", 3, fixed_csum([b"abc"]))))), (f"{A}/root.fidx", b"abc")]
+
 # What changes on the remote behind a backup of a blob and an archive, what a SYNC of it is told, and the kinds of the entries, those of
 # a GROUP and of the end among them. The first refused step or read is the answer, behind an ABORT.
 CHANGED = [
@@ -37,6 +41,14 @@ CHANGED = [
         exists(),
         [1, 0, 0, 1, 1, 0, 0, 0, 0, 6],
     ),
+    (
+        "the manifest into one that lists the archive twice",
+        [(PLAIN, blob(manifest(A, *[listed("root.didx", 5, BOTH_CSUM)] * 2)))],
+        unreadable(PLAIN),
+        [1, 0, 0, 1, 0, 0, 6],
+    ),
+    ("the manifest into one that lists 64 files", [(PLAIN, MANY_LISTED)], unreadable(PLAIN), [1, 0, 0, 1, 0, 0, 6]),
+    ("the manifest into one that is too long", [(PLAIN, TOO_LONG)], unreadable(PLAIN), [1, 0, 0, 1, 0, 0, 6]),
     ("the manifest into one of another group", [(PLAIN, OF_ANOTHER_GROUP)], mismatch(2), NOT_FINISHED),
     ("the size of the archive", [(PLAIN, both_listed(size=6))], mismatch(6, "root.didx"), NOT_FINISHED),
     ("the blob goes", [(A_CONF, None)], CONF_MISSING, BLOB_READ),
@@ -55,20 +67,10 @@ CHANGED = [
         for (name, file, said, piece), steps in zip(LENGTHS, LENGTH_READ)
     ),
     ("the blob into one that is too long", [(A_CONF, TOO_LONG)], CONF_MISSING, BLOB_READ),
+    ("the archive into one of a fixed index that is none", FIXED_NONE, unreadable(f"{A}/root.fidx"), BLOB_READ),
 ]
-# Two backups of one archive, the second by PREVIOUS alone.
+# Two backups of one archive, the second by PREVIOUS alone, and a restore.
 TWO = "two backups of an archive"
-AGAIN = [
-    *ROOT_SENT,
-    *ROOT_FINISHED,
-    (open_writer(A_LATER), base(A)),
-    (previous("root.didx", 4136), part(ROOT, 4136)),
-    (new_dynamic("root.didx"), number(0)),
-    (append(0, (b"abc", 0), (b"de", 3)), DONE),
-    (close_index(0, 2, 5, BOTH_CSUM), DONE),
-    (put_manifest(A_LATER, listed("root.didx", 5, BOTH_CSUM)), DONE),
-    (finish(), DONE),
-]
 # The entries of a SYNC of both: the lists; the first; the second, of which each chunk is sent anew.
 SYNCED = [1, 0] + [0, 1, 1, 0, 1, 0, 1, 0, 0, 0, 0, 0] * 2
 FIRST_FINISH, LATER_FINISH = 13, 25
@@ -130,5 +132,21 @@ SCENARIOS = [
         flat(found(*it) for it in PULLED_LATER),
         # two chunks have four calls, each index three, and each FINISH four; the second's chunks are asked for
         sweep(SYNC_CALLS),
+    ),
+    # the first call behind opening's three: the blob is put
+    scenario(
+        "the disk fails as a blob is put: nothing is pulled, and no writer ended",
+        there(start_from(BACKUP)),
+        fails(3),
+        talk([(SYNC_A, disk_fault()), (GROUP, halted(5))], "DiskFault"),
+        kinds(1, 0, 0, 1, 1, 5, 5, 6),
+    ),
+    scenario(
+        "behind a fault of the disk a SYNC reads nothing",
+        there(start_from(BACKUP)),
+        fails(3),
+        talk([(open_writer(B), base()), (chunk(b"abc"), disk_fault()), (SYNC_A, halted(1))], "DiskFault"),
+        kinds(0, 5, 5, 6),
+        remote_made(0),
     ),
 ]

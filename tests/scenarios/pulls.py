@@ -95,6 +95,8 @@ SHARED = [
     ),
     (finish(), DONE),
 ]
+# A manifest behind which so many spaces stand that it is read in two parts.
+IN_TWO_PARTS = place(PLAIN, blob(manifest(A) + b" " * PART_LIMIT))
 # The steps of each file, in the manifest's order: a blob is read and sent; of an archive's index that is read, each chunk where its
 # digest is used first.
 WHOLE = [1, 0, 0, 1] + [1, 0] + [1, 0, 1, 0, 1, 0, 0, 0] + [0, 0, 0, 0, 0, 0, 6]
@@ -129,4 +131,5 @@ SCENARIOS = [
         same(),
     ),
     one_pulled("a chunk is sent once", talk(SHARED), SHARED_ONCE),
+    one_pulled("a manifest of two parts is read by two steps", IN_TWO_PARTS, [1, 0, 0, 1, 1, 0, 0, 6]),
 ]

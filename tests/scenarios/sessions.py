@@ -10,7 +10,7 @@ PUT_CONF = (put("a.conf.blob", b"123456789"), DONE)
 # was.
 TWICE = [(open_writer(A), base()), (chunk(b"abc"), DONE), (chunk(b"abc"), DONE)]
 AGAIN = [*TWICE[:2], (abort(), DONE), *TWICE[:2]]
-# Sessions, and how many steps beyond their commands they are.
+# Sessions, how many steps beyond their commands they are, and the files that one leaves.
 CLEAN = [
     ("nothing", [], 0),
     ("FINISH without a session", [(finish(), NO_SESSION)], 0),
@@ -39,6 +39,44 @@ CLEAN = [
             (put("a.blob", b"123456789"), DONE),
             (put("b.blob", b""), DONE),
         ],
+        0,
+    ),
+    (
+        "what wants a writer, without one",
+        [
+            (append(0, (b"abc", 0)), NO_SESSION),
+            (close_index(0, 0, 0, sha256(b"")), NO_SESSION),
+            (put("a.blob", b""), NO_SESSION),
+        ],
+        0,
+    ),
+    (
+        "a lane has one session at a time",
+        [
+            (open_writer(A), base()),
+            (open_writer(B), IN_WRITER),
+            (put_manifest(A), DONE),
+            (finish(), DONE),
+            (open_reader(A), DONE),
+            (open_writer(B), IN_READER),
+        ],
+        0,
+    ),
+    (
+        "names that are none",
+        [
+            (open_writer("host/a/2020-01-15"), bad_name()),
+            (open_writer(A), base()),
+            (new_dynamic("a/b.didx"), bad_name()),
+            (put("a/b.blob", b""), bad_name()),
+            # and one of another kind
+            (put("root.didx", b""), bad_name()),
+        ],
+        0,
+    ),
+    (
+        "an index that was not begun is closed",
+        [(open_writer(A), base()), (close_index(7, 0, 0, sha256(b"")), no_file())],
         0,
     ),
     (
@@ -118,6 +156,7 @@ CLEAN = [
             (download("root.didx"), part(ROOT)),
         ],
         0,
+        [(DE, 14), (ABC, 15), (PLAIN, 213), (f"{A}/root.didx", 4176)],
     ),
     ("a backup, and LIST", BACKED_UP, 0),
     ("a snapshot is read back", READ_BACK, 0),
@@ -161,17 +200,17 @@ BROKEN = [
 ]
 
 
-def three_ways(name, turns, *parts):
-    """A session whole, one byte a read, and beside a snapshot of another group."""
+def three_ways(name, turns, *parts, left=None):
+    """A session whole, which leaves these files, if they are told; one byte a read; and beside a snapshot of another group."""
     return [
-        *scenario(name, sent(turns), *parts),
+        *scenario(name, sent(turns), *parts, [] if left is None else files_left(left)),
         *scenario(f"{name}, one byte a read", gives(1), sent(turns), *parts),
         *scenario(f"{name}, beside another group", start_from(BESIDE), sent(beside(turns)), *parts, files_there(STAYING)),
     ]
 
 
-def clean(name, turns, beyond):
-    return three_ways(name, turns, ["ends Ok"], kinds(*[0] * (len(turns) + beyond), 6))
+def clean(name, turns, beyond, left=None):
+    return three_ways(name, turns, ["ends Ok"], kinds(*[0] * (len(turns) + beyond), 6), left=left)
 
 
 def broken(name, turns, data, reply, taken, count, place):

@@ -134,6 +134,16 @@ BEFORE_FINISH, BEFORE_FORGET = 14, 18
 BACKUP = ROOT_SENT + ROOT_FINISHED
 
 
+# Two chunks stand in each case, as an index's sync comes behind both.
+CHUNKS = [(DE, 14), (ABC, 15)]
+
+
+def first_found(is_found):
+    """A later session finds the backup, with its files, or nothing of it."""
+    left = [(PLAIN, 213), (ROOT_INDEX, 4176)] if is_found else []
+    return talk(archives_found(*[A] * is_found)) + files_left(CHUNKS + left) + [f"chunks {len(CHUNKS)}"]
+
+
 def stopped_last(name, turns, before, made_calls, of_last, found_behind):
     """The disk stops in the last command, or in the save of the book behind it. What is found behind each kind of crash."""
     last = (turns[-1][0], DONE if made_calls == of_last else disk_fault())
@@ -143,7 +153,7 @@ def stopped_last(name, turns, before, made_calls, of_last, found_behind):
             stops(before + made_calls),
             talk([*turns[:-1], last], "DiskFault"),
             crash(choice),
-            talk(archives_found(A) if is_found else archives_found()),
+            first_found(is_found),
         )
         for choice, is_found in enumerate(found_behind)
     ]
@@ -174,9 +184,9 @@ SCENARIOS = [
     swept("a backup that is verified", VERIFIES, 34, VERIFIES_FOUND),
     *flat(stopped_last("a FINISH", BACKUP, BEFORE_FINISH, count, 4, found_behind) for count, found_behind in FINISHES),
     *flat(stopped_last("a FORGET", [*BACKUP, (forget(A), DONE)], BEFORE_FORGET, count, 3, found_behind) for count, found_behind in FORGETS),
-    scenario(PUT_FAILS, fails(BEFORE_FORGET + 1), talk(CHUNK_FAILS, "DiskFault"), talk(archives_found(A))),
+    scenario(PUT_FAILS, fails(BEFORE_FORGET + 1), talk(CHUNK_FAILS, "DiskFault"), first_found(True)),
     *(
-        scenario(f"{PUT_FAILS}, behind a crash of kind {choice}", fails(BEFORE_FORGET + 1), talk(CHUNK_FAILS, "DiskFault"), crash(choice), talk(archives_found(A)))
+        scenario(f"{PUT_FAILS}, behind a crash of kind {choice}", fails(BEFORE_FORGET + 1), talk(CHUNK_FAILS, "DiskFault"), crash(choice), first_found(True))
         for choice in range(3)
     ),
 ]

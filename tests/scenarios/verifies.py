@@ -1,4 +1,5 @@
 """Snapshots that are verified."""
+from scenarios.archives import FIXED
 from scenarios.backups import *
 
 A_CONF, A_ROOT = f"{A}/a.conf.blob", f"{A}/root.didx"
@@ -97,29 +98,20 @@ CHANGED = [
 # An archive of 4,096 `x` and `y`, and over it one of `x` twice.
 Y = b"y"
 X_FILE, Y_FILE = (f".chunks/{sha256(it).hex()[:4]}/{sha256(it).hex()}" for it in (X, Y))
-FIXED = [
-    (open_writer(A), base()),
-    (new_fixed("root.fidx", 4097, 4096), number(0)),
-    (chunk(X), DONE),
-    (chunk(Y), DONE),
-    (append(0, (X, 0), (Y, 4096)), DONE),
-    (close_index(0, 2, 4097, fixed_csum([X, Y])), DONE),
-    (put_manifest(A, listed("root.fidx", 4097, fixed_csum([X, Y]))), DONE),
-    (finish(), DONE),
-    (open_writer(A_LATER), base(A)),
-    (new_fixed("root.fidx", 8192, 4096), number(0)),
-    (chunk(X), DONE),
-    (append(0, (X, 0), (X, 4096)), DONE),
-    (close_index(0, 2, 8192, fixed_csum([X, X])), DONE),
-    (put_manifest(A_LATER, listed("root.fidx", 8192, fixed_csum([X, X]))), DONE),
-    (finish(), DONE),
-]
+# Each with how many entries the order of the VERIFY has.
 FIXED_CHANGED = [
-    ("the first, as it was sent", [], VERIFY_A, verified(2, 2, 4097)),
-    ("the first, whose second chunk is gone", [(Y_FILE, None)], VERIFY_A, verified(2, 2, 4097, file_fault("root.fidx", 23, sha256(Y)))),
-    ("the later one, as it was sent", [], VERIFY_LATER, verified(2, 2, 8192)),
-    ("the later one, where another's chunk is gone", [(Y_FILE, None)], VERIFY_LATER, verified(2, 2, 8192)),
-    ("the later one, whose chunk is gone", [(X_FILE, None)], VERIFY_LATER, verified(2, 2, 8192, file_fault("root.fidx", 23, sha256(X)))),
+    ("the first, as it was sent", [], VERIFY_A, verified(2, 2, 4097), 8),
+    ("the first, whose second chunk is gone", [(Y_FILE, None)], VERIFY_A, verified(2, 2, 4097, file_fault("root.fidx", 23, sha256(Y))), 8),
+    ("the later one, as it was sent", [], VERIFY_LATER, verified(2, 2, 8192), 8),
+    ("the later one, where another's chunk is gone", [(Y_FILE, None)], VERIFY_LATER, verified(2, 2, 8192), 8),
+    ("the later one, whose chunk is gone", [(X_FILE, None)], VERIFY_LATER, verified(2, 2, 8192, file_fault("root.fidx", 23, sha256(X))), 8),
+    (
+        "the first, whose index is none: no chunks are read",
+        [(f"{A}/root.fidx", b"abc")],
+        VERIFY_A,
+        verified(2, 0, 0, file_fault("root.fidx", 24)),
+        6,
+    ),
 ]
 
 # The reader of a VERIFY is closed behind it: no lane holds the snapshot.
@@ -152,7 +144,7 @@ SCENARIOS = [
     ),
     kept_backup("two archives of pieces of a fixed size", FIXED),
     *(
-        changed("two archives of pieces of a fixed size", f"fixed: {name}", changes, command, reply, entries(8))
-        for name, changes, command, reply in FIXED_CHANGED
+        changed("two archives of pieces of a fixed size", f"fixed: {name}", changes, command, reply, entries(count))
+        for name, changes, command, reply, count in FIXED_CHANGED
     ),
 ]

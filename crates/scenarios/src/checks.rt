@@ -5,7 +5,7 @@ use crate::differs::Differs;
 use crate::session::{Counts, Left};
 use crate::stage::{Stage, name_of};
 use crate::words::{push_number, same, split, text_of};
-use disk_trait::{Disk, LoggedStep, MemoryDisk, Step};
+use disk_trait::{Disk, DiskError, LoggedStep, MemoryDisk, Step};
 use lane::Ending;
 use std::alloc::{AllocError, Global};
 use store_types::Entry;
@@ -80,7 +80,8 @@ fn place(alloc: Global, left: &Left) -> Result<String, AllocError> {
 fn is_saved(left: &Left) -> &'static str {
     match left.report.not_saved {
         None => "yes",
-        Some(_) => "no",
+        Some(DiskError::Failed) => "no",
+        Some(DiskError::NoMemory) => "no memory",
     }
 }
 
@@ -108,7 +109,9 @@ fn has_bytes(disk: &mut MemoryDisk, alloc: Global, text: &str) -> Result<(), Dif
     let (name, bytes) = split(text);
     let name = name_of(alloc, name)?;
     let wanted = bytes_of(alloc, bytes)?;
-    let found = disk.read(alloc, name.as_str())?.unwrap_or(Vec::new(alloc));
+    let Some(found) = disk.read(alloc, name.as_str())? else {
+        return same(String::from_str(alloc, "no file")?, "");
+    };
     if found == wanted {
         return Ok(());
     }

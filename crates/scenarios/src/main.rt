@@ -10,6 +10,7 @@ mod plan;
 mod session;
 mod stage;
 mod stops;
+mod taken;
 mod words;
 
 use file::{Count, play_file};

@@ -25,6 +25,8 @@ pub struct Plan {
     pub fails: Vec<u64>,
     pub stops: Option<u64>,
     pub remote_fails: Vec<u64>,
+    /// Which calls of the disk find nothing.
+    pub taken: Vec<u64>,
     /// The most bytes that a read gives.
     gives: usize,
 }
@@ -43,6 +45,7 @@ impl Plan {
             fails: Vec::new(alloc),
             stops: None,
             remote_fails: Vec::new(alloc),
+            taken: Vec::new(alloc),
             gives: usize::MAX,
         }
     }
@@ -57,6 +60,7 @@ impl Plan {
             b"fails" => self.fails = numbers_of(self.alloc, rest)?,
             b"stops" => self.stops = Some(number_of(rest)?),
             b"remote-fails" => self.remote_fails = numbers_of(self.alloc, rest)?,
+            b"taken" => self.taken = numbers_of(self.alloc, rest)?,
             b"gives" => self.gives = number_of(rest)? as usize,
             _ => return Ok(false),
         }
@@ -98,21 +102,27 @@ impl Plan {
         Err(Differs::Found(shown(self.alloc, rest)?))
     }
 
-    /// The replies are those that are wanted up to a command at which the disk fails: that is told it, and each behind it that this
-    /// entry was the first to fail. A session that is not opened is told nothing.
-    pub fn compare_failed(&self, told: &[u8], entry: u64) -> Result<(), Differs> {
-        let mut rest = told;
+    /// The replies are those that are wanted, but for so many of the last commands: the first of them is told that the disk fails,
+    /// and each behind it that this entry was the first to fail. BYE is told that it is done.
+    pub fn compare_failed(&self, told: &[u8], failed: u64, entry: u64) -> Result<(), Differs> {
+        let commands = if self.sent.as_slice().ends_with(BYE) {
+            self.wanted.len().saturating_sub(1)
+        } else {
+            self.wanted.len()
+        };
+        let first = (commands as u64).saturating_sub(failed);
         let mut wanted = Vec::new(self.alloc);
-        for Wanted { bytes, .. } in &self.wanted {
-            match rest.strip_prefix(bytes.as_slice()) {
-                Some(behind) if wanted.is_empty() => rest = behind,
-                _ => push_failed(&mut wanted, entry)?,
+        for (place, Wanted { bytes, .. }) in self.wanted.iter().enumerate() {
+            if (place as u64) < first || place >= commands {
+                wanted.extend_from_slice(bytes)?;
+            } else {
+                push_failed(&mut wanted, place as u64 == first, entry)?;
             }
         }
-        if told.is_empty() || rest == wanted.as_slice() {
+        if told == wanted.as_slice() {
             return Ok(());
         }
-        Err(Differs::Found(shown(self.alloc, rest)?))
+        Err(Differs::Found(shown(self.alloc, told)?))
     }
 
     /// The moment of each act, where no line sets the clock.
@@ -136,9 +146,12 @@ impl Plan {
     }
 }
 
-/// Adds the reply DiskFault, and behind it Halted with the entry's number.
-fn push_failed(bytes: &mut Vec<u8>, entry: u64) -> Result<(), AllocError> {
-    if bytes.is_empty() {
+/// The frame of BYE.
+const BYE: &[u8] = b"\x01\0\0\0?";
+
+/// Adds the reply DiskFault, or behind it Halted with the entry's number.
+fn push_failed(bytes: &mut Vec<u8>, is_first: bool, entry: u64) -> Result<(), AllocError> {
+    if is_first {
         return bytes.extend_from_slice(b"\x01\0\0\0\x1a");
     }
     bytes.extend_from_slice(b"\x09\0\0\0\x1b")?;

@@ -2,10 +2,11 @@
 
 use crate::differs::Differs;
 use crate::plan::Plan;
+use crate::taken::TakenDisk;
 use crate::words::{push_number, same};
 use core_opening::OpenFault;
 use disk_trait::{Disk, FailingDisk, MemoryDisk};
-use lane::Port;
+use lane::{Ending, Port};
 use pbs_server::{RunReport, Served, Status, serve};
 use port_traits::{FreeGate, MemSink};
 use std::alloc::{AllocError, Global};
@@ -47,6 +48,11 @@ pub fn copy_of(alloc: Global, disk: &MemoryDisk) -> Result<MemoryDisk, AllocErro
 
 type Failed = FailingDisk<MemoryDisk>;
 
+type Taken = TakenDisk<Failed>;
+
+/// What was served on a disk beside a remote.
+type Over = Served<Taken, Failed>;
+
 /// The words `run root session`.
 fn words(alloc: Global) -> Result<Vec<String>, AllocError> {
     let mut words = Vec::new(alloc);
@@ -61,9 +67,9 @@ fn serve_on<R: Threads + Sync>(
     rt: &R,
     alloc: Global,
     plan: &Plan,
-    disk: Failed,
+    disk: Taken,
     remote: Option<Failed>,
-) -> Result<(Served<Failed, Failed>, Vec<u8>), AllocError> {
+) -> Result<(Over, Vec<u8>), AllocError> {
     let source = plan.source()?;
     let sink = MemSink::new(alloc, Vec::new(alloc));
     let clock = plan.clock()?;
@@ -85,8 +91,8 @@ fn serve_on<R: Threads + Sync>(
     Ok((served, told))
 }
 
-/// Both disks, which fail as it is planned.
-fn failing(plan: &Plan, disks: Disks) -> Result<(Failed, Option<Failed>), AllocError> {
+/// Both disks, which fail, and find nothing, as it is planned.
+fn failing(plan: &Plan, disks: Disks) -> Result<(Taken, Option<Failed>), AllocError> {
     let disk = match plan.stops {
         None => FailingDisk::at_calls(disks.disk, plan.fails.clone()?),
         Some(count) => FailingDisk::stopping_after(disks.disk, count),
@@ -95,10 +101,10 @@ fn failing(plan: &Plan, disks: Disks) -> Result<(Failed, Option<Failed>), AllocE
         None => None,
         Some(remote) => Some(FailingDisk::at_calls(remote, plan.remote_fails.clone()?)),
     };
-    Ok((disk, remote))
+    Ok((TakenDisk::new(disk, plan.taken.clone()?), remote))
 }
 
-fn counted(before: u64, disk: &Failed) -> Counts {
+fn counted<D: Disk>(before: u64, disk: &D) -> Counts {
     Counts {
         before,
         after: disk.calls(),
@@ -130,11 +136,7 @@ fn handed_back(before: u64, remote: Option<Failed>) -> (Counts, Option<MemoryDis
 }
 
 /// How it ended, as a line `ends` says it.
-fn ended(
-    alloc: Global,
-    served: &Served<Failed, Failed>,
-    sent: usize,
-) -> Result<String, AllocError> {
+fn ended(alloc: Global, served: &Over, sent: usize) -> Result<String, AllocError> {
     let mut text = String::from_str(alloc, served.status.name())?;
     if let [report] = served.report.lanes.as_slice() {
         if report.taken != sent as u64 {
@@ -174,13 +176,13 @@ pub fn serve_plan<R: Threads + Sync>(
         disk: counted(before, &served.disk),
         remote: remote_counts,
     };
-    let disk = served.disk.into_inner();
+    let disk = served.disk.into_inner().into_inner();
     Ok((left, Disks { disk, remote }))
 }
 
 impl Left {
     /// What holds of every session: each entry is of lane 0, of this moment where it is known, and has its count of calls; as many
-    /// bytes were given as were told.
+    /// bytes were given as were told; and it ended where its input did or at BYE, but with BadFrame, where no command stands.
     pub fn is_usual(&self, moment: Option<u64>) -> bool {
         for entry in &self.order {
             let wanted = moment.unwrap_or(entry.moment);
@@ -189,20 +191,34 @@ impl Left {
             }
         }
         let given = match self.report.lanes.as_slice() {
-            [report] => report.given == self.told.len() as u64,
+            [report] => report.given == self.told.len() as u64 && self.fits(report.ending),
             _ => true,
         };
         given && self.order.len() == self.report.calls.len()
+    }
+
+    /// An ending of the lane fits the status.
+    fn fits(&self, ending: Ending) -> bool {
+        match ending {
+            Ending::Clean => self.status != Status::BadFrame,
+            Ending::Broken { .. } => self.status == Status::BadFrame,
+            _ => false,
+        }
     }
 
     /// It was served as the plan says, and ended so.
     pub fn compare(&self, alloc: Global, plan: &Plan, ended: &str) -> Result<(), Differs> {
         plan.compare(&self.told)?;
         same(self.ended.clone()?, ended)?;
+        self.compare_usual(alloc, plan)
+    }
+
+    /// What holds of every session holds of it.
+    pub fn compare_usual(&self, alloc: Global, plan: &Plan) -> Result<(), Differs> {
         if self.is_usual(plan.moment()) {
             return Ok(());
         }
-        let text = String::from_str(alloc, "another lane, moment or count of calls")?;
+        let text = String::from_str(alloc, "another lane, moment, count or ending")?;
         Err(Differs::Found(text))
     }
 }

@@ -1,6 +1,7 @@
 //! A session whose disk fails at each of its calls, alone and with all behind it: what a crash of each kind leaves, and what a later
 //! session finds there.
 
+use crate::bytes::shown;
 use crate::checks::first_other;
 use crate::differs::Differs;
 use crate::plan::Plan;
@@ -32,9 +33,9 @@ impl Found {
         })
     }
 
-    /// It may be found where so many acts were done, and the next one or a part of it.
-    fn fits(&self, done: u64) -> bool {
-        self.since <= done.saturating_add(1) && done < self.until
+    /// It may be found where so many acts were done, and so many begun.
+    fn fits(&self, acts: Acts) -> bool {
+        self.since <= acts.begun && acts.done < self.until
     }
 }
 
@@ -57,16 +58,42 @@ fn names_on(alloc: Global, disk: &mut MemoryDisk) -> Result<Vec<String>, Differs
     Ok(names)
 }
 
-/// How many acts were done before the disk failed.
-fn done_by(left: &Left) -> u64 {
+/// How many acts a session did before its disk failed, how many it began, and how many failed.
+#[derive(Clone, Copy)]
+struct Acts {
+    done: u64,
+    begun: u64,
+    failed: u64,
+}
+
+fn acts_of(left: &Left) -> Acts {
     let mut done = 0u64;
+    let mut failed = 0u64;
     for entry in &left.order {
-        if entry.kind == 5 || entry.kind == 6 {
-            break;
+        if entry.kind == 5 {
+            failed = failed.saturating_add(1);
+        } else if entry.kind != 6 && failed == 0 {
+            done = done.saturating_add(1);
         }
-        done = done.saturating_add(1);
     }
-    done
+    Acts {
+        done,
+        begun: done.saturating_add(failed.min(1)),
+        failed,
+    }
+}
+
+/// What a session is told whose disk fails, of which so many acts are done where it does not. Nothing, where it is not opened; and
+/// where each act was done, the lane's end failed, or the save of the book, of which nothing is told.
+fn compare_failed(left: &Left, alloc: Global, plan: &Plan, all: u64) -> Result<(), Differs> {
+    same(String::from_str(alloc, left.status.name())?, "DiskFault")?;
+    if left.report.not_opened.is_some() {
+        return same(shown(alloc, &left.told)?, "");
+    }
+    left.compare_usual(alloc, plan)?;
+    let acts = acts_of(left);
+    let failed = if acts.done < all { acts.failed } else { 0 };
+    plan.compare_failed(&left.told, failed, acts.done)
 }
 
 fn copy_of_remote(
@@ -108,18 +135,18 @@ impl Sweep {
         Ok(())
     }
 
-    /// The state that a later session is told of fits so many acts that were done.
+    /// The state that a later session is told of fits these acts.
     fn fits(
         &self,
         alloc: Global,
         told: &[u8],
         disk: &mut MemoryDisk,
-        done: u64,
+        acts: Acts,
     ) -> Result<bool, Differs> {
         let names = names_on(alloc, disk)?;
         for found in &self.founds {
             if found.plan.compare(told).is_ok() && names == found.names {
-                return Ok(found.fits(done));
+                return Ok(found.fits(acts));
             }
         }
         Ok(false)
@@ -131,14 +158,14 @@ impl Sweep {
         rt: &R,
         alloc: Global,
         disks: Disks,
-        done: u64,
+        acts: Acts,
     ) -> Result<(), Differs> {
         let Some(first) = self.founds.first() else {
             return Err(Differs::Unread);
         };
         let (left, mut disks) = serve_plan(rt, alloc, &first.plan, disks)?;
-        if !self.fits(alloc, &left.told, &mut disks.disk, done)? {
-            return Err(Differs::Found(text_of(alloc, &[done])?));
+        if !self.fits(alloc, &left.told, &mut disks.disk, acts)? {
+            return Err(Differs::Found(text_of(alloc, &[acts.done])?));
         }
         match &mut disks.remote {
             Some(remote) => same(first_other(alloc, &mut disks.disk, remote)?, ""),
@@ -152,40 +179,60 @@ impl Sweep {
         rt: &R,
         alloc: Global,
         disks: &Disks,
-        done: u64,
+        acts: Acts,
     ) -> Result<(), Differs> {
         for choice in 0..3u8 {
             let mut disk = disks.disk.crashed(alloc, choice)?;
             let remote = copy_of_remote(alloc, &disks.remote)?;
             self.has_whole(alloc, &mut disk)?;
-            self.try_later(rt, alloc, Disks { disk, remote }, done)?;
+            self.try_later(rt, alloc, Disks { disk, remote }, acts)?;
         }
         Ok(())
     }
 
-    /// The session fails as it is planned, or nothing of it does.
+    /// The session fails as it is planned, where so many acts are done if it does not; or nothing of it fails. Gives what it did.
     fn try_failing<R: Threads + Sync>(
         &self,
         rt: &R,
         alloc: Global,
         plan: &Plan,
         disks: &Disks,
-        is_failing: bool,
-    ) -> Result<(), Differs> {
+        all: Option<u64>,
+    ) -> Result<Acts, Differs> {
         let disk = copy_of(alloc, &disks.disk)?;
         let remote = copy_of_remote(alloc, &disks.remote)?;
         let (left, disks) = serve_plan(rt, alloc, plan, Disks { disk, remote })?;
-        if is_failing {
-            same(String::from_str(alloc, left.status.name())?, "DiskFault")?;
-            same(text_of(alloc, &[left.disk.faults])?, "1")?;
-            plan.compare_failed(&left.told, done_by(&left))?;
-        } else {
-            left.compare(alloc, plan, "Ok")?;
+        match all {
+            Some(all) => compare_failed(&left, alloc, plan, all)?,
+            None => left.compare(alloc, plan, "Ok")?,
         }
-        self.try_crashes(rt, alloc, &disks, done_by(&left))
+        let wanted = if all.is_some() { "1" } else { "0" };
+        same(text_of(alloc, &[left.disk.faults])?, wanted)?;
+        let acts = acts_of(&left);
+        self.try_crashes(rt, alloc, &disks, acts)?;
+        Ok(acts)
     }
 
-    /// Each of the session's calls fails, so many, and then it stops before that; and nothing fails.
+    /// The call with this number fails, and then the session stops before it.
+    fn try_call<R: Threads + Sync>(
+        &self,
+        rt: &R,
+        alloc: Global,
+        plan: &mut Plan,
+        disks: &Disks,
+        call: u64,
+        all: Option<u64>,
+    ) -> Result<Acts, Differs> {
+        plan.stops = None;
+        plan.fails = [call].to_vec(alloc)?;
+        let failed = self.try_failing(rt, alloc, plan, disks, all);
+        placed(alloc, failed, call)?;
+        plan.stops = Some(call);
+        let stopped = self.try_failing(rt, alloc, plan, disks, all);
+        placed(alloc, stopped, call)
+    }
+
+    /// Nothing fails where the call behind so many is to, and each of these fails.
     pub fn try_calls<R: Threads + Sync>(
         &self,
         rt: &R,
@@ -194,23 +241,18 @@ impl Sweep {
         disks: &Disks,
         calls: u64,
     ) -> Result<(), Differs> {
-        for call in 0..=calls {
-            plan.stops = None;
-            plan.fails = [call].to_vec(alloc)?;
-            let failed = self.try_failing(rt, alloc, plan, disks, call < calls);
-            placed(alloc, failed, call)?;
-            plan.stops = Some(call);
-            let stopped = self.try_failing(rt, alloc, plan, disks, call < calls);
-            placed(alloc, stopped, call)?;
+        let whole = self.try_call(rt, alloc, plan, disks, calls, None)?;
+        for call in 0..calls {
+            let _ = self.try_call(rt, alloc, plan, disks, call, Some(whole.done))?;
         }
         Ok(())
     }
 }
 
 /// What differs is told with the call.
-fn placed(alloc: Global, ended: Result<(), Differs>, call: u64) -> Result<(), Differs> {
+fn placed(alloc: Global, ended: Result<Acts, Differs>, call: u64) -> Result<Acts, Differs> {
     match ended {
-        Ok(()) => Ok(()),
+        Ok(acts) => Ok(acts),
         Err(differs) => Err(Differs::At(call, format!(in alloc; "{differs}")?)),
     }
 }
