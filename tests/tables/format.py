@@ -138,6 +138,8 @@ TABLES = {
         "REFUSALS": [
             frame(bad_frame(0)),
             frame(too_long(16778241)),
+            frame(wrong_state(0)),
+            frame(wrong_state(1)),
             frame(wrong_state(2)),
             frame(bad_name()),
             frame(group_busy(3)),
@@ -205,6 +207,7 @@ TABLES = {
             mismatch(3, "a"),
             mismatch(4),
             damaged(sha256(b"abc"), 0, sha256(b"")),
+            damaged(sha256(b"abc"), 3),
             bad_name() + b"\x00",
         ],
         "BAD_OTHER_REPLIES": [

@@ -159,9 +159,11 @@ static OTHER_REPLIES: [(u8, &[u8]); 11] = [
 ];
 
 /// Frames of refusals: the numbers 1 to 11.
-static REFUSALS: [&[u8]; 17] = [
+static REFUSALS: [&[u8]; 19] = [
     b"\x09\0\0\0\x01\0\0\0\0\0\0\0\0",
     b"\x05\0\0\0\x02\x01\x04\0\x01",
+    b"\x02\0\0\0\x03\0",
+    b"\x02\0\0\0\x03\x01",
     b"\x02\0\0\0\x03\x02",
     b"\x01\0\0\0\x04",
     b"\x05\0\0\0\x05\x03\0\0\0",
@@ -227,7 +229,7 @@ static BAD_SESSION_REPLIES: [(u8, &[u8]); 10] = [
 ];
 
 /// Bodies that are no refusals.
-static BAD_REFUSALS: [&[u8]; 12] = [
+static BAD_REFUSALS: [&[u8]; 13] = [
     b"",
     b"\x1f",
     b"\x03\x03",
@@ -239,6 +241,7 @@ static BAD_REFUSALS: [&[u8]; 12] = [
     b"\x13\x01a\x03",
     b"\x13\0\x04",
     b"\x17\xba\x78\x16\xbf\x8f\x01\xcf\xea\x41\x41\x40\xde\x5d\xae\x22\x23\xb0\x03\x61\xa3\x96\x17\x7a\x9c\xb4\x10\xff\x61\xf2\0\x15\xad\0\xe3\xb0\xc4\x42\x98\xfc\x1c\x14\x9a\xfb\xf4\xc8\x99\x6f\xb9\x24\x27\xae\x41\xe4\x64\x9b\x93\x4c\xa4\x95\x99\x1b\x78\x52\xb8\x55",
+    b"\x17\xba\x78\x16\xbf\x8f\x01\xcf\xea\x41\x41\x40\xde\x5d\xae\x22\x23\xb0\x03\x61\xa3\x96\x17\x7a\x9c\xb4\x10\xff\x61\xf2\0\x15\xad\x03\0\0\0\0\0\0\0\0\0\0\0\0\0\0\0\0\0\0\0\0\0\0\0\0\0\0\0\0\0\0\0\0",
     b"\x04\0",
 ];
 
@@ -289,9 +292,21 @@ fn try_command(rt: &impl Abort, alloc: Global, body: &[u8]) -> Result<(), Fail> 
     Ok(())
 }
 
+/// Each front of a body is no command, or the whole text of one.
+fn try_fronts(rt: &impl Abort, alloc: Global, body: &[u8]) -> Result<(), Fail> {
+    for len in 0..body.len() {
+        let front = &body[..len];
+        if let Ok(command) = Command::read(alloc, front)? {
+            same_at(rt, body, command.text(alloc)?.as_slice(), front);
+        }
+    }
+    Ok(())
+}
+
 fn try_commands(rt: &impl Abort, alloc: Global, bodies: &[&[u8]]) -> Result<(), Fail> {
     for body in bodies {
         try_command(rt, alloc, body)?;
+        try_fronts(rt, alloc, body)?;
     }
     Ok(())
 }
@@ -333,9 +348,24 @@ fn try_reply(rt: &impl Abort, alloc: Global, code: u8, frame: &[u8]) -> Result<(
     Ok(())
 }
 
+/// Each front of a reply's body is none to the code, or the whole body of one.
+fn try_short_replies(rt: &impl Abort, alloc: Global, code: u8, frame: &[u8]) -> Result<(), Fail> {
+    let body = frame.get(4..).ok_or("no frame")?;
+    for len in 0..body.len() {
+        let front = &body[..len];
+        if let Some(reply) = Reply::read(alloc, code, front)? {
+            let mut sink = MemSink::new(alloc, Vec::new(alloc));
+            reply.put(&mut sink)?;
+            same_at(rt, (code, body), sink.as_bytes().get(4..), Some(front));
+        }
+    }
+    Ok(())
+}
+
 fn try_replies(rt: &impl Abort, alloc: Global, replies: &[(u8, &[u8])]) -> Result<(), Fail> {
     for (code, frame) in replies {
         try_reply(rt, alloc, *code, frame)?;
+        try_short_replies(rt, alloc, *code, frame)?;
     }
     Ok(())
 }
@@ -351,6 +381,7 @@ fn replies(rt: HostRuntime) -> Result<(), Fail> {
 fn try_refusals(rt: &impl Abort, alloc: Global, frames: &[&[u8]]) -> Result<(), Fail> {
     for frame in frames {
         try_reply(rt, alloc, 99, frame)?;
+        try_short_replies(rt, alloc, 99, frame)?;
     }
     Ok(())
 }
@@ -385,5 +416,16 @@ fn no_replies(rt: HostRuntime) -> Result<(), Fail> {
     for body in &BAD_REFUSALS {
         try_no_reply(&rt, alloc, 10, body)?;
     }
+    Ok(())
+}
+
+/// A CHUNK, and the reply to a GET_CHUNK, of a byte more than a frame has.
+#[test]
+fn bodies_have_a_limit(rt: HostRuntime) -> Result<(), Fail> {
+    let alloc = rt.alloc();
+    let command = vec![in alloc; 14u8; 16_778_241]?;
+    same(&rt, Command::read(alloc, &command)?.err(), Some(BadFrame));
+    let reply = vec![in alloc; 0u8; 16_778_241]?;
+    same(&rt, Reply::read(alloc, 22, &reply)?.is_none(), true);
     Ok(())
 }
