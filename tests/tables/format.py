@@ -3,7 +3,7 @@ from session import *
 from tables.common import *
 
 TABLES = {
-    "format_tests/src/blobs.rt": {
+    "base_tests/src/formats/blobs.rt": {
         "KNOWN": [
             blob(b""),
             blob(b"abc"),
@@ -18,9 +18,9 @@ TABLES = {
             blob(b"", bytes([66, 171, 56, 7, 190, 131, 112, 162])),
             blob(b"123456789", crc=0xcbf43927),
         ],
-        "above_the_limit": [blob(b"")],
+        "longer": [blob(b"")],
     },
-    "format_tests/src/commands.rt": {
+    "base_tests/src/formats/commands.rt": {
         "WRITER_COMMANDS": [
             open_writer(A),
             previous("root.didx", 21),
@@ -227,7 +227,7 @@ TABLES = {
             frame(b""),
         ],
     },
-    "format_tests/src/dynamic.rt": {
+    "base_tests/src/formats/dynamic.rt": {
         "DE": [sha256(b"de")],
         "CSUM": [dynamic_csum([b"abc", b"de"])],
         "EMPTY_CSUM": [sha256(b"")],
@@ -239,7 +239,7 @@ TABLES = {
         ],
         "too_many_pieces": [DYNAMIC_MAGIC],
     },
-    "format_tests/src/fixed.rt": {
+    "base_tests/src/formats/fixed.rt": {
         "CSUM": [sha256(bytes([7]) * 32 + bytes([9]) * 32)],
         "PARTS": [
             FIXED_MAGIC,
@@ -250,10 +250,10 @@ TABLES = {
         "no_pieces": [sha256(b"")[:4]],
         "too_many_pieces": [FIXED_MAGIC],
     },
-    "format_tests/src/fixtures.rt": {
+    "base_tests/src/formats/fixtures.rt": {
         "ABC_BYTES": [sha256(b"abc")],
     },
-    "format_tests/src/frames.rt": {
+    "base_tests/src/formats/frames.rt": {
         "STREAM": [frame(bye()) + frame(b"") + frame(b"hello") + frame(b"ok")[:5]],
         "END": [b"k\x01\x04\x00\x01"],
         "frames_are_written": [
@@ -261,7 +261,7 @@ TABLES = {
             bad_frame(13941866496) + b"\x00",
         ],
     },
-    "format_tests/src/manifests.rt": {
+    "base_tests/src/formats/manifests.rt": {
         "no_text": [b'"\xff"'],
     },
 }

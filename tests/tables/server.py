@@ -8,43 +8,47 @@ LARGE_BLOBS = [blob(bytes((4 << 20) - 12)), blob(bytes((4 << 20) - 11))]
 # Long archives.
 LONG = [[b"x"] * count for count in (4096, 4097, 8193)]
 
+# The archive of two pieces that is sent, listed, and finished; and behind it a VERIFY.
+BOTH_CSUM = dynamic_csum([b"abc", b"de"])
+BACKUP = [
+    (open_writer(A), base()),
+    (new_dynamic("root.didx"), number(0)),
+    (chunk(b"abc"), done()),
+    (chunk(b"de"), done()),
+    (append(0, (b"abc", 0), (b"de", 3)), done()),
+    (close_index(0, 2, 5, BOTH_CSUM), done()),
+    (put_manifest(A, listed("root.didx", 5, BOTH_CSUM)), done()),
+    (finish(), done()),
+]
+# Two snapshots, the second over the first.
+TWO = [
+    (open_writer(A), base()),
+    (put_manifest(A), done()),
+    (finish(), done()),
+    (open_writer(A_LATER), base(A)),
+    (put_manifest(A_LATER), done()),
+    (finish(), done()),
+]
+
+
+def talk(*turns):
+    """What is sent, and what is told."""
+    return [frames(*(command for command, _ in turns)), frames(*(reply for _, reply in turns))]
+
+
 TABLES = {
-    "server_tests/src/books.rt": {
-        "ABC": [sha256(b"abc")],
-        "DE": [sha256(b"de")],
-        "ABC_CHUNK": [blob(b"abc")],
-        "KEPT": [book(10, (b"abc", 5))],
-    },
     "server_tests/src/lanes.rt": {
-        "FINISH": [frame(finish())],
-        "WRONG_STATE": [frame(wrong_state(0))],
-        "BYE": [frame(bye())],
-        "GC": [frame(gc())],
-        "DONE": [frame(done())],
-        "OPEN_WRITER": [frame(open_writer(A))],
-        "NO_BASE": [frame(base())],
-        "BLOB": [frame(put("a.conf.blob", b"123456789"))],
-        "OPEN_NEXT": [frame(open_writer(A_LATER))],
-        "BASE": [frame(base(A))],
-        "MANIFEST": [frame(put_manifest(A))],
-        "NEXT_MANIFEST": [frame(put_manifest(A_LATER))],
-        "PRUNE": [frame(prune("host/a", last=1))],
-        "DRY_PRUNE": [frame(prune("host/a", last=1, dry=1))],
-        "MARKS": [frame(marks((A_LATER, 1), (A, 0)))],
-        "HELD_MARKS": [frame(marks((A_LATER, 1), (A, 2)))],
-        "BOTH_KEYS": [frame(keys(A, A_LATER))],
-        "GROUP": [frame(group("host/a"))],
-        "KEYS": [frame(keys(A_LATER))],
-        "CLEAN": [frame(no_file())],
-        "AT_0": [frame(bad_frame(0))],
-        "AT_5": [frame(bad_frame(5))],
-        "UNKNOWN": [frame(b"c")],
-        "BROKEN": [
-            u32(3)[:2],
-            u32(3) + finish(),
-            u32(2**32 - 1) + b"\0",
-            frame(too_long(2**32 - 1)),
+        "GATED": [
+            frame(bye()),
+            frames(gc(), finish()),
+            frames(finish(), b"c"),
+            frames(*(command for command, _ in TWO), prune("host/a", last=1, dry=1), prune("host/a", last=1), group("host/a"), bye()),
         ],
+        "TWO_SENT": talk(*TWO)[:1],
+        "TWO_TOLD": talk(*TWO)[1:],
+        "PRUNED": [frames(prune("host/a", last=1), group("host/a"))],
+        "HELD": [frames(marks((A_LATER, 1), (A, 2)), keys(A, A_LATER))],
+        "REMOVED": [frames(marks((A_LATER, 1), (A, 0)), keys(A_LATER))],
     },
     "server_tests/src/serving.rt": {
         "READ_BACK": [frames(open_writer(A), put_manifest(A), finish(), open_reader(A), download(MANIFEST))],
@@ -61,43 +65,35 @@ TABLES = {
             ),
         ],
         "UNFINISHED_REPLIES": [frames(base(), done(), done(), base(A), done(), done(), done())],
+    },
+    "server_tests/src/serving/long.rt": {
         "LARGE": [
             frame(open_writer(A)) + u32(len(put_file("a.blob", blob(b""))) + (16 << 20) + 1) + put_file("a.blob", blob(b"")),
             frames(base(), bad_blob(6)),
             (frame(open_writer(A)) + frame(chunk(bytes(16 << 20))))[:82],
             frames(base(), done()),
         ],
-    },
-    "server_tests/src/serving/collections.rt": {
-        "GC": [frame(gc())],
-        "IN_ONE_SESSION": [frame(collected(1_100_000, 1_013_300, 0, 0, 2))],
-    },
-    "server_tests/src/serving/openings.rt": {
-        "TOLD": [frame(rows((A, 2)))],
-    },
-    "server_tests/src/serving/frames.rt": {
-        "OPEN": [frame(open_writer(A))],
-        "OPEN_LATER": [frame(open_writer(A_LATER))],
-        "NEW": [frame(new_dynamic("root.didx"))],
-        "SEND_ABC": [frame(chunk(b"abc"))],
-        "SEND_DE": [frame(chunk(b"de"))],
-        "APPEND_BOTH": [frame(append(0, (b"abc", 0), (b"de", 3)))],
-        "CLOSE_BOTH": [frame(close_index(0, 2, 5, dynamic_csum([b"abc", b"de"])))],
-        "LIST_BOTH": [frame(put_manifest(A, listed("root.didx", 5, dynamic_csum([b"abc", b"de"]))))],
-        "FINISH": [frame(finish())],
-        "DONE": [frame(done())],
-        "NO_BASE": [frame(base())],
-        "BASE": [frame(base(A))],
-        "CONF": [blob(b"123456789")],
-        "ROOT_LISTED": [blob(manifest(A, listed("root.didx", 5, dynamic_csum([b"abc", b"de"]))))],
-        "LIST": [frame(list_after())],
-        "FORGET": [frame(forget(A))],
-        "ONE_KEY": [frame(keys(A))],
+        "VERIFY": [frame(verify(A))],
+        "TWO_FILES": [frame(verified(2, 0, 0))],
         "SYNC": [frame(sync("host/a"))],
+        "ONE_KEY": [frame(keys(A))],
+        "LARGE_BLOBS": [
+            it
+            for file in LARGE_BLOBS
+            for it in (file[:12], blob(manifest(A, listed_blob("a.blob", file))))
+        ],
+        "LONG_ARCHIVES": [
+            it
+            for pieces in LONG
+            for it in (
+                dynamic_header(uuid_of(A, "root.didx"), NOW, dynamic_csum(pieces)),
+                blob(manifest(A, listed("root.didx", len(pieces), dynamic_csum(pieces)))),
+            )
+        ],
+        "long_index": [sha256(b"x")],
+        "long_remote": [blob(b"x")],
     },
     "server_tests/src/serving/memory.rt": {
-        "SHORT": [frame(no_memory())],
-        "SHORT_AND_DONE": [frames(no_memory(), done())],
         "OVER_BASE": [
             frames(
                 open_writer(A),
@@ -180,27 +176,14 @@ TABLES = {
                 rows((A, 1)),
             ),
         ],
-    },
-    "server_tests/src/serving/pulls.rt": {
-        "X_CHUNK": [blob(b"x")],
-        "X_DIGEST": [sha256(b"x")],
-        "LONG_ARCHIVES": [
-            it
-            for pieces in LONG
-            for it in (
-                dynamic_header(uuid_of(A, "root.didx"), NOW, dynamic_csum(pieces)),
-                blob(manifest(A, listed("root.didx", len(pieces), dynamic_csum(pieces)))),
-            )
-        ],
-    },
-    "server_tests/src/serving/verifies.rt": {
-        "VERIFY": [frame(verify(A))],
-        "NO_FAULT": [frame(verified(2, 2, 5))],
-        "LARGE_BLOBS": [
-            it
-            for file in LARGE_BLOBS
-            for it in (file[:12], blob(manifest(A, listed_blob("a.blob", file))))
-        ],
-        "TWO_FILES": [frame(verified(2, 0, 0))],
+        "SHORT": [frame(no_memory())],
+        "SHORT_AND_DONE": [frames(no_memory(), done())],
+        "VERIFIED": talk(*BACKUP, (verify(A), verified(2, 2, 5)), (forget(A), done())),
+        "PULLED": talk((sync("host/a"), keys(A)), (open_writer(A_LATER), base(A))),
+        "NO_BASE": [frame(base())],
+        "COLLECTED": talk(*BACKUP, (forget(A), done()), (gc(), collected(1_100_000, 1_013_300, 0, 0, 2))),
+        "OPENED": [blob(b"123456789")],
+        "ROOT_LISTED": [blob(manifest(A, listed("root.didx", 5, BOTH_CSUM)))],
+        "LISTED": talk((list_after(), rows((A, 2)))),
     },
 }

@@ -1,5 +1,5 @@
 -- What is asked of a writer is what stands in its state, whether a file is pending or not.
-use Rattle.std.proofs.Common.{◌≡◌, ℕ, List, Option, Some, None, length, refl, ap, ◌∙◌}
+use Rattle.std.proofs.Common.{◌≡◌, ℕ, List, Option, Some, None, refl, ap, ◌∙◌}
 use Rattle.std.specs.Prelude.{is_some, option_map}
 use Rattle.backup_session.specs.declared.state.Pending.{Pending}
 use Rattle.backup_session.specs.Session.{Pool, Writing, Session, IsPool, length_at, without_length, settled}
@@ -18,10 +18,6 @@ start_is (Some p) w = refl
 pub base_is : (p : Option Pending) (w : Writing) → w.base ≡ ((session_of p w).writer).base
 base_is None w = refl
 base_is (Some p) w = refl
-
-pub begun_is : (p : Option Pending) (w : Writing) → length w.begun ≡ length ((session_of p w).writer).begun
-begun_is None w = refl
-begun_is (Some p) w = refl
 
 pub pool_is : (digest : List ℕ) (p : Option Pending) (w : Writing) → is_some (length_at w.pool digest) ≡ is_some (length_at ((session_of p w).writer).pool digest)
 pool_is digest None w = refl

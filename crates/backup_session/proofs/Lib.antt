@@ -7,5 +7,6 @@ mod FinishChecks
 mod StateSteps
 mod Squares
 mod Plainly
+mod Stops
 mod Lifting
 pub mod Asked

@@ -1,6 +1,6 @@
 -- From what is kept to the session.
 use Rattle.std.proofs.Common.{◌≡◌, ℕ, ◌<◌, ◌≤◌, Bool, true, false, cond, List, [], ◌∷◌, ◌++◌, drop, length, get_or, zero, suc, map, Some, None, Ok, Err, refl, sym, ap, ap₂, subst, ◌∙◌, arith}
-use Rattle.std.specs.Prelude.{Option, Result, OnOk, OnErr}
+use Rattle.std.specs.Prelude.{Option, Result, IsErrAnd, OnOk, OnErr}
 use Rattle.std.specs.FinMap.{entries, insert}
 use Rattle.known_chunks.specs.Lengths.{Lengths, with_lengths}
 use Rattle.std.specs.List.{AllByRecursion}
@@ -11,30 +11,30 @@ use Rattle.store_model.specs.Store.{Writer}
 use Rattle.store_model.specs.WriterSteps.{new_writer, with_pool}
 use Rattle.store_model.specs.WriterCalls as plain
 use Rattle.backup_session.specs.declared.state.Pending.{Pending}
-use Rattle.backup_session.specs.Session.{Pool, IsLength, Writing, Session, settled, held}
+use Rattle.backup_session.specs.Session.{Pool, IsLength, Writing, Session, StopsBy, settled, held}
 use Rattle.backup_session.specs.Steps as steps
 use Rattle.backup_session.specs.Shown.{known_of, shown, Shows}
 use Rattle.backup_session.specs.Answers.{Leaves, Does}
 use Rattle.backup_session.specs.Kept.{before, after, session_of, text_of, HasLengths, LeavesPending}
+use Rattle.backup_session.proofs.Stops.{does_stop, stops_by}
 use Rattle.backup_session.proofs.Pools.{entries-empty, has_lengths-insert, has_lengths-all, pool_of-more, pool_of-all}
 
 pub not_pending : (p : Option Pending) (w : Writing) → (session_of p w).pending ≡ None → p ≡ None
 not_pending None w e = refl
 not_pending (Some p) w e = cc
 
-module _ {A B E : Type 0} (show : A → B) (step : Writing → Result (Writing × B) Refusal) (old new : Writing) where
-  settles : (result : Result (Result A Refusal) E) → Does show (λ w. w) old new result (step old) → Does show settled (settled old) (settled new) result (step old)
-  settles (Err e) does = ap settled does
-  settles (Ok (Err r)) does = (does.0, ap settled does.1)
-  settles (Ok (Ok a)) does = record { after = does.after; stepped = does.stepped; left = ap settled does.left }
+module _ {A B : Type 0} (show : A → B) (step : Writing → Result (Writing × B) Refusal) (old new : Writing) where
+  settles : (result : Result A Refusal) → Does show (λ w. w) old new result (step old) → Does show settled (settled old) (settled new) result (step old)
+  settles (Err r) does = (does.0, ap settled does.1)
+  settles (Ok a) does = record { after = does.after; stepped = does.stepped; left = ap settled does.left }
 
-  at_none : (p : Option Pending) (result : Result (Result A Refusal) E) → p ≡ None → Does show (λ w. w) old new result (step old)
+  at_none : (p : Option Pending) (result : Result A Refusal) → p ≡ None → Does show (λ w. w) old new result (step old)
       → Does show settled (session_of p old) (session_of p new) result (step (session_of p old).writer)
   at_none None result e does = settles result does
   at_none (Some p) result e does = cc
 
   -- what is done to what is kept is done to the session
-  pub lifted : (p : Option Pending) (s : Session) → session_of p old ≡ s → s.pending ≡ None → (result : Result (Result A Refusal) E)
+  pub lifted : (p : Option Pending) (s : Session) → session_of p old ≡ s → s.pending ≡ None → (result : Result A Refusal)
       → Does show (λ w. w) old new result (step old) → Does show settled s (session_of p new) result (step s.writer)
   lifted p s is none result does =
       let free = not_pending p old (ap (λ (t : Session). t.pending) is ∙ none) in
@@ -126,6 +126,14 @@ pub held_leaves : {B : Type 0} (step : Writing → Result (Writing × B) Refusal
 held_leaves step p old new s q b is none told =
     let same = writer_is p old s is none in
     record { after = after q new; stepped = ap step (sym same) ∙ told.stepped; left = ap (λ v. held v (after q new)) (told.back ∙ same) }
+
+-- what the call stops by, the session's call stops by
+pub session_stop : {A B : Type 0} (show : A → B) (step : Writing → Result (Writing × B) Refusal) (p : Option Pending) (old new : Writing) (s : Session) (result : Result A Refusal) (stop : Refusal)
+    → session_of p old ≡ s → s.pending ≡ None → IsErrAnd result (λ e. e ≡ stop) → StopsBy old new (step old) stop → Does show (held s.writer) s (session_of p new) result (step s.writer)
+session_stop show step p old new s result stop is none same by =
+    does_stop show (held s.writer) s (session_of p new) result (step s.writer) stop same
+    (stops_by (λ refusal. step old ≡ Err refusal) s (session_of p new) (step s.writer) stop (ap (session_of p) by.1 ∙ is)
+    (λ refusal told. ap step (sym (writer_is p old s is none)) ∙ told) by.0)
 
 pub text_kept : (b : Bool) (text : List ℕ) (old : Option (List ℕ)) → cond b (Some text) old ≡ text_of (cond b (Some text) None) old
 text_kept true text old = refl

@@ -3,6 +3,7 @@ use Rattle.std.proofs.Common.{◌≡◌, Ok, Err, refl, sym, ap, ◌∙◌}
 use Rattle.std.specs.Prelude.{Result, MatchResult}
 use Rattle.std.specs.List.{AllByRecursion}
 use Rattle.store_types.specs.declared.refusal.Refusal.{Refusal}
+use Rattle.store_stops.proofs.OutcomeLemmas.{weaker_cause}
 use Rattle.store_model.specs.Store.{Writer}
 use Rattle.backup_session.specs.Session.{Writing, Session}
 use Rattle.backup_session.specs.Shown.{IsOpen, shown}
@@ -32,7 +33,8 @@ module _ {A B : Type 0} (show : A → B) (leave : Writing → Session) (old new 
         shows = record { same = sym (ap (λ x. x.0) pair); begun = h.1 };
       }
 
-  pub plainly : {E : Type 0} (result : Result (Result A Refusal) E) → Does show leave old new result (step old.writer) → DoesPlainly show leave old new result plain
-  plainly (Err e) does w shows = tt
-  plainly (Ok (Err refusal)) does w shows = same_refusal w refusal (sym (ap step shows.same) ∙ does.0) (plain w) refl (agrees w shows.begun)
-  plainly (Ok (Ok a)) does w shows = same_answer w a does.after (sym (ap step shows.same) ∙ does.stepped) does.left (plain w) refl (agrees w shows.begun)
+  pub plainly : (result : Result A Refusal) → Does show leave old new result (step old.writer) → DoesPlainly show leave old new result plain
+  plainly (Err stop) does w shows =
+      weaker_cause (λ refusal. step old.writer ≡ Err refusal) (λ refusal. plain w ≡ Err refusal) stop
+      (λ refusal told. same_refusal w refusal (sym (ap step shows.same) ∙ told) (plain w) refl (agrees w shows.begun)) does.0
+  plainly (Ok a) does w shows = same_answer w a does.after (sym (ap step shows.same) ∙ does.stepped) does.left (plain w) refl (agrees w shows.begun)

@@ -7,6 +7,7 @@ use Rattle.std.specs.Str.{bytes_eq}
 use Rattle.std.proofs.lemmas.Bool.{leb-true, ltb-true, eqb-true}
 use Rattle.std.proofs.lemmas.List.{length-map}
 use Rattle.store_types.specs.declared.names.Digest32.{Digest32}
+use Rattle.store_stops.specs.Outcomes.{IfAnswered}
 use Rattle.store_types.specs.declared.refusal.Refusal.{Refusal}
 use Rattle.store_types.specs.declared.refusal.Refusal.TheVariants.{BadName, NoFile, Exists, WrongSize, TooMany}
 use Rattle.store_types.specs.FileNames.{is_fixed_name, is_dynamic_name}
@@ -106,13 +107,12 @@ fits_index : (x : OpenIndex) (ks : List Known) → count_of x + length ks ≤ en
 fits_index (Dynamic x) ks room fits all = record { room = room; lengths = all }
 fits_index (Fixed x) ks room fits all = fits_fixed x.size x.chunk_size (fixed_end_of x) ks fits all
 
-pub fits_told : {V E : Type 0} (items : V → List Known) (pool : Pool) (x : OpenIndex) (es : List (Digest32 × ℕ)) (layout : Layout) (start : ℕ) → HasLengths pool
-    → count_of x + length es ≤ entry_limit → layout ≡ layout_of x → start ≡ end_of x → (result : Result (Result V Refusal) E)
-    → IfOk result (λ told. MatchResult told (λ v. pieces_named (steps.known_in pool) (λ k. k.1) layout 0 start es ≡ Ok (items v)) (λ r. pieces_named (steps.known_in pool) (λ k. k.1) layout 0 start es ≡ Err r))
-    → IfOk result (λ told. IfOk told (λ v. FitsPieces x (items v)))
+pub fits_told : {V : Type 0} (items : V → List Known) (pool : Pool) (x : OpenIndex) (es : List (Digest32 × ℕ)) (layout : Layout) (start : ℕ) → HasLengths pool
+    → count_of x + length es ≤ entry_limit → layout ≡ layout_of x → start ≡ end_of x → (result : Result V Refusal)
+    → IfAnswered result (λ told. MatchResult told (λ v. pieces_named (steps.known_in pool) (λ k. k.1) layout 0 start es ≡ Ok (items v)) (λ r. pieces_named (steps.known_in pool) (λ k. k.1) layout 0 start es ≡ Err r))
+    → IfOk result (λ v. FitsPieces x (items v))
 fits_told items pool x es layout start has room cut at (Err e) is = tt
-fits_told items pool x es layout start has room cut at (Ok (Err r)) is = tt
-fits_told items pool x es layout start has room cut at (Ok (Ok v)) is =
+fits_told items pool x es layout start has room cut at (Ok v) is =
     let found = named_found (steps.known_in pool) (λ k. k.1) layout IsLength in_range 0 start es (items v) is in
     let fits = named_fits (steps.known_in pool) (λ k. k.1) layout 0 start es (items v) is in
     let there : FitsAt (λ k. k.1) (layout_of x) (end_of x) (items v) =

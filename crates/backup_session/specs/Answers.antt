@@ -1,8 +1,9 @@
 -- What a call that may be refused, or may want memory, gives and leaves.
-use Rattle.std.specs.Prelude.{◌≡◌, ℕ, List, map, length, None, Result, Ok, Err, MatchResult, IfOk, IsSome, Vec}
+use Rattle.std.specs.Prelude.{◌≡◌, ℕ, List, map, length, None, Result, Ok, Err, MatchResult, IsSome, Vec}
 use Rattle.std.specs.declared.alloc.Global.{Global}
 use Rattle.sha2.specs.Sha256.{sha256}
 use Rattle.store_types.specs.declared.names.Digest32.{Digest32}
+use Rattle.store_stops.specs.Outcomes.{IfAnswered}
 use Rattle.store_types.specs.declared.refusal.Refusal.{Refusal}
 use Rattle.store_types.specs.declared.refusal.Refusal.TheVariants.{BadName}
 use Rattle.store_types.specs.Chain.Refusing.{◌>>=◌, unless}
@@ -15,7 +16,8 @@ use Rattle.store_model.specs.Uploads.{want_room}
 use Rattle.store_model.specs.WriterCalls as calls
 use Rattle.store_model.specs.WriterSteps.{with_pool}
 use Rattle.dynamic_index.specs.Writing.{Known, known_of}
-use Rattle.backup_session.specs.Session.{Writing, Session, IsPool, length_at, settled}
+use Rattle.backup_session.specs.declared.index.OpenIndex.{OpenIndex}
+use Rattle.backup_session.specs.Session.{Pool, Writing, Session, StopsBy, IsPool, length_at, settled}
 use Rattle.backup_session.specs.Shown.{Shows, known_of as known_piece}
 use Rattle.backup_session.specs.Steps as steps
 
@@ -25,26 +27,21 @@ pub record Leaves {S B : Type 0} (leave : Writing → S) (new : S) (step : Resul
   pub stepped : step ≡ Ok (after, answer)
   pub left : new ≡ leave after
 
--- The answer is the step's. A refusal leaves all as it was.
-abbrev pub Tells : {S A B : Type 0} → (A → B) → (Writing → S) → S → S → Result (Writing × B) Refusal → Result A Refusal → Type 0
-Tells show leave old new step told =
-    MatchResult told (λ a. Leaves leave new step (show a)) (λ refusal. (step ≡ Err refusal) × (new ≡ old))
-
--- where memory is wanting all is as it was too
-abbrev pub Does : {S A B E : Type 0} → (A → B) → (Writing → S) → S → S → Result (Result A Refusal) E → Result (Writing × B) Refusal → Type 0
-Does show leave old new result step = MatchResult result (Tells show leave old new step) (λ _. new ≡ old)
+-- The answer is the step's. A refusal, and want of memory, leave all as it was.
+abbrev pub Does : {S A B : Type 0} → (A → B) → (Writing → S) → S → S → Result A Refusal → Result (Writing × B) Refusal → Type 0
+Does show leave old new result step = MatchResult result (λ a. Leaves leave new step (show a)) (StopsBy old new step)
 
 -- a file is pending exactly at Ok
-abbrev pub IsPendingAt : {A E : Type 0} → Session → Result (Result A Refusal) E → Type 0
-IsPendingAt s result = MatchResult result (λ told. MatchResult told (λ a. IsSome s.pending) (λ refusal. s.pending ≡ None)) (λ _. s.pending ≡ None)
+abbrev pub IsPendingAt : {A E : Type 0} → Session → Result A E → Type 0
+IsPendingAt s result = MatchResult result (λ a. IsSome s.pending) (λ stop. s.pending ≡ None)
 
 -- the answer is the manifest, or the refusal
 abbrev pub TellsManifest : Result listing.Manifest Refusal → Result Manifest Refusal → Type 0
 TellsManifest step told = MatchResult told (λ m. step ≡ Ok (manifest_view m)) (λ refusal. step ≡ Err refusal)
 
 -- so it is where memory is not wanting
-abbrev pub GivesManifest : {E : Type 0} → Result listing.Manifest Refusal → Result (Result Manifest Refusal) E → Type 0
-GivesManifest step result = IfOk result (λ checked. TellsManifest step checked)
+abbrev pub GivesManifest : Result listing.Manifest Refusal → Result Manifest Refusal → Type 0
+GivesManifest step result = IfAnswered result (TellsManifest step)
 
 -- the answer is the length of the piece that the entry names, or the refusal
 abbrev pub TellsPiece : Digest32 × ℕ → Result Known Refusal → Result ℕ Refusal → Type 0
@@ -53,6 +50,10 @@ TellsPiece entry step told = MatchResult told (λ len. step ≡ Ok (known_of (en
 -- the answer is the pieces, or the refusal
 abbrev pub TellsPieces : Result (List Known) Refusal → Result (Vec (Digest32 × ℕ) Global) Refusal → Type 0
 TellsPieces step told = MatchResult told (λ pieces. step ≡ Ok (map known_of pieces.items)) (λ refusal. step ≡ Err refusal)
+
+-- so it is of the entries of an APPEND to an index, where memory is not wanting
+abbrev pub NamesPieces : Pool → OpenIndex → List (Digest32 × ℕ) → Result (Vec (Digest32 × ℕ) Global) Refusal → Type 0
+NamesPieces pool index entries result = IfAnswered result (TellsPieces (steps.pieces_for pool index entries))
 
 -- ---- pieces that may be named
 
@@ -88,9 +89,9 @@ TellsPlainly show leave new step told =
     MatchResult told (λ a. LeavesShown leave new step (show a)) (λ refusal. step ≡ Err refusal)
 
 -- of each plain writer that the session shows, the answer is the plain step's, and what is left shows the writer afterwards
-abbrev pub DoesPlainly : {A B E : Type 0} → (A → B) → (Writing → Session) → Session → Session → Result (Result A Refusal) E → (Writer → Result (Writer × B) Refusal) → Type 0
+abbrev pub DoesPlainly : {A B : Type 0} → (A → B) → (Writing → Session) → Session → Session → Result A Refusal → (Writer → Result (Writer × B) Refusal) → Type 0
 DoesPlainly show leave old new result step =
-    (w : Writer) → Shows old.writer w → MatchResult result (TellsPlainly show leave new (step w)) (λ _. Unit {0})
+    (w : Writer) → Shows old.writer w → IfAnswered result (TellsPlainly show leave new (step w))
 
 -- of each plain writer that the session shows: the plain pieces may be named too
 abbrev pub ShowsPieces : Session → Session → List Known → Type 0

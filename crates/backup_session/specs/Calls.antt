@@ -18,11 +18,11 @@ use Rattle.backup_session.specs.Kept.{HoldsBack, open_of}
 -- ---- what is kept in memory
 
 -- the answer is the step's, and the step is done
-abbrev pub StateDoes : {A E : Type 0} → Writing → Writing → Result (Result A Refusal) E → (Writing → Result (Writing × A) Refusal) → Type 0
+abbrev pub StateDoes : {A : Type 0} → Writing → Writing → Result A Refusal → (Writing → Result (Writing × A) Refusal) → Type 0
 StateDoes old new result step = Does (λ a. a) (λ w. w) old new result (step old)
 
 -- a fixed index is begun
-abbrev pub StateBeginsFixed : {E : Type 0} → Writing → Writing → List ℕ → ℕ → ℕ → ℕ → Result (Result ℕ Refusal) E → Type 0
+abbrev pub StateBeginsFixed : Writing → Writing → List ℕ → ℕ → ℕ → ℕ → Result ℕ Refusal → Type 0
 StateBeginsFixed old new name size chunk_size moment result = StateDoes old new result (λ w. steps.new_fixed w name size chunk_size moment)
 
 -- the index is as it is said to be, and the answer is its file's text and what a manifest lists of it; or the refusal
@@ -32,45 +32,45 @@ TellsClosed b count size csum told = MatchResult told
     (λ refusal. steps.want_close b.index count size csum ≡ Err refusal)
 
 -- an index is closed, and its file held back
-abbrev pub StateCloses : {E : Type 0} → Writing → Writing → ℕ → ℕ → ℕ → Digest32 → Result (Result (Vec ℕ Global × Pending) Refusal) E → Type 0
+abbrev pub StateCloses : Writing → Writing → ℕ → ℕ → ℕ → Digest32 → Result (Vec ℕ Global × Pending) Refusal → Type 0
 StateCloses old new number count size csum result =
     HoldsBack (λ (a : Vec ℕ Global × Pending). a.0.items) (λ (a : Vec ℕ Global × Pending). a.1) old new result (steps.close_index old number count size csum)
 
 -- a blob is taken, and its file held back
-abbrev pub StateTakesBlob : {E : Type 0} → Writing → Writing → List ℕ → List ℕ → Result (Result Pending Refusal) E → Type 0
+abbrev pub StateTakesBlob : Writing → Writing → List ℕ → List ℕ → Result Pending Refusal → Type 0
 StateTakesBlob old new name text result = HoldsBack (λ (p : Pending). tt) (λ (p : Pending). p) old new result (steps.blob old name text)
 
 -- ---- a session
 
 -- the answer is the step's, and the step is done, with no file pending
-abbrev pub Settles : {A E : Type 0} → Session → Session → Result (Result A Refusal) E → (Writing → Result (Writing × A) Refusal) → Type 0
+abbrev pub Settles : {A : Type 0} → Session → Session → Result A Refusal → (Writing → Result (Writing × A) Refusal) → Type 0
 Settles old new result step = Does (λ a. a) settled old new result (step old.writer)
 
 -- so it is of each plain writer that the session shows
-abbrev pub Mirrors : {A E : Type 0} → Session → Session → Result (Result A Refusal) E → (Writer → Result (Writer × A) Refusal) → Type 0
+abbrev pub Mirrors : {A : Type 0} → Session → Session → Result A Refusal → (Writer → Result (Writer × A) Refusal) → Type 0
 Mirrors old new result step = DoesPlainly (λ a. a) settled old new result step
 
 -- a fixed index is begun
-abbrev pub BeginsFixed : {E : Type 0} → Session → Session → List ℕ → ℕ → ℕ → ℕ → Result (Result ℕ Refusal) E → Type 0
+abbrev pub BeginsFixed : Session → Session → List ℕ → ℕ → ℕ → ℕ → Result ℕ Refusal → Type 0
 BeginsFixed old new name size chunk_size moment result = Settles old new result (λ w. steps.new_fixed w name size chunk_size moment)
 
-abbrev pub BeginsFixedPlainly : {E : Type 0} → Session → Session → List ℕ → ℕ → ℕ → ℕ → Result (Result ℕ Refusal) E → Type 0
+abbrev pub BeginsFixedPlainly : Session → Session → List ℕ → ℕ → ℕ → ℕ → Result ℕ Refusal → Type 0
 BeginsFixedPlainly old new name size chunk_size moment result = Mirrors old new result (λ w. plain.new_fixed w name size chunk_size moment)
 
 -- an index is closed, and its file is pending
-abbrev pub Closes : {E : Type 0} → Session → Session → ℕ → ℕ → ℕ → Digest32 → Result (Result (Vec ℕ Global) Refusal) E → Type 0
+abbrev pub Closes : Session → Session → ℕ → ℕ → ℕ → Digest32 → Result (Vec ℕ Global) Refusal → Type 0
 Closes old new number count size csum result =
     Does (λ (text : Vec ℕ Global). text.items) (held old.writer) old new result (steps.close_index old.writer number count size csum)
 
-abbrev pub ClosesPlainly : {E : Type 0} → Session → Session → ℕ → ℕ → ℕ → Digest32 → Result (Result (Vec ℕ Global) Refusal) E → Type 0
+abbrev pub ClosesPlainly : Session → Session → ℕ → ℕ → ℕ → Digest32 → Result (Vec ℕ Global) Refusal → Type 0
 ClosesPlainly old new number count size csum result =
     DoesPlainly (λ (text : Vec ℕ Global). text.items) (held old.writer) old new result (λ w. plain.close_index w number count size csum)
 
 -- a blob is taken, and its file is pending
-abbrev pub TakesBlob : {E : Type 0} → Session → Session → List ℕ → List ℕ → Result (Result (Unit {0}) Refusal) E → Type 0
+abbrev pub TakesBlob : Session → Session → List ℕ → List ℕ → Result (Unit {0}) Refusal → Type 0
 TakesBlob old new name text result = Does (λ u. u) (held old.writer) old new result (steps.blob old.writer name text)
 
 -- whatever data the text is of
-abbrev pub TakesBlobPlainly : {E : Type 0} → Session → Session → List ℕ → List ℕ → Result (Result (Unit {0}) Refusal) E → Type 0
+abbrev pub TakesBlobPlainly : Session → Session → List ℕ → List ℕ → Result (Unit {0}) Refusal → Type 0
 TakesBlobPlainly old new name text result =
     (contents : List ℕ) → text ≡ blob_text contents → DoesPlainly (λ u. u) (held old.writer) old new result (λ w. plain.put_data w name contents)

@@ -1,5 +1,5 @@
 -- What a session keeps in memory.
-use Rattle.std.specs.Prelude.{◌≡◌, ℕ, ◌<◌, ◌≤◌, Bool, false, List, [], ◌∷◌, map, length, Option, Some, None, Result, Ok, Err, IsOk, MatchResult}
+use Rattle.std.specs.Prelude.{◌≡◌, ℕ, ◌<◌, ◌≤◌, Bool, false, List, [], ◌∷◌, map, length, Option, Some, None, Result, Ok, IsOk, MatchResult}
 use Rattle.std.specs.List.{list_any, remove}
 use Rattle.std.specs.Str.{bytes_eq}
 use Rattle.store_types.specs.Names.{IsKey, name_lt}
@@ -8,7 +8,7 @@ use Rattle.blob_codec.specs.Blob.{data_of}
 use Rattle.manifest.specs.declared.facts.FileFact.{FileFact}
 use Rattle.backup_session.specs.declared.state.Begun.{Begun}
 use Rattle.backup_session.specs.declared.state.Pending.{Pending}
-use Rattle.backup_session.specs.Session.{Pool, length_at, Open, Writing, Session, settled, held}
+use Rattle.backup_session.specs.Session.{Pool, length_at, Open, Writing, Session, StopsBy, settled, held}
 
 abbrev pub open_of : Begun → Open
 open_of b = record { number = b.number; name = b.name; index = b.index }
@@ -91,9 +91,5 @@ pub record LeavesPending {B : Type 0} (old new : Writing) (p : Pending) (step : 
   pub back : before p new ≡ old
   pub placed : IsPlaced (Some p) new
 
-abbrev pub TellsPending : {A B : Type 0} → (A → B) → (A → Pending) → Writing → Writing → Result (Writing × B) Refusal → Result A Refusal → Type 0
-TellsPending show pending old new step told =
-    MatchResult told (λ a. LeavesPending old new (pending a) step (show a)) (λ refusal. (step ≡ Err refusal) × (new ≡ old))
-
-abbrev pub HoldsBack : {A B E : Type 0} → (A → B) → (A → Pending) → Writing → Writing → Result (Result A Refusal) E → Result (Writing × B) Refusal → Type 0
-HoldsBack show pending old new result step = MatchResult result (TellsPending show pending old new step) (λ _. new ≡ old)
+abbrev pub HoldsBack : {A B : Type 0} → (A → B) → (A → Pending) → Writing → Writing → Result A Refusal → Result (Writing × B) Refusal → Type 0
+HoldsBack show pending old new result step = MatchResult result (λ a. LeavesPending old new (pending a) step (show a)) (StopsBy old new step)

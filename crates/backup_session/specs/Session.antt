@@ -1,8 +1,10 @@
 -- A writer with digests in place of pieces.
-use Rattle.std.specs.Prelude.{◌≡◌, ℕ, ◌≤◌, List, [], ◌∷◌, if◌then◌else◌, Option, Some, None, is_some}
+use Rattle.std.specs.Prelude.{◌≡◌, ℕ, ◌≤◌, List, [], ◌∷◌, if◌then◌else◌, Option, Some, None, Result, Err, is_some}
 use Rattle.std.specs.FinMap.{FinMap, find, put, remove, entries, from_entries}
 use Rattle.store_types.specs.declared.names.SnapshotKey.{SnapshotKey}
+use Rattle.store_types.specs.declared.refusal.Refusal.{Refusal}
 use Rattle.store_types.specs.Names.{text_cmp}
+use Rattle.store_stops.specs.Outcomes.{OnCause}
 use Rattle.manifest.specs.declared.facts.FileFact.{FileFact}
 use Rattle.backup_session.specs.declared.index.OpenIndex.{OpenIndex}
 
@@ -66,6 +68,10 @@ settled w = record { writer = w; pending = None }
 -- a file is
 abbrev pub held : Writing → Writing → Session
 held w after = record { writer = w; pending = Some after }
+
+-- A call stops by the step's refusal, or since memory is wanting. All is as it was.
+abbrev pub StopsBy : {S B : Type 0} → S → S → Result (Writing × B) Refusal → Refusal → Type 0
+StopsBy old new step refusal = OnCause (λ cause. step ≡ Err cause) refusal × (new ≡ old)
 
 -- what keeping the pending file makes of a session
 abbrev pub kept : Session → Session

@@ -2,17 +2,18 @@
 
 ghost use Rattle.std.specs.Prelude.{◌≡◌, ◌≤◌, ◌*◌, length, map, IfErr, IfOk};
 ghost use Rattle.std.specs.FinMap.{entries as pairs};
+ghost use Rattle.store_stops.specs.Outcomes.{IfAnswered};
 ghost use Rattle.store_model.specs.Archives.{want_entries as entries_fit};
 ghost use Rattle.dynamic_index.specs.Writing.{known_of};
 ghost use Rattle.wire_commands.specs.HasText.{FitsRefusal};
-ghost use Rattle.backup_session.specs.Answers.{TellsPiece, TellsPieces};
+ghost use Rattle.backup_session.specs.Answers.{NamesPieces, TellsPiece, TellsPieces};
 ghost use Rattle.backup_session.specs.Indexes.{FitsPieces};
-ghost use Rattle.backup_session.specs.Steps.{piece_in, pieces_in, pieces_for as pieces_of};
+ghost use Rattle.backup_session.specs.Steps.{piece_in, pieces_in};
 ghost use Rattle.backup_session.specs.Kept.{HasLengths};
 
 use crate::index::{Layout, OpenIndex};
 use known_chunks::Known;
-use std::alloc::{AllocError, Global};
+use std::alloc::Global;
 use store_types::{Digest32, Refusal};
 
 /// So many entries fit a command, and an index that has so many pieces.
@@ -68,26 +69,22 @@ fn pieces_named(
     layout: Layout,
     start: u64,
     entries: &[(Digest32, u64)],
-) -> Result<Result<Vec<(Digest32, u32)>, Refusal>, AllocError>
+) -> Result<Vec<(Digest32, u32)>, Refusal>
     requires count { length entries.now ≤ 4096 }
     requires start { start ≤ 1_048_576 * 16_777_216 }
     requires lengths { HasLengths (pairs pool.now) }
-    ensures exact { IfOk result (TellsPieces (pieces_in pool.now layout start entries.now)) }
-    ensures text { IfOk result (λ told. IfErr told FitsRefusal) }
+    ensures exact { IfAnswered result (TellsPieces (pieces_in pool.now layout start entries.now)) }
+    ensures text { IfErr result FitsRefusal }
 {
     let mut pieces = Vec::new(alloc);
     let mut end = start;
     for entry in entries {
         let place = pieces.len() as u32;
-        match piece_named(pool, layout, place, end, entry) {
-            Ok(length) => {
-                pieces.push((entry.0, length))?;
-                end += length as u64;
-            }
-            Err(refusal) => return Ok(Err(refusal)),
-        }
+        let length = piece_named(pool, layout, place, end, entry)?;
+        pieces.push((entry.0, length))?;
+        end += length as u64;
     }
-    Ok(Ok(pieces))
+    Ok(pieces)
 }
 
 /// The pieces that an APPEND to an index names, or its first refusal: more than 4,096 entries, more than 1,048,576 pieces
@@ -98,14 +95,12 @@ pub fn pieces_for(
     pool: &Known,
     index: &OpenIndex,
     entries: &[(Digest32, u64)],
-) -> Result<Result<Vec<(Digest32, u32)>, Refusal>, AllocError>
+) -> Result<Vec<(Digest32, u32)>, Refusal>
     requires { HasLengths (pairs pool.now) }
-    ensures exact { IfOk result (TellsPieces (pieces_of (pairs pool.now) index.now entries.now)) }
-    ensures fits { IfOk result (λ t. IfOk t (λ ps. FitsPieces index.now (map known_of ps.items))) }
-    ensures text { IfOk result (λ told. IfErr told FitsRefusal) }
+    ensures exact { NamesPieces (pairs pool.now) index.now entries.now result }
+    ensures fits { IfOk result (λ pieces. FitsPieces index.now (map known_of pieces.items)) }
+    ensures text { IfErr result FitsRefusal }
 {
-    if let Err(refusal) = want_entries(index.len(), entries.len()) {
-        return Ok(Err(refusal));
-    }
+    want_entries(index.len(), entries.len())?;
     pieces_named(alloc, pool, index.layout(), index.end(), entries)
 }

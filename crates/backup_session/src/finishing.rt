@@ -37,20 +37,20 @@ pub fn checked_manifest(
     key: &SnapshotKey,
     files: &[FileFact],
     bytes: &[u8],
-) -> Result<Result<Manifest, Refusal>, AllocError>
+) -> Result<Manifest, Refusal>
     requires { Ascends files.now }
     ensures value { GivesManifest (manifest_from key.now files.now bytes.now) result }
-    ensures fits { IfOk result (λ checked. IfErr checked FitsRefusal) }
+    ensures fits { IfErr result FitsRefusal }
 {
     let manifest = match read(alloc, bytes)? {
         Ok(manifest) => manifest,
         Err(fault) => {
             let cause = fault.cause;
-            return Ok(Err(Refusal::BadManifest { cause }));
+            return Err(Refusal::BadManifest { cause });
         }
     };
     match check(&manifest, key, files)? {
-        Ok(()) => Ok(Ok(manifest)),
-        Err(mismatch) => Ok(Err(mismatched(alloc, mismatch)?)),
+        Ok(()) => Ok(manifest),
+        Err(mismatch) => Err(mismatched(alloc, mismatch)?),
     }
 }

@@ -3,6 +3,7 @@
 ghost use Rattle.std.specs.Prelude.{◌≡◌, ◌==◌, position, IfErr, IfOk};
 ghost use Rattle.std.specs.List.{list_any};
 ghost use Rattle.store_types.specs.Names.{IsKey};
+ghost use Rattle.store_stops.specs.Outcomes.{IfAnswered};
 ghost use Rattle.store_model.specs.Archives.{uuid_of as uuid_by, want_sizes as sizes_fit, want_size as size_reached, want_number as number_left, free_number as least_free};
 ghost use Rattle.wire_commands.specs.HasText.{FitsRefusal};
 ghost use Rattle.backup_session.specs.Calls.{TellsClosed};
@@ -118,13 +119,11 @@ pub fn closed(
     count: u64,
     size: u64,
     csum: &Digest32,
-) -> Result<Result<(Vec<u8>, FileFact), Refusal>, AllocError>
-    ensures exact { IfOk result (TellsClosed begun.now count size csum.now) }
-    ensures text { IfOk result (λ told. IfErr told FitsRefusal) }
+) -> Result<(Vec<u8>, FileFact), Refusal>
+    ensures exact { IfAnswered result (TellsClosed begun.now count size csum.now) }
+    ensures text { IfErr result FitsRefusal }
 {
-    if let Err(refusal) = want_close(&begun.index, count, size, csum) {
-        return Ok(Err(refusal));
-    }
+    want_close(&begun.index, count, size, csum)?;
     let text = begun.index.close(alloc)?;
     let name = begun.name.clone()?;
     let file = FileFact {
@@ -132,7 +131,7 @@ pub fn closed(
         size,
         csum: *csum,
     };
-    Ok(Ok((text, file)))
+    Ok((text, file))
 }
 
 /// The index at a place, where there is one, is not open any more. It takes no memory.

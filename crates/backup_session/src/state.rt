@@ -135,13 +135,6 @@ impl State {
         Some(&self.begun[place].name)
     }
 
-    /// How many indexes are open.
-    pub fn open_indexes(&self) -> u8
-        ensures { result ≡ length self.now.begun }
-    {
-        self.begun.len() as u8
-    }
-
     /// The manifest's text.
     pub fn manifest(&self) -> Option<&[u8]>
         ensures { option_map (λ text. text.now) result ≡ self.now.manifest }
@@ -227,33 +220,24 @@ impl State {
         ctime: u64,
         size: u64,
         chunk_size: u64,
-    ) -> Result<Result<u8, Refusal>, AllocError>
+    ) -> Result<u8, Refusal>
         requires { ctime ≤ last_moment }
         ensures { StateBeginsFixed self.old self.new name size chunk_size ctime result }
     {
-        if let Err(refusal) = self.want_fixed(&name, size, chunk_size) {
-            return Ok(Err(refusal));
-        }
+        self.want_fixed(&name, size, chunk_size)?;
         let index = self.fixed_at(alloc, &name, size, chunk_size, ctime)?;
         let number = self.begin(name, index)?;
-        Ok(Ok(number))
+        Ok(number)
     }
 
-    pub fn new_dynamic(
-        &mut self,
-        alloc: Global,
-        name: FileName,
-        ctime: u64,
-    ) -> Result<Result<u8, Refusal>, AllocError>
+    pub fn new_dynamic(&mut self, alloc: Global, name: FileName, ctime: u64) -> Result<u8, Refusal>
         requires { ctime ≤ last_moment }
         ensures { StateDoes self.old self.new result (λ w. steps.new_dynamic w name ctime) }
     {
-        if let Err(refusal) = self.want_dynamic(&name) {
-            return Ok(Err(refusal));
-        }
+        self.want_dynamic(&name)?;
         let index = self.dynamic_at(alloc, &name, ctime)?;
         let number = self.begin(name, index)?;
-        Ok(Ok(number))
+        Ok(number)
     }
 
     /// Notes the lengths of pieces, each unless one is noted. At want of memory nothing has changed.
@@ -289,18 +273,16 @@ impl State {
         alloc: Global,
         number: u8,
         entries: &[(Digest32, u64)],
-    ) -> Result<Result<(), Refusal>, AllocError>
+    ) -> Result<(), Refusal>
         ensures does { StateDoes self.old self.new result (λ w. steps.append w number entries.now) }
-        ensures text { IfOk result (λ told. IfErr told FitsRefusal) }
+        ensures text { IfErr result FitsRefusal }
     {
         let Some(place) = place_of(&self.begun, number) else {
-            return Ok(Err(Refusal::NoFile));
+            return Err(Refusal::NoFile);
         };
-        match pieces_for(alloc, &self.pool, &self.begun[place].index, entries)? {
-            Ok(pieces) => self.begun[place].index.append_all(alloc, &pieces)?,
-            Err(refusal) => return Ok(Err(refusal)),
-        }
-        Ok(Ok(()))
+        let pieces = pieces_for(alloc, &self.pool, &self.begun[place].index, entries)?;
+        self.begun[place].index.append_all(alloc, &pieces)?;
+        Ok(())
     }
 
     /// The index's text. Its file is among the files then, and pending.
@@ -311,23 +293,21 @@ impl State {
         count: u64,
         size: u64,
         csum: &Digest32,
-    ) -> Result<Result<(Vec<u8>, Pending), Refusal>, AllocError>
+    ) -> Result<(Vec<u8>, Pending), Refusal>
         ensures does { StateCloses self.old self.new number count size csum.now result }
-        ensures text { IfOk result (λ told. IfErr told FitsRefusal) }
+        ensures text { IfErr result FitsRefusal }
     {
         let Some(place) = place_of(&self.begun, number) else {
-            return Ok(Err(Refusal::NoFile));
+            return Err(Refusal::NoFile);
         };
-        let (text, file) = match closed(alloc, &self.begun[place], count, size, csum)? {
-            Ok(file) => file,
-            Err(refusal) => return Ok(Err(refusal)),
-        };
+        let file = closed(alloc, &self.begun[place], count, size, csum)?;
+        let (text, fact) = file;
         let pending = Pending {
-            place: insert(&mut self.files, file)?,
+            place: insert(&mut self.files, fact)?,
             closes: Some(place),
             manifest: None,
         };
-        Ok(Ok((text, pending)))
+        Ok((text, pending))
     }
 
     pub fn want_blob(&self, name: &FileName) -> Result<(), Refusal>
@@ -340,25 +320,18 @@ impl State {
     }
 
     /// The file is among the files then, and pending.
-    pub fn blob(
-        &mut self,
-        alloc: Global,
-        name: FileName,
-        text: &[u8],
-    ) -> Result<Result<Pending, Refusal>, AllocError>
+    pub fn blob(&mut self, alloc: Global, name: FileName, text: &[u8]) -> Result<Pending, Refusal>
         requires { IsOk (data_of text.now) }
         ensures { StateTakesBlob self.old self.new name text.now result }
     {
-        if let Err(refusal) = self.want_blob(&name) {
-            return Ok(Err(refusal));
-        }
+        self.want_blob(&name)?;
         let manifest = kept_text(alloc, &name, text)?;
         let pending = Pending {
             place: insert(&mut self.files, blob_fact(name, text))?,
             closes: None,
             manifest,
         };
-        Ok(Ok(pending))
+        Ok(pending)
     }
 
     /// The pending file becomes the writer's. It takes no memory.
@@ -385,17 +358,17 @@ impl State {
     }
 
     /// The manifest among the files, where no index is open and it lists the others.
-    pub fn finish_check(&self, alloc: Global) -> Result<Result<Manifest, Refusal>, AllocError>
+    pub fn finish_check(&self, alloc: Global) -> Result<Manifest, Refusal>
         ensures does { GivesManifest (steps_finish self.now) result }
-        ensures fits { IfOk result (λ checked. IfErr checked FitsRefusal) }
+        ensures fits { IfErr result FitsRefusal }
         ensures blob { HoldsBlob self.now.manifest }
     {
         let count = self.begun.len() as u8;
         if count > 0 {
-            return Ok(Err(Refusal::OpenIndexes { count }));
+            return Err(Refusal::OpenIndexes { count });
         }
         let Some(text) = self.manifest() else {
-            return Ok(Err(Refusal::NoFile));
+            return Err(Refusal::NoFile);
         };
         let Ok(bytes) = decode(text) else {
             unreachable!()

@@ -1,6 +1,6 @@
 //! A writer's calls.
 
-ghost use Rattle.std.specs.Prelude.{◌≡◌, ◌≤◌, length as len, map, is_some, option_map, None, IsSome, IsOk, IfOk, IfErr, OnOk, OnErr};
+ghost use Rattle.std.specs.Prelude.{◌≡◌, ◌≤◌, map, is_some, option_map, None, IsSome, IsOk, IfErr, OnOk, OnErr};
 ghost use Rattle.std.specs.List.{AllByRecursion};
 ghost use Rattle.store_types.specs.Names.{IsKey};
 ghost use Rattle.store_types.specs.Times.{last_moment};
@@ -120,14 +120,6 @@ impl Writer {
         self.state.want_blob(name)
     }
 
-    /// How many indexes are open.
-    #[tactic(auto, using(crate::proofs::Asked::begun_is))]
-    pub fn open_indexes(&self) -> u8
-        ensures { result ≡ len self.now.writer.begun }
-    {
-        self.state.open_indexes()
-    }
-
     /// The manifest's file text, where the writer has it.
     #[tactic(auto, using(crate::proofs::Asked::manifest_is))]
     pub fn manifest(&self) -> Option<&[u8]>
@@ -149,7 +141,7 @@ impl Writer {
         ctime: u64,
         size: u64,
         chunk_size: u64,
-    ) -> Result<Result<u8, Refusal>, AllocError>
+    ) -> Result<u8, Refusal>
         requires settled { self.old.pending ≡ None }
         requires ctime { ctime ≤ last_moment }
         ensures does { BeginsFixed self.old self.new name size chunk_size ctime result }
@@ -163,12 +155,7 @@ impl Writer {
     ///
     /// The refusals, in the order in which they are tested: the name is no dynamic index's; there is such a file or open
     /// index; there are 64 files and open indexes; 16 indexes are open.
-    pub fn new_dynamic(
-        &mut self,
-        alloc: Global,
-        name: FileName,
-        ctime: u64,
-    ) -> Result<Result<u8, Refusal>, AllocError>
+    pub fn new_dynamic(&mut self, alloc: Global, name: FileName, ctime: u64) -> Result<u8, Refusal>
         requires settled { self.old.pending ≡ None }
         requires ctime { ctime ≤ last_moment }
         ensures does { Settles self.old self.new result (λ w. steps.new_dynamic w name ctime) }
@@ -224,13 +211,13 @@ impl Writer {
         alloc: Global,
         number: u8,
         entries: &[(Digest32, u64)],
-    ) -> Result<Result<(), Refusal>, AllocError>
+    ) -> Result<(), Refusal>
         requires { self.old.pending ≡ None }
         ensures does { Settles self.old self.new result (λ w. steps.append w number entries.now) }
         ensures settled { self.new.pending ≡ None }
         ensures plain { Mirrors self.old self.new result (λ w. plain.append w number entries.now) }
         // a refusal has a spelling
-        ensures text { IfOk result (λ told. IfErr told FitsRefusal) }
+        ensures text { IfErr result FitsRefusal }
     {
         self.state.append(alloc, number, entries)
     }
@@ -246,58 +233,45 @@ impl Writer {
         count: u64,
         size: u64,
         csum: &Digest32,
-    ) -> Result<Result<Vec<u8>, Refusal>, AllocError>
+    ) -> Result<Vec<u8>, Refusal>
         requires { self.old.pending ≡ None }
         ensures does { Closes self.old self.new number count size csum.now result }
         ensures pending { IsPendingAt self.new result }
         ensures plain { ClosesPlainly self.old self.new number count size csum.now result }
         // a refusal has a spelling
-        ensures text { IfOk result (λ told. IfErr told FitsRefusal) }
+        ensures text { IfErr result FitsRefusal }
     {
-        match self.state.close_index(alloc, number, count, size, csum)? {
-            Ok(closed) => {
-                let (text, pending) = closed;
-                self.pending = Some(pending);
-                Ok(Ok(text))
-            }
-            Err(refusal) => Ok(Err(refusal)),
-        }
+        let closed = self.state.close_index(alloc, number, count, size, csum)?;
+        let (text, pending) = closed;
+        self.pending = Some(pending);
+        Ok(text)
     }
 
     /// Takes a blob's file, whose text is that of some data. The file is pending then.
     ///
     /// The refusals, in the order in which they are tested: the name is no blob's; there is such a file or open index;
     /// there are 64 files and open indexes.
-    pub fn blob(
-        &mut self,
-        alloc: Global,
-        name: FileName,
-        text: &[u8],
-    ) -> Result<Result<(), Refusal>, AllocError>
+    pub fn blob(&mut self, alloc: Global, name: FileName, text: &[u8]) -> Result<(), Refusal>
         requires settled { self.old.pending ≡ None }
         requires blob { IsOk (data_of text.now) }
         ensures does { TakesBlob self.old self.new name text.now result }
         ensures pending { IsPendingAt self.new result }
         ensures plain { TakesBlobPlainly self.old self.new name text.now result }
     {
-        match self.state.blob(alloc, name, text)? {
-            Ok(pending) => {
-                self.pending = Some(pending);
-                Ok(Ok(()))
-            }
-            Err(refusal) => Ok(Err(refusal)),
-        }
+        let pending = self.state.blob(alloc, name, text)?;
+        self.pending = Some(pending);
+        Ok(())
     }
 
     /// The manifest among the files, where the backup may be finished. Nothing changes.
     ///
     /// The refusals, in the order in which they are tested: an index is open; there is no manifest; it is none, by its
     /// cause; the first mismatch of the manifest with the snapshot's key and the files beside it.
-    pub fn finish_check(&self, alloc: Global) -> Result<Result<Manifest, Refusal>, AllocError>
+    pub fn finish_check(&self, alloc: Global) -> Result<Manifest, Refusal>
         requires { self.now.pending ≡ None }
         ensures does { GivesManifest (steps_finish self.now.writer) result }
         // a refusal has a spelling
-        ensures fits { IfOk result (λ checked. IfErr checked FitsRefusal) }
+        ensures fits { IfErr result FitsRefusal }
         ensures plain { ForShown self.now.writer (λ w. GivesManifest (plain_finish w) result) }
     {
         self.state.finish_check(alloc)

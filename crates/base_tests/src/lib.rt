@@ -1,10 +1,12 @@
-//! The tests of names, ports, locks, turns, prunes and files that are installed.
+//! The tests of names, ports, locks, turns, prunes and files that are installed, and of formats.
 #![tactic(auto)]
 
 #[cfg(test)]
 mod asserts;
 #[cfg(test)]
 mod crc;
+#[cfg(test)]
+mod formats;
 #[cfg(test)]
 mod install;
 #[cfg(test)]

@@ -158,18 +158,44 @@ fn no_names(rt: HostRuntime) -> Result<(), Fail> {
     Ok(())
 }
 
+fn snapshot(alloc: Global) -> Result<SnapshotKey, Fail> {
+    Ok(SnapshotKey::parse(alloc, b"host/a/2020-01-15T06:30:03Z")??)
+}
+
+fn group(alloc: Global, text: &[u8]) -> Result<GroupKey, Fail> {
+    Ok(GroupKey::parse(alloc, text)??)
+}
+
+fn try_copy(rt: &impl Abort, key: &SnapshotKey) -> Result<(), Fail> {
+    let copy = key.clone()?;
+    same(rt, key.same_group(&copy), true);
+    same(rt, copy == *key, true);
+    Ok(())
+}
+
+fn try_group(rt: &impl Abort, alloc: Global, key: &SnapshotKey) -> Result<(), Fail> {
+    let group = group(alloc, b"host/a")?;
+    same(rt, key.is_of(&group), true);
+    same(rt, key.group(alloc)?, group);
+    Ok(())
+}
+
 #[test]
 fn keys(rt: HostRuntime) -> Result<(), Fail> {
-    let alloc = rt.alloc();
-    let key = SnapshotKey::parse(alloc, b"host/a/2020-01-15T06:30:03Z")??;
-    let group = GroupKey::parse(alloc, b"host/a")??;
-    let later = GroupKey::parse(alloc, b"vm/9")??;
-    same(&rt, group.print(alloc)?.as_str(), "host/a");
-    same(&rt, key.is_of(&group), true);
-    same(&rt, key.same_group(&key.clone()?), true);
-    same(&rt, group.clone()? < later, true);
-    same(&rt, key.group(alloc)?, group);
-    same(&rt, key.clone()?, key);
+    let key = snapshot(rt.alloc())?;
+    try_copy(&rt, &key)?;
+    try_group(&rt, rt.alloc(), &key)
+}
+
+fn printed(alloc: Global, text: &[u8]) -> Result<String, Fail> {
+    Ok(GroupKey::parse(alloc, text)??.print(alloc)?)
+}
+
+#[test]
+fn groups(rt: HostRuntime) -> Result<(), Fail> {
+    same(&rt, printed(rt.alloc(), b"host/a")?.as_str(), "host/a");
+    let later = group(rt.alloc(), b"vm/9")?;
+    same(&rt, group(rt.alloc(), b"host/a")?.clone()? < later, true);
     Ok(())
 }
 
@@ -187,21 +213,30 @@ static FILE_NAMES: [FileRow; 4] = [
     ("root.didx", (false, true, false)),
 ];
 
-fn check_file(rt: &impl Abort, alloc: Global, row: &FileRow) -> Result<FileName, Fail> {
+fn file(alloc: Global, text: &str) -> Result<FileName, Fail> {
+    Ok(FileName::check(alloc, text.as_bytes())??)
+}
+
+fn try_kinds(rt: &impl Abort, name: &FileName, row: &FileRow) {
     let (text, kinds) = row;
-    let name = FileName::check(alloc, text.as_bytes())??;
-    same(rt, name.print(alloc)?.as_str(), *text);
     let found = (name.is_fixed(), name.is_dynamic(), name.is_blob());
     same_at(rt, *text, found, *kinds);
     same_at(rt, *text, name.is_index(), !name.is_blob());
-    let manifest = FileName::manifest(alloc)?;
     same_at(rt, *text, name.is_manifest(), *text == "index.json.blob");
-    same_at(
-        rt,
-        *text,
-        name.clone()? == manifest,
-        *text == "index.json.blob",
-    );
+}
+
+fn try_text(rt: &impl Abort, alloc: Global, name: &FileName, text: &str) -> Result<(), Fail> {
+    same(rt, name.print(alloc)?.as_str(), text);
+    let copy = name.clone()?;
+    let is_manifest = copy == FileName::manifest(alloc)?;
+    same_at(rt, text, is_manifest, text == "index.json.blob");
+    Ok(())
+}
+
+fn check_file(rt: &impl Abort, alloc: Global, row: &FileRow) -> Result<FileName, Fail> {
+    let name = file(alloc, row.0)?;
+    try_kinds(rt, &name, row);
+    try_text(rt, alloc, &name, row.0)?;
     Ok(name)
 }
 

@@ -1,7 +1,6 @@
 -- Blobs: a magic, the CRC-32 of the data, and the data.
-use Rattle.std.specs.Prelude.{◌≡◌, ℕ, ◌≤◌, List, [], ◌∷◌, ◌++◌, length, take, drop, ◌==◌, nat_lt, if◌then◌else◌, Vec, Result, Ok, Err, MatchResult}
+use Rattle.std.specs.Prelude.{◌≡◌, ℕ, ◌≤◌, List, [], ◌∷◌, ◌++◌, length, take, drop, ◌==◌, nat_lt, if◌then◌else◌, Result, Ok, Err, MatchResult}
 use Rattle.std.specs.Borrow.{Bor}
-use Rattle.std.specs.declared.alloc.Global.{Global}
 use Rattle.std.specs.Int.{w32, to_le_bytes, from_le_bytes}
 use Rattle.std.specs.Str.{bytes_eq}
 use Rattle.store_types.specs.declared.refusal.BadBlob.{BadBlob}
@@ -58,6 +57,3 @@ data_of bytes = if nat_lt (length bytes) 12 then Err Short else data_under (take
 -- these are the data, or this is the first fault
 abbrev pub Decodes : List ℕ → Result (Bor (List ℕ)) BadBlob → Type 0
 Decodes bytes result = MatchResult result (λ d. data_of bytes ≡ Ok d.now) (λ e. data_of bytes ≡ Err e)
-
-abbrev pub DecodesVec : List ℕ → Result (Vec ℕ Global) BadBlob → Type 0
-DecodesVec bytes result = MatchResult result (λ d. data_of bytes ≡ Ok d.items) (λ e. data_of bytes ≡ Err e)

@@ -8,7 +8,7 @@
 
 ghost use Rattle.std.specs.Prelude.{◌≡◌, ◌↔◌, ℕ, List, take, drop, Ok, Err, IsOk, IfOk, IfErr, MatchResult};
 ghost use Rattle.std.specs.Int.{w32, from_le_bytes};
-ghost use Rattle.blob_codec.specs.Blob.{blob, data_under, data_behind, FitsBlob, Decodes, DecodesVec};
+ghost use Rattle.blob_codec.specs.Blob.{blob, data_under, data_behind, FitsBlob, Decodes};
 
 pub mod laws;
 
@@ -63,18 +63,6 @@ pub fn decode(bytes: &[u8]) -> Result<&[u8], BadBlob>
         u32::from_le_bytes([kept[0], kept[1], kept[2], kept[3]]),
         data,
     )?;
-    Ok(data)
-}
-
-/// The data of the blob, in the memory that held the blob, or the first cause, as by `decode`. It
-/// takes no memory, and copies the data once, to where the blob began.
-pub fn decode_vec(bytes: Vec<u8>) -> Result<Vec<u8>, BadBlob>
-    ensures { DecodesVec bytes.items result }
-{
-    let length = decode(&bytes)?.len();
-    let mut data = bytes;
-    data.copy_within(HEADER_SIZE.., 0);
-    data.truncate(length);
     Ok(data)
 }
 

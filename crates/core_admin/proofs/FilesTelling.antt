@@ -21,9 +21,10 @@ use Rattle.core_state.specs.declared.parts.Parts.{Parts}
 use Rattle.core_state.specs.Holds.{Holds}
 use Rattle.core_state.specs.Listing.{listing_at}
 use Rattle.core_state.specs.Settles.{kind_by, reply_by}
-use Rattle.core_state.specs.Stops.{Gives, IfRefused, told}
-use Rattle.core_state.specs.declared.stop.Stop.{Stop}
-use Rattle.core_state.specs.declared.stop.Stop.TheVariants as stops
+use Rattle.core_state.specs.Stops.{told}
+use Rattle.store_stops.specs.Stops.{Gives, IfRefused}
+use Rattle.store_stops.specs.declared.stop.Stop.{Stop}
+use Rattle.store_stops.specs.declared.stop.Stop.TheVariants as stops
 use Rattle.core_state.specs.Unreadables.{Asked, part_read, TellsUnreadable}
 use Rattle.core_state.specs.Replies.{answers_files, reply_told}
 use Rattle.core_state.specs.Unchanged.{is_uncalled}

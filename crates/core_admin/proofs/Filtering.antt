@@ -1,45 +1,28 @@
--- The first so many of what passes a test, found one after another.
-use Rattle.std.proofs.Common.{◌≡◌, ◌<◌, ◌≤◌, ◌+◌, ℕ, Bool, true, false, cond, length, get_or, map, take, drop, List, [], ◌∷◌, ◌++◌, Option, refl, sym, ap, ◌∙◌, arith}
+-- Images of a list's first elements, and what is found among images.
+use Rattle.std.proofs.Common.{◌≡◌, ◌<◌, ◌≤◌, ◌+◌, ℕ, Bool, true, false, cond, length, get_or, map, take, List, [], ◌∷◌, ◌++◌, Option, refl, sym, ap, ◌∙◌, arith}
+use Rattle.std.specs.Prelude.{min, nat_le}
+use Rattle.std.proofs.lemmas.Bool.{leb-true, leb-false}
 use Rattle.std.specs.List.{All, cons_option, filter, filter_map}
-use Rattle.std.proofs.lemmas.List.{append-nil, take-append-drop, take_at, take_all, take-map, length-map, map-append}
-use Rattle.std.proofs.lemmas.List.Elements.{All-head, All-tail, filter-append, filter_more}
+use Rattle.std.proofs.lemmas.List.{take_all, take_more, take-map, map-append}
+use Rattle.std.proofs.lemmas.List.Elements.{All-head, All-tail}
 
-module _ {X Y : Type 0} (f : X → Y) (p : X → Bool) (xs : List X) where
-  -- one more was looked at
-  found_more : (i : ℕ) (x : X) (ys : List Y) → i < length xs → x ≡ get_or xs i x → ys ≡ map f (filter p (take i xs))
-      → map f (filter p (take (i + 1) xs)) ≡ ys ++ cond (p x) (f x ∷ []) []
-  found_more i x ys lt is e =
-      ap (map f) (filter_more p xs i x lt ∙ ap (λ y. filter p (take i xs) ++ cond (p y) (y ∷ []) []) (sym is))
-      ∙ map-append f (filter p (take i xs)) (cond (p x) (x ∷ []) [])
-      ∙ ap (λ zs. zs ++ map f (cond (p x) (x ∷ []) [])) (sym e)
-      ∙ by_test (p x)
-    where
-      by_test : (b : Bool) → ys ++ map f (cond b (x ∷ []) []) ≡ ys ++ cond b (f x ∷ []) []
-      by_test true = refl
-      by_test false = refl
+-- ---- images, one after another
 
-  -- it passes, and its image is written behind
-  pub found_pushed : (i : ℕ) (x : X) (ys zs : List Y) (y : Y) → i < length xs → x ≡ get_or xs i x → ys ≡ map f (filter p (take i xs)) → p x ≡ true → y ≡ f x → zs ≡ ys ++ y ∷ []
-      → zs ≡ map f (filter p (take (i + 1) xs))
-  found_pushed i x ys zs y lt is e passes same pushed =
-      pushed ∙ ap (λ w. ys ++ w ∷ []) same ∙ sym (found_more i x ys lt is e ∙ ap (λ b. ys ++ cond b (f x ∷ []) []) passes)
+-- one more was looked at, and its image is written behind
+pub mapped_more : {X Y : Type 0} (f : X → Y) (xs : List X) (i : ℕ) (x : X) (ys zs : List Y) (y : Y) → i < length xs → x ≡ get_or xs i x → ys ≡ map f (take i xs) → y ≡ f x → zs ≡ ys ++ y ∷ []
+    → zs ≡ map f (take (i + 1) xs)
+mapped_more f xs i x ys zs y lt is e same pushed =
+    pushed ∙ ap (λ w. ys ++ w ∷ []) same ∙ ap (λ l. l ++ f x ∷ []) e
+    ∙ sym (ap (map f) (take_more xs i x lt ∙ ap (λ w. take i xs ++ w ∷ []) (sym is)) ∙ map-append f (take i xs) (x ∷ []))
 
-  -- it does not pass
-  pub found_passed : (i : ℕ) (x : X) (ys zs : List Y) → i < length xs → x ≡ get_or xs i x → ys ≡ map f (filter p (take i xs)) → p x ≡ false → zs ≡ ys → zs ≡ map f (filter p (take (i + 1) xs))
-  found_passed i x ys zs lt is e fails same = same ∙ sym (found_more i x ys lt is e ∙ ap (λ b. ys ++ cond b (f x ∷ []) []) fails ∙ append-nil ys)
-
-  -- as many were found as are wanted
-  pub found_enough : (n i : ℕ) (ys : List Y) → ys ≡ map f (filter p (take i xs)) → length ys ≡ n → ys ≡ map f (take n (filter p xs))
-  found_enough n i ys e is =
-      e ∙ ap (map f) (sym (ap (take n) (ap (filter p) (sym (take-append-drop i xs)) ∙ filter-append p (take i xs) (drop i xs))
-      ∙ take_at (filter p (take i xs)) (filter p (drop i xs)) n (sym (length-map (filter p (take i xs)) f) ∙ ap length (sym e) ∙ is)))
-
-  -- all were looked at
-  pub found_all : (n i : ℕ) (ys : List Y) → ys ≡ map f (filter p (take i xs)) → length xs ≤ i → length ys ≤ n → ys ≡ map f (take n (filter p xs))
-  found_all n i ys e past few =
-      let all : ys ≡ map f (filter p xs) = e ∙ ap (λ zs. map f (filter p zs)) (take_all i xs past) in
-      let count : length (filter p xs) ≡ length ys = sym (length-map (filter p xs) f) ∙ ap length (sym all) in
-      all ∙ ap (map f) (sym (take_all n (filter p xs) (omega (arith, count, few))))
+-- all were looked at
+pub mapped_all : {X Y : Type 0} (f : X → Y) (xs first : List X) (n i k : ℕ) (ys : List Y) → ys ≡ map f (take i first) → first ≡ take k xs → length first ≤ i → k ≡ min (length xs) n
+    → ys ≡ map f (take n xs)
+mapped_all f xs first n i k ys e is past least = e ∙ ap (map f) (take_all i first past ∙ is ∙ by_order (nat_le (length xs) n) refl)
+  where
+    by_order : (b : Bool) → nat_le (length xs) n ≡ b → take k xs ≡ take n xs
+    by_order true le = take_all k xs (omega (arith, least, leb-true (length xs) n le)) ∙ sym (take_all n xs (leb-true (length xs) n le))
+    by_order false gt = ap (λ m. take m xs) (omega (arith, least, leb-false (length xs) n gt))
 
 -- ---- what is found among images
 

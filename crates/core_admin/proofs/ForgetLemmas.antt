@@ -31,7 +31,7 @@ use Rattle.core_state.specs.Changes.{Change, IsFirm, LeavesChange, MayLeave, aft
 use Rattle.core_state.specs.Commands.{ActDoes, ActLeaves, change_at}
 use Rattle.core_state.specs.Found.{kept_named}
 use Rattle.core_state.specs.Replies.{reply_told}
-use Rattle.core_state.specs.Stops.{stop_of}
+use Rattle.store_stops.specs.Stops.{stop_of}
 use Rattle.core_state.specs.Unchanged.{SameKept}
 use Rattle.core_state.specs.Wanted.{session_at}
 use Rattle.core_state.specs.declared.entering.Place.{Place}
@@ -39,7 +39,7 @@ use Rattle.core_state.specs.declared.kept.Kept.{Kept}
 use Rattle.core_state.specs.declared.kept.Listed.{Listed}
 use Rattle.core_state.specs.declared.kept.Session.{Session}
 use Rattle.core_state.specs.declared.parts.Parts.{Parts}
-use Rattle.core_state.specs.declared.stop.Stop.{Stop}
+use Rattle.store_stops.specs.declared.stop.Stop.{Stop}
 use Rattle.core_state.proofs.Commanding.{writes_does, writes_leaves, failed_leaves}
 use Rattle.core_state.proofs.Naming.{kept_key, named_is}
 use Rattle.core_state.proofs.Texts.{done_has_text}

@@ -11,11 +11,12 @@ use Rattle.store_history.specs.declared.act.Act.{Act}
 use Rattle.store_history.specs.declared.act.Act.TheVariants.{Plain}
 use Rattle.core_state.specs.Commands.{ActDoes, ActLeaves}
 use Rattle.core_state.specs.Replies.{may_answer, reply_told}
-use Rattle.core_state.specs.Stops.{Gives, told}
+use Rattle.core_state.specs.Stops.{told}
+use Rattle.store_stops.specs.Stops.{Gives}
 use Rattle.core_state.specs.declared.entering.Place.{Place}
 use Rattle.core_state.specs.declared.parts.Parts.{Parts}
-use Rattle.core_state.specs.declared.stop.Stop.{Stop}
-use Rattle.core_state.specs.declared.stop.Stop.TheVariants.{Refused, NoMemory, DiskFailed}
+use Rattle.store_stops.specs.declared.stop.Stop.{Stop}
+use Rattle.store_stops.specs.declared.stop.Stop.TheVariants.{Refused, NoMemory, DiskFailed}
 use Rattle.core_state.proofs.Commanding.{refused_does, refused_leaves, same_kept, short_does, short_leaves}
 use Rattle.core_state.proofs.Texts.{bad_name_has_text}
 use Rattle.core_admin.specs.Listings.{IsNamesStop, list_told}

@@ -28,7 +28,8 @@ use Rattle.core_state.specs.Holds.{Shows}
 use Rattle.core_state.specs.Shown.{shown_file, shown_snapshot, shown_session}
 use Rattle.core_state.specs.Wanted.{session_at, want_idle}
 use Rattle.core_state.proofs.Sessions.{at_lane}
-use Rattle.core_admin.specs.Listings.{row_of, is_behind, rows_behind, list_told, is_in, texts_in, group_told, prune_told}
+use Rattle.core_state.specs.Found.{is_behind, is_in}
+use Rattle.core_admin.specs.Listings.{row_of, rows_behind, list_told, texts_in, group_told, prune_told}
 use Rattle.core_admin.proofs.Filtering.{found_map, map_agree, map_twice}
 
 -- an outcome that leaves the store as it is

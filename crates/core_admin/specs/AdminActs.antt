@@ -9,7 +9,7 @@ use Rattle.store_history.specs.declared.act.Act.TheVariants.{Plain, JobGroup}
 use Rattle.core_state.specs.declared.entering.Place.{Place}
 use Rattle.core_state.specs.declared.kept.Listed.{Listed}
 use Rattle.core_state.specs.declared.parts.Parts.{Parts}
-use Rattle.core_state.specs.declared.stop.Stop.{Stop}
+use Rattle.store_stops.specs.declared.stop.Stop.{Stop}
 use Rattle.core_state.specs.Commands.{ActDoes, ActLeaves}
 use Rattle.core_state.specs.Unreadables.{Asked}
 use Rattle.core_admin.specs.AnsweredBy.{ActAnswersBy}

@@ -17,12 +17,12 @@ use Rattle.store_model.specs.Stands.{file_limit}
 use Rattle.store_files.specs.Folder.{manifest_path}
 use Rattle.core_state.specs.declared.kept.Kept.{Kept}
 use Rattle.core_state.specs.declared.kept.Listed.{Listed}
-use Rattle.core_state.specs.declared.stop.Stop.{Stop}
-use Rattle.core_state.specs.declared.stop.Stop.TheVariants as stops
+use Rattle.store_stops.specs.declared.stop.Stop.{Stop}
+use Rattle.store_stops.specs.declared.stop.Stop.TheVariants as stops
 use Rattle.core_state.specs.Found.{named_kept}
 use Rattle.core_state.specs.Listing.{listing_at}
 use Rattle.core_state.specs.Replies.{reply_told}
-use Rattle.core_state.specs.Stops.{Gives}
+use Rattle.store_stops.specs.Stops.{Gives}
 use Rattle.core_state.specs.Unreadables.{Asked, as_listing, known}
 use Rattle.core_admin.specs.declared.file_list.ManifestFile.{ManifestFile}
 use Rattle.core_admin.specs.FileRows.{rows_by}

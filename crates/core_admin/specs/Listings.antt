@@ -1,23 +1,24 @@
 -- LIST, GROUP and the first step of a PRUNE, by what the core keeps.
-use Rattle.std.specs.Prelude.{◌≡◌, ◌<◌, ◌≤◌, ℕ, Bool, true, List, map, filter, length, take, min, Option, Some, None, is_some, if◌then◌else◌, Result, Ok, IsTrue}
+use Rattle.std.specs.Prelude.{◌≡◌, ◌<◌, ◌≤◌, ℕ, List, map, filter, length, take, min, Option, is_some, if◌then◌else◌, Result, Ok, IsTrue}
 use Rattle.store_types.specs.declared.names.Keep.{Keep}
 use Rattle.store_types.specs.declared.names.SnapshotKey.{SnapshotKey}
 use Rattle.store_types.specs.declared.names.GroupKey.{GroupKey}
 use Rattle.store_types.specs.declared.refusal.Refusal.{Refusal}
 use Rattle.store_types.specs.declared.refusal.Refusal.TheVariants.{BadName, TooMany}
 use Rattle.store_types.specs.Chain.Refusing.{◌>>=◌, unless, or_else}
-use Rattle.store_types.specs.Names.{key_text, key_lt, group_of, group_of_key, same_group}
+use Rattle.store_types.specs.Names.{key_text, group_of}
 use Rattle.wire_commands.specs.declared.rows.ListRow.{ListRow}
 use Rattle.wire_commands.specs.declared.reply.Reply.{Reply}
 use Rattle.wire_commands.specs.declared.reply.Reply.TheVariants.{Listing, Keys}
 use Rattle.wire_commands.specs.ReplyText.{files_fit}
 use Rattle.store_model.specs.AdminSteps.{list_limit, want_after, counts_fit}
 use Rattle.store_model.specs.Stands.{group_limit}
+use Rattle.core_state.specs.Found.{is_behind, is_in}
 use Rattle.core_state.specs.declared.kept.Kept.{Kept}
 use Rattle.core_state.specs.declared.kept.Listed.{Listed}
 use Rattle.core_state.specs.declared.kept.Session.{Session}
-use Rattle.core_state.specs.declared.stop.Stop.{Stop}
-use Rattle.core_state.specs.declared.stop.Stop.TheVariants.{Refused, NoMemory, DiskFailed}
+use Rattle.store_stops.specs.declared.stop.Stop.{Stop}
+use Rattle.store_stops.specs.declared.stop.Stop.TheVariants.{Refused, NoMemory, DiskFailed}
 use Rattle.core_state.specs.Wanted.{want_idle}
 
 -- ---- LIST
@@ -29,13 +30,13 @@ files_counted k = if is_some k.unreadable then 0 else min (length k.files) 255
 abbrev pub row_of : Kept → ListRow
 row_of k = record { snapshot = key_text k.key; damaged = is_some k.unreadable; files = files_counted k }
 
-abbrev pub is_behind : Option SnapshotKey → Kept → Bool
-is_behind None k = true
-is_behind (Some key) k = key_lt key k.key
+-- of the first snapshots
+abbrev pub rows_of : List Listed → List ListRow
+rows_of listed = map (λ x. row_of x.kept) (take list_limit listed)
 
--- of the first snapshots behind a key
+-- of the first behind a key
 abbrev pub rows_behind : Option SnapshotKey → List Listed → List ListRow
-rows_behind after catalogue = map (λ x. row_of x.kept) (take list_limit (filter (λ x. is_behind after x.kept) catalogue))
+rows_behind after catalogue = rows_of (filter (λ x. is_behind after x.kept) catalogue)
 
 -- a snapshot's text
 abbrev pub IsShort : List ℕ → Type 0
@@ -58,12 +59,13 @@ list_told text catalogue = do
 
 -- ---- GROUP
 
-abbrev pub is_in : GroupKey → Kept → Bool
-is_in group k = same_group (group_of_key k.key) group
+-- of the first snapshots
+abbrev pub texts_of : List Listed → List (List ℕ)
+texts_of listed = map (λ x. key_text (x.kept).key) (take group_limit listed)
 
--- of the group's oldest snapshots, the oldest first
+-- of the group's oldest, the oldest first
 abbrev pub texts_in : GroupKey → List Listed → List (List ℕ)
-texts_in group catalogue = map (λ x. key_text (x.kept).key) (take group_limit (filter (λ x. is_in group x.kept) catalogue))
+texts_in group catalogue = texts_of (filter (λ x. is_in group x.kept) catalogue)
 
 unfoldable pub group_told : List ℕ → List Listed → Result Reply Refusal
 group_told text catalogue = do

@@ -13,10 +13,11 @@ use crate::file_list::files;
 use crate::forgetting::forget;
 use crate::groups::{group, prune_group};
 use crate::listing::list;
-use core_state::{Act, Admitted, Answer, Core, Family, Parts, Place, Stop, begin, settle};
+use core_state::{Act, Admitted, Answer, Core, Family, Parts, Place, begin, settle};
 use disk_trait::Disk;
 use port_traits::Clock;
 use std::alloc::Global;
+use store_stops::Stop;
 use wire_commands::{Command, Reply};
 
 fn perform<D: Disk>(parts: &mut Parts<D>, alloc: Global, at: Place, act: Act) -> Result<Reply, Stop>

@@ -13,19 +13,21 @@ ghost use Rattle.wire_commands.specs.declared.command.Command.TheVariants.{Files
 ghost use Rattle.store_history.specs.declared.act.Act.TheVariants.{Plain};
 ghost use Rattle.core_state.specs.Commands.{PlainDoes, PlainLeaves};
 ghost use Rattle.core_state.specs.Listing.{listing_in};
-ghost use Rattle.core_state.specs.Stops.{IfRefused, StopHasText};
+ghost use Rattle.snapshot_files.specs.Reads.{StopHasText};
+ghost use Rattle.store_stops.specs.Stops.{IfRefused};
 ghost use Rattle.core_state.specs.Unreadables.{ActUnreadable};
-ghost use Rattle.core_state.specs.declared.stop.Stop.TheVariants.{DiskFailed};
+ghost use Rattle.store_stops.specs.declared.stop.Stop.TheVariants.{DiskFailed};
 ghost use Rattle.core_admin.specs.AnsweredBy.{ActAnswersBy};
 ghost use Rattle.core_admin.specs.FileRows.{row_shown, rows_shown, sized_row};
 ghost use Rattle.core_admin.specs.FilesTold.{GivesRows, HasBytes, IsFileRow, ListsThere, TellsOfBytes, asked_files};
 
-use core_state::{Kept, Parts, Place, Stop, StoredFile};
+use core_state::{Kept, Parts, Place, StoredFile};
 use disk_trait::{Disk, DiskError};
 use manifest::{FileFact, Manifest};
 use sha2::{Digest, Sha256};
 use snapshot_files::{manifest_path_of, read_manifest};
 use std::alloc::{AllocError, Global};
+use store_stops::Stop;
 use store_types::{
     Bytes, Digest32, FILE_LIMIT, FileName, LISTED_LIMIT, Refusal, Rows, SnapshotKey,
 };

@@ -7,10 +7,11 @@ ghost use Rattle.core_state.specs.Changes.{names_beside as names_of_kept};
 ghost use Rattle.core_state.specs.Commands.{PlainDoes, PlainLeaves};
 ghost use Rattle.core_admin.specs.AnsweredBy.{ActAnswersBy};
 
-use core_state::{Parts, Place, Stop, StoredFile};
+use core_state::{Parts, Place, StoredFile};
 use disk_trait::Disk;
 use lock_book::LaneHolds;
 use std::alloc::{AllocError, Global};
+use store_stops::Stop;
 use store_types::{FileName, Refusal, SnapshotKey};
 use wire_commands::Reply;
 

@@ -9,34 +9,27 @@ ghost use Rattle.core_state.specs.Commands.{PlainDoes, PlainLeaves};
 ghost use Rattle.core_state.specs.Named.{is_named_snapshot};
 ghost use Rattle.core_admin.specs.AdminActs.{PruneAnswersBy, PruneDoes, PruneLeaves};
 ghost use Rattle.core_admin.specs.AnsweredBy.{ActAnswersBy};
-ghost use Rattle.core_admin.specs.Listings.{IsShort, texts_in as texts_of_kept};
+ghost use Rattle.core_admin.specs.Listings.{IsShort, texts_of as texts_of_first};
 
-use core_state::{Listed, Parts, Place, Stop};
+use core_state::{Listed, Parts, Place};
 use disk_trait::Disk;
 use std::alloc::{AllocError, Global};
+use store_stops::Stop;
 use store_types::{Bytes, COUNT_LIMIT, GROUP_LIMIT, GroupKey, Keep, Refusal, Rows};
 use wire_commands::Reply;
 
-/// The texts of the group's oldest 4,096 snapshots, the oldest first.
-fn texts_in(
-    alloc: Global,
-    catalogue: &[Listed],
-    group: &GroupKey,
-) -> Result<Rows<Bytes>, AllocError>
-    requires { IsTrue (list_all is_named_snapshot catalogue.now) }
-    ensures value { IfOk result (λ texts. texts ≡ texts_of_kept group.now catalogue.now) }
+/// The texts of the first 4,096 of these snapshots.
+fn texts_of(alloc: Global, listed: &[Listed]) -> Result<Rows<Bytes>, AllocError>
+    requires { IsTrue (list_all is_named_snapshot listed.now) }
+    ensures value { IfOk result (λ texts. texts ≡ texts_of_first listed.now) }
     ensures few { IfOk result (λ texts. length texts ≤ 4096) }
     ensures short { IfOk result (λ texts. All IsShort texts) }
 {
+    let first = &listed[..listed.len().min(GROUP_LIMIT)];
     let mut texts = Vec::new(alloc);
-    for listed in catalogue {
-        if texts.len() == GROUP_LIMIT {
-            return Ok(Rows::from_vec(texts));
-        }
-        if listed.kept.key.is_of(group) {
-            let text = listed.kept.key.print(alloc)?;
-            texts.push(Bytes::from_vec(text.into_bytes()))?;
-        }
+    for snapshot in first {
+        let text = snapshot.kept.key.print(alloc)?;
+        texts.push(Bytes::from_vec(text.into_bytes()))?;
     }
     Ok(Rows::from_vec(texts))
 }
@@ -58,7 +51,7 @@ pub fn group<D: Disk>(
     let Ok(group) = GroupKey::parse(alloc, name)? else {
         return Err(Stop::Refused(Refusal::BadName));
     };
-    let texts = texts_in(alloc, parts.catalogue.as_slice(), &group)?;
+    let texts = texts_of(alloc, parts.catalogue.group(&group))?;
     Ok(Reply::Keys(texts))
 }
 
@@ -100,6 +93,6 @@ pub fn prune_group<D: Disk>(
         let limit = u32::from(COUNT_LIMIT);
         return Err(Stop::Refused(Refusal::TooMany { limit }));
     }
-    let texts = texts_in(alloc, parts.catalogue.as_slice(), &group)?;
+    let texts = texts_of(alloc, parts.catalogue.group(&group))?;
     Ok(Reply::Keys(texts))
 }

@@ -7,15 +7,15 @@ ghost use Rattle.wire_commands.specs.declared.command.Command.TheVariants.{List 
 ghost use Rattle.store_model.specs.AdminSteps.{want_after};
 ghost use Rattle.store_history.specs.declared.act.Act.TheVariants.{Plain};
 ghost use Rattle.core_state.specs.Commands.{PlainDoes, PlainLeaves};
-ghost use Rattle.core_state.specs.Found.{lent_key};
 ghost use Rattle.core_state.specs.Named.{is_named_snapshot};
-ghost use Rattle.core_state.specs.Stops.{Gives};
+ghost use Rattle.store_stops.specs.Stops.{Gives};
 ghost use Rattle.core_admin.specs.AnsweredBy.{ActAnswersBy};
-ghost use Rattle.core_admin.specs.Listings.{IsListable, IsNamesStop, files_counted, is_behind as stands_behind, row_of as row_of_kept, rows_behind as rows_of_kept};
+ghost use Rattle.core_admin.specs.Listings.{IsListable, IsNamesStop, files_counted, row_of as row_of_kept, rows_of as rows_of_first};
 
-use core_state::{Kept, Listed, Parts, Place, Stop};
+use core_state::{Kept, Listed, Parts, Place};
 use disk_trait::Disk;
 use std::alloc::{AllocError, Global};
+use store_stops::Stop;
 use store_types::{Bytes, LIST_LIMIT, Refusal, Rows, SnapshotKey};
 use wire_commands::{ListRow, Reply};
 
@@ -31,16 +31,6 @@ fn key_after(alloc: Global, text: &[u8]) -> Result<Option<SnapshotKey>, Stop>
         return Err(Stop::Refused(Refusal::BadName));
     };
     Ok(Some(key))
-}
-
-/// The snapshot stands behind this one, if any, in the order of snapshots.
-fn is_behind(after: Option<&SnapshotKey>, kept: &Kept) -> bool
-    ensures { result ≡ stands_behind (lent_key after.entry) kept.now }
-{
-    match after {
-        None => true,
-        Some(key) => *key < kept.key,
-    }
 }
 
 /// How many files are told of a snapshot: of a damaged one none.
@@ -67,25 +57,17 @@ fn row_of(alloc: Global, kept: &Kept) -> Result<ListRow, AllocError>
     })
 }
 
-/// What is told of the first 1,024 snapshots behind this one, if any.
-fn rows_behind(
-    alloc: Global,
-    catalogue: &[Listed],
-    after: Option<&SnapshotKey>,
-) -> Result<Rows<ListRow>, AllocError>
-    requires { IsTrue (list_all is_named_snapshot catalogue.now) }
-    ensures value { IfOk result (λ rows. rows ≡ rows_of_kept (lent_key after.entry) catalogue.now) }
+/// What is told of the first 1,024 of these snapshots.
+fn rows_of(alloc: Global, listed: &[Listed]) -> Result<Rows<ListRow>, AllocError>
+    requires { IsTrue (list_all is_named_snapshot listed.now) }
+    ensures value { IfOk result (λ rows. rows ≡ rows_of_first listed.now) }
     ensures few { IfOk result (λ rows. length rows ≤ 1024) }
     ensures listable { IfOk result (λ rows. All IsListable rows) }
 {
+    let first = &listed[..listed.len().min(LIST_LIMIT)];
     let mut rows = Vec::new(alloc);
-    for listed in catalogue {
-        if rows.len() == LIST_LIMIT {
-            return Ok(Rows::from_vec(rows));
-        }
-        if is_behind(after, &listed.kept) {
-            rows.push(row_of(alloc, &listed.kept)?)?;
-        }
+    for snapshot in first {
+        rows.push(row_of(alloc, &snapshot.kept)?)?;
     }
     Ok(Rows::from_vec(rows))
 }
@@ -106,6 +88,6 @@ pub fn list<D: Disk>(
     ensures from_state { ActAnswersBy D.Disk parts.now _at (Plain (ListAll after.now)) result }
 {
     let after = key_after(alloc, after)?;
-    let rows = rows_behind(alloc, parts.catalogue.as_slice(), after.as_ref())?;
+    let rows = rows_of(alloc, parts.catalogue.after(after.as_ref()))?;
     Ok(Reply::Listing(rows))
 }

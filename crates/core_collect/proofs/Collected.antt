@@ -26,12 +26,13 @@ use Rattle.core_state.specs.declared.collector.Collector.{Collector}
 use Rattle.core_state.specs.declared.collector.Early.TheVariants as earlies
 use Rattle.core_state.specs.declared.entering.Place.{Place}
 use Rattle.core_state.specs.declared.parts.Parts.{Parts}
-use Rattle.core_state.specs.declared.stop.Stop.TheVariants as stops
+use Rattle.store_stops.specs.declared.stop.Stop.TheVariants as stops
 use Rattle.core_state.specs.declared.upkeep.Upkeep.{Upkeep}
 use Rattle.core_state.specs.Changes.{Change, LeavesChange, MayLeave, after, drops, finishes, forgets, installs, stays, stores, undone}
 use Rattle.core_state.specs.Collectors.{steps_if, steps_left}
 use Rattle.core_state.specs.Passes.{KeepsPlan}
-use Rattle.core_state.specs.Stops.{StopHasText, stop_of}
+use Rattle.snapshot_files.specs.Reads.{StopHasText}
+use Rattle.store_stops.specs.Stops.{stop_of}
 use Rattle.core_state.specs.Sweeps.{ShowsOpen, ShowsSweep}
 use Rattle.core_state.specs.Unchanged.{SameKept}
 use Rattle.core_state.specs.Upkeeps.{TouchesEach, touches_kept}

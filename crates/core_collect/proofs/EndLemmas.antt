@@ -38,7 +38,7 @@ use Rattle.core_state.specs.declared.kept.Listed.{Listed}
 use Rattle.core_state.specs.declared.parts.Parts.{Parts}
 use Rattle.core_state.specs.declared.upkeep.Upkeep.{Upkeep}
 use Rattle.core_state.specs.declared.state.Core.{Core}
-use Rattle.core_state.specs.declared.stop.Stop.TheVariants as stops
+use Rattle.store_stops.specs.declared.stop.Stop.TheVariants as stops
 use Rattle.core_state.specs.declared.collector.Early.{Early}
 use Rattle.core_state.specs.declared.entering.Place.{Place}
 use Rattle.core_state.specs.Begins.{IsNext}

@@ -2,7 +2,7 @@
 use Rattle.std.specs.Prelude.{Some, None, Result, Ok, Err}
 use Rattle.disk_trait.specs.declared.disk.DiskError.{DiskError}
 use Rattle.gc_plan.specs.declared.GcReport.{GcReport}
-use Rattle.core_state.specs.Stops.{stop_of}
+use Rattle.store_stops.specs.Stops.{stop_of}
 use Rattle.core_collect.specs.Stepping.{Outcome}
 
 abbrev pub visit_outcome : Result (Unit {0}) DiskError → Outcome

@@ -11,14 +11,15 @@ use Rattle.core_state.specs.declared.entering.Place.{Place}
 use Rattle.core_state.specs.declared.kept.Session.{Session}
 use Rattle.core_state.specs.declared.parts.Parts.{Parts}
 use Rattle.core_state.specs.declared.state.Core.{Core}
-use Rattle.core_state.specs.declared.stop.Stop.{Stop}
-use Rattle.core_state.specs.declared.stop.Stop.TheVariants as stops
+use Rattle.store_stops.specs.declared.stop.Stop.{Stop}
+use Rattle.store_stops.specs.declared.stop.Stop.TheVariants as stops
 use Rattle.core_state.specs.declared.upkeep.Upkeep.{Upkeep}
 use Rattle.core_state.specs.Closing.{closes_by}
 use Rattle.core_state.specs.Collectors.{is_cut, is_on}
 use Rattle.core_state.specs.Settles.{Settles}
 use Rattle.core_state.specs.States.{state_of}
-use Rattle.core_state.specs.Stops.{StopHasText, told}
+use Rattle.core_state.specs.Stops.{told}
+use Rattle.snapshot_files.specs.Reads.{StopHasText}
 use Rattle.core_state.specs.Wanted.{session_at}
 use Rattle.core_state.proofs.Texts.{disk_fault_has_text, no_memory_has_text}
 use Rattle.core_collect.specs.Stepping.{CollectDoes, Outcome, PassDoes}

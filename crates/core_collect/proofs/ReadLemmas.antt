@@ -16,10 +16,10 @@ use Rattle.store_files.specs.Entries.{ended_of, ends_of}
 use Rattle.store_model.specs.Stands.{FitsContent, StandsFor, keys_rise, names_content}
 use Rattle.store_model.specs.Store.{snapshot_named}
 use Rattle.store_model.specs.WriterSteps.{part_of}
+use Rattle.store_stops.specs.Stops.{Gives}
 use Rattle.snapshot_files.specs.Indexes.{Indexed, entries_in, index_at, is_fixed_layout, shown_index}
-use Rattle.snapshot_files.specs.Reads as reads
-use Rattle.snapshot_files.specs.declared.read_error.ReadError.{ReadError}
-use Rattle.snapshot_files.specs.declared.read_error.ReadError.TheVariants as errors
+use Rattle.store_stops.specs.declared.stop.Stop.{Stop}
+use Rattle.store_stops.specs.declared.stop.Stop.TheVariants as errors
 use Rattle.snapshot_files.proofs.Archives.{archive_read, blob_no_dynamic, blob_no_fixed, layout_named}
 use Rattle.snapshot_files.proofs.Indexed.{at_nothing, at_text, index_is, no_index}
 use Rattle.gc_plan.specs.declared.IndexAt.{IndexAt}
@@ -136,10 +136,10 @@ pub unreadable_read : (m : Files) (path : List ℕ) (b : Bool) (r : Refusal) →
 unreadable_read m path b r is =
     read_as m path b (Err r) is ∙ ap (λ q. let x : Result (List (List ℕ)) Refusal = Err q in x) (only_unreadable m path b r is)
 
-abbrev pub IsRefusal : ReadError → Type 0
+abbrev pub IsRefusal : Stop → Type 0
 IsRefusal (errors.Refused r) = Unit {0}
 IsRefusal errors.NoMemory = ⊥
-IsRefusal errors.Failed = ⊥
+IsRefusal errors.DiskFailed = ⊥
 
 -- the digests that were read
 pub digests_given : (m : Files) (path : List ℕ) (b : Bool) (x : Indexed) (ds : List (List ℕ)) → index_at m path b 0 ≡ Ok x → ds ≡ map (λ (e : Ended). e.digest) x.entries → digests_read m path b ≡ Ok ds
@@ -174,9 +174,9 @@ pub digests_all : (xs : List (Digest32 × ℕ)) (i : ℕ) (digests : List Digest
 digests_all xs i digests le so_far = so_far ∙ ap (λ ys. map digest_in (ends_of ys)) (take_all i xs le)
 
 -- a refused read: no index stands there
-pub refused_read : (m : Files) (path q : List ℕ) (b : Bool) (e : ReadError) (unread : Unread) → q ≡ path → unread ≡ unreads.Unreadable path → IsRefusal e → reads.Gives shown_index (Err e) (index_at m q b 0)
+pub refused_read : (m : Files) (path q : List ℕ) (b : Bool) (e : Stop) (unread : Unread) → q ≡ path → unread ≡ unreads.Unreadable path → IsRefusal e → Gives shown_index (Err e) (index_at m q b 0)
     → Reads (digests_read m path b) (Err unread)
 refused_read m path q b (errors.Refused r) unread same is refused gives =
     subst (λ u. Reads (digests_read m path b) (Err u)) (sym is) (unreadable_read m path b r (ap (λ p. index_at m p b 0) (sym same) ∙ gives))
 refused_read m path q b errors.NoMemory unread same is refused gives = absurd refused
-refused_read m path q b errors.Failed unread same is refused gives = absurd refused
+refused_read m path q b errors.DiskFailed unread same is refused gives = absurd refused

@@ -32,8 +32,8 @@ use Rattle.core_state.specs.declared.kept.Session.{Session}
 use Rattle.core_state.specs.declared.kept.Session.TheVariants.{Idle, Reader, Writer}
 use Rattle.core_state.specs.declared.parts.Parts.{Parts}
 use Rattle.core_state.specs.declared.state.Core.{Core}
-use Rattle.core_state.specs.declared.stop.Stop.{Stop}
-use Rattle.core_state.specs.declared.stop.Stop.TheVariants as stops
+use Rattle.store_stops.specs.declared.stop.Stop.{Stop}
+use Rattle.store_stops.specs.declared.stop.Stop.TheVariants as stops
 use Rattle.core_state.specs.Applies.{ActApplies, ActKeeps}
 use Rattle.core_state.specs.Begins.{FillsUp, IsAdmitted, Refuses, halted, short}
 use Rattle.core_state.specs.Closing.{closes_by}
@@ -44,7 +44,8 @@ use Rattle.core_state.specs.KeepsTouches.{KeepsTouches, swept_of, touches_of_his
 use Rattle.core_state.specs.Numbers.{AreNumbered}
 use Rattle.core_state.specs.Replies.{refuses_start}
 use Rattle.core_state.specs.Settles.{IsEntered, Settles}
-use Rattle.core_state.specs.Stops.{StopHasText, told}
+use Rattle.core_state.specs.Stops.{told}
+use Rattle.snapshot_files.specs.Reads.{StopHasText}
 use Rattle.core_state.specs.Sweeps.{ShowsOpen, ShowsSweep}
 use Rattle.core_state.specs.Upkeeps.{touches_kept}
 use Rattle.core_state.specs.Wanted.{session_at, want_idle}

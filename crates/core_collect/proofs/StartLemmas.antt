@@ -34,8 +34,8 @@ use Rattle.core_state.specs.declared.kept.Session.TheVariants.{Idle, Reader, Wri
 use Rattle.core_state.specs.declared.kept.StoredFile.{StoredFile}
 use Rattle.core_state.specs.declared.entering.Place.{Place}
 use Rattle.core_state.specs.declared.parts.Parts.{Parts}
-use Rattle.core_state.specs.declared.stop.Stop.{Stop}
-use Rattle.core_state.specs.declared.stop.Stop.TheVariants as stops
+use Rattle.store_stops.specs.declared.stop.Stop.{Stop}
+use Rattle.store_stops.specs.declared.stop.Stop.TheVariants as stops
 use Rattle.core_state.specs.Entries.{FitsEntries}
 use Rattle.core_state.specs.Holds.{Shows}
 use Rattle.core_state.specs.Numbers.{AreNumbered, IsGiven}

@@ -18,11 +18,11 @@ use Rattle.core_state.specs.declared.kept.Session.{Session}
 use Rattle.core_state.specs.declared.kept.Session.TheVariants.{Idle, Writer, Reader}
 use Rattle.core_state.specs.declared.parts.Parts.{Parts}
 use Rattle.core_state.specs.declared.state.Core.{Core}
-use Rattle.core_state.specs.declared.stop.Stop.{Stop}
-use Rattle.core_state.specs.declared.stop.Stop.TheVariants as stops
+use Rattle.store_stops.specs.declared.stop.Stop.{Stop}
+use Rattle.store_stops.specs.declared.stop.Stop.TheVariants as stops
 use Rattle.core_state.specs.Collectors.{collector_by}
 use Rattle.core_state.specs.Found.{first_unreadable}
-use Rattle.core_state.specs.Stops.{Gives}
+use Rattle.store_stops.specs.Stops.{Gives}
 use Rattle.core_state.specs.Wanted.{session_at, want_idle}
 
 -- ---- what is to be marked

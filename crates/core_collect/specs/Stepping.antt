@@ -27,8 +27,8 @@ use Rattle.core_state.specs.declared.entering.Admitted.TheVariants.{Answered}
 use Rattle.core_state.specs.declared.entering.Place.{Place}
 use Rattle.core_state.specs.declared.parts.Parts.{Parts}
 use Rattle.core_state.specs.declared.state.Core.{Core}
-use Rattle.core_state.specs.declared.stop.Stop.{Stop}
-use Rattle.core_state.specs.declared.stop.Stop.TheVariants.{Refused, NoMemory, DiskFailed}
+use Rattle.store_stops.specs.declared.stop.Stop.{Stop}
+use Rattle.store_stops.specs.declared.stop.Stop.TheVariants.{Refused, NoMemory, DiskFailed}
 use Rattle.core_state.specs.declared.upkeep.Upkeep.{Upkeep}
 use Rattle.core_state.specs.Begins.{AdmittedHasText, IsAdmitted, Refuses}
 use Rattle.core_state.specs.Changes.{Change, LeavesChange, after, drops, installs, stays}
@@ -37,7 +37,8 @@ use Rattle.core_state.specs.Entering.{held_by}
 use Rattle.core_state.specs.Passes.{KeepsPlan, PassTouches}
 use Rattle.core_state.specs.Settles.{IsEntered, Settles}
 use Rattle.core_state.specs.States.{state_of}
-use Rattle.core_state.specs.Stops.{StopHasText, told}
+use Rattle.core_state.specs.Stops.{told}
+use Rattle.snapshot_files.specs.Reads.{StopHasText}
 use Rattle.core_state.specs.Unchanged.{SameKept}
 use Rattle.core_state.specs.Upkeeps.{touches_kept}
 use Rattle.core_state.specs.Wanted.{session_at}

@@ -12,8 +12,9 @@ use atime_book::Book;
 use core_state::{Catalogue, Collector, Parts, path_named, touch_each};
 use disk_trait::Disk;
 use gc_plan::{IndexAt, mark_size};
-use snapshot_files::{FilePath, ReadError, read_index};
+use snapshot_files::{FilePath, read_index};
 use std::alloc::{AllocError, Global};
+use store_stops::Stop;
 use store_types::Digest32;
 
 /// Why the digests of an index are not had.
@@ -75,9 +76,9 @@ fn read_digests<D: Disk>(
 {
     match read_index(disk, alloc, path.as_str(), is_fixed, 0) {
         Ok(index) => Ok(digests_of(alloc, &index.entries)?),
-        Err(ReadError::Refused(_)) => Err(unreadable(alloc, path)?),
-        Err(ReadError::NoMemory) => Err(Unread::NoMemory),
-        Err(ReadError::Failed) => Err(Unread::DiskFailed),
+        Err(Stop::Refused(_)) => Err(unreadable(alloc, path)?),
+        Err(Stop::NoMemory) => Err(Unread::NoMemory),
+        Err(Stop::DiskFailed) => Err(Unread::DiskFailed),
     }
 }
 

@@ -7,18 +7,18 @@ ghost use Rattle.wire_commands.specs.HasText.{ReplyHasText};
 ghost use Rattle.store_history.specs.declared.act.Act.TheVariants.{Start};
 ghost use Rattle.core_state.specs.Applies.{ActApplies, ActKeeps};
 ghost use Rattle.core_state.specs.Reserved.{HasRoom};
-ghost use Rattle.core_state.specs.Stops.{StopHasText};
-ghost use Rattle.core_state.specs.declared.stop.Stop.TheVariants.{DiskFailed};
+ghost use Rattle.snapshot_files.specs.Reads.{StopHasText};
+ghost use Rattle.store_stops.specs.declared.stop.Stop.TheVariants.{DiskFailed};
 ghost use Rattle.core_collect.specs.Starting.{GivesCollector, IsNewCollector, MayOpen, earlier_of, indexes_in as indexes_listed, indexes_of as indexes_kept, oldest_kept, StartTells};
 
 use core_state::{
-    Act, Admitted, Answer, Collector, Core, Listed, Parts, Place, Session, Stop, begin, enter,
-    settle,
+    Act, Admitted, Answer, Collector, Core, Listed, Parts, Place, Session, begin, enter, settle,
 };
 use disk_trait::Disk;
 use gc_plan::IndexAt;
 use port_traits::Clock;
 use std::alloc::{AllocError, Global};
+use store_stops::Stop;
 use store_types::{Refusal, START_KIND};
 
 /// Adds the indexes of a finished snapshot, in byte order of their names.

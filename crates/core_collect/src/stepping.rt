@@ -7,20 +7,21 @@ ghost use Rattle.store_history.specs.declared.act.Act.TheVariants.{Step};
 ghost use Rattle.core_state.specs.Applies.{ActApplies, ActKeeps};
 ghost use Rattle.core_state.specs.Collectors.{closed_at_fault, is_cut};
 ghost use Rattle.core_state.specs.Reserved.{HasRoom};
-ghost use Rattle.core_state.specs.Stops.{StopHasText};
+ghost use Rattle.snapshot_files.specs.Reads.{StopHasText};
 ghost use Rattle.core_collect.specs.Stepping.{CollectDoes, EntersPass, GoesOn, PassDoes, StepTells, TakesNext};
 
 use crate::ending::{end, end_early, told};
 use crate::marking::{Unread, find_next, mark};
 use crate::visiting::visit_next;
 use core_state::{
-    Act, Admitted, Answer, Collector, Core, Early, Parts, Place, Stop, Upkeep, begin, enter, is_on,
+    Act, Admitted, Answer, Collector, Core, Early, Parts, Place, Upkeep, begin, enter, is_on,
     settle,
 };
 use disk_trait::Disk;
 use gc_plan::GcReport;
 use port_traits::Clock;
 use std::alloc::Global;
+use store_stops::Stop;
 use store_types::{FAULT_KIND, PART_KIND, Refusal, STOP_KIND};
 
 /// The next mark or visit of a collector, or its end, which gives the report. An index that does not decode is not marked: the

@@ -1,7 +1,6 @@
 -- What is kept of a snapshot that was found, and of all of them.
 use Rattle.std.proofs.Common.{◌≡◌, ◌+◌, ◌≤◌, ℕ, true, ◌&&◌, nat_le, length, map, List, [], ◌∷◌, ◌++◌, Option, Some, None, IfSome, refl, sym, ap, subst, ◌∙◌, arith}
-use Rattle.std.specs.List.{list_all}
-use Rattle.std.proofs.lemmas.Bool.{and_from, and_parts, le-leb}
+use Rattle.std.proofs.lemmas.Bool.{and_from, le-leb}
 use Rattle.store_types.specs.declared.names.SnapshotKey.{SnapshotKey}
 use Rattle.store_types.specs.FileNames.{is_id}
 use Rattle.store_types.specs.Times.{last_moment}
@@ -45,9 +44,3 @@ pub is_named : (x : FoundSnapshot) (y : Listed) → HasNames x → IsKeptOf x y.
 is_named x y has kept =
     let text : (is_id (x.key).id && nat_le (x.key).time last_moment) ≡ true = and_from (is_id (x.key).id) (nat_le (x.key).time last_moment) (has.0).0 (le-leb (x.key).time last_moment (has.0).1) in
     and_from _ _ (ap (λ (k : SnapshotKey). is_id k.id && nat_le k.time last_moment) kept.key ∙ text) (ap is_short_name kept.unreadable ∙ short x.unreadable has.1)
-
-pub all_named_more : (ys : List Listed) (y : Listed) → list_all is_named_snapshot ys ≡ true → is_named_snapshot y ≡ true → list_all is_named_snapshot (ys ++ y ∷ []) ≡ true
-all_named_more [] y all is = and_from (is_named_snapshot y) true is refl
-all_named_more (z ∷ ys) y all is =
-    let both = and_parts (is_named_snapshot z) (list_all is_named_snapshot ys) all in
-    and_from (is_named_snapshot z) (list_all is_named_snapshot (ys ++ y ∷ [])) both.0 (all_named_more ys y both.1 is)

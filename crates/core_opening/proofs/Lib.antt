@@ -3,6 +3,7 @@ pub mod KeptShown
 pub mod Naming
 pub mod Keeping
 pub mod Numbered
+pub mod Inserting
 pub mod Booked
 pub mod Opened
 pub mod Recovering

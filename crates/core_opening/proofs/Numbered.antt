@@ -1,34 +1,34 @@
 -- The snapshots that were found have numbers of their own.
-use Rattle.std.proofs.Common.{◌≡◌, ◌≤◌, ◌+◌, ℕ, List, [], ◌∷◌, inr, arith}
-use Rattle.std.proofs.lemmas.List.Elements.{All-cons, All-nil, All-weaker}
-use Rattle.std.proofs.lemmas.List.Kept.{AllPairs-cons}
+use Rattle.std.proofs.Common.{◌≡◌, ◌<◌, ◌≤◌, ◌+◌, ℕ, List, [], inr, arith}
+use Rattle.std.proofs.lemmas.List.Elements.{All-nil, All-weaker}
 use Rattle.std.specs.List.{All}
 use Rattle.std.specs.Prelude.{AllPairs}
-use Rattle.snapshot_files.specs.Scanned.{FoundSnapshot}
 use Rattle.snapshot_files.proofs.Listing.{pairs_nil}
 use Rattle.core_state.specs.declared.kept.Listed.{Listed}
+use Rattle.core_state.specs.Catalogue.{insert_listed}
 use Rattle.core_state.specs.Numbers.{DifferInNumber, IsGiven, first_number}
-use Rattle.core_opening.specs.Opening.{AreListed, NumbersAll}
+use Rattle.core_state.proofs.Numbering.{all_insert, pairs_insert}
+use Rattle.core_opening.specs.Opening.{NumbersAll}
 
--- from this number on, each its own
-pub record RiseFrom (n : ℕ) (ys : List Listed) : Type 0 where
-  pub least : All (λ y. n ≤ y.number) ys
+-- from the first number up to this one, each its own
+pub record AreBelow (n : ℕ) (ys : List Listed) : Type 0 where
+  pub least : All (λ y. first_number ≤ y.number) ys
+  pub below : All (λ y. y.number < n) ys
   pub once : AllPairs DifferInNumber ys
 
-rises : (n : ℕ) (xs : List FoundSnapshot) (ys : List Listed) → AreListed n xs ys → RiseFrom n ys
-rises n [] [] are = record { least = All-nil (λ y. n ≤ y.number); once = pairs_nil DifferInNumber }
-rises n [] (y ∷ ys) are = absurd are
-rises n (x ∷ xs) [] are = absurd are
-rises n (x ∷ xs) (y ∷ ys) are =
-    let rest = rises (n + 1) xs ys are.2 in
-    let same : y.number ≡ n = are.0 in record {
-      least = All-cons (λ z. n ≤ z.number) y ys (omega (arith, same)) (All-weaker (λ z. n + 1 ≤ z.number) (λ z. n ≤ z.number) (λ z more. omega (arith, more)) ys rest.least);
-      once = AllPairs-cons DifferInNumber y ys (All-weaker (λ z. n + 1 ≤ z.number) (DifferInNumber y) (λ z more e. omega (arith, more, e, same)) ys rest.least) rest.once;
-    }
+pub none_below : (n : ℕ) → AreBelow n []
+none_below n = record { least = All-nil (λ y. first_number ≤ y.number); below = All-nil (λ y. y.number < n); once = pairs_nil DifferInNumber }
 
-pub found_numbered : (xs : List FoundSnapshot) (ys : List Listed) → AreListed first_number xs ys → NumbersAll ys
-found_numbered xs ys are acts =
-    let all = rises first_number xs ys are in record {
-      given = All-weaker (λ y. first_number ≤ y.number) (IsGiven acts) (λ y found. inr found) ys all.least;
-      once = all.once;
-    }
+-- one more
+pub one_below : (n : ℕ) (y : Listed) (ys : List Listed) → first_number ≤ n → y.number ≡ n → AreBelow n ys → AreBelow (n + 1) (insert_listed y ys)
+one_below n y ys from is are = record {
+  least = all_insert (λ z. first_number ≤ z.number) y ys (omega (arith, from, is)) are.least;
+  below = all_insert (λ z. z.number < n + 1) y ys (omega (arith, is)) (All-weaker (λ z. z.number < n) (λ z. z.number < n + 1) (λ z lt. omega (arith, lt)) ys are.below);
+  once = pairs_insert y ys (All-weaker (λ z. z.number < n) (DifferInNumber y) (λ z lt e. omega (arith, lt, e, is)) ys are.below) are.once;
+}
+
+pub all_numbered : (n : ℕ) (ys : List Listed) → AreBelow n ys → NumbersAll ys
+all_numbered n ys are acts = record {
+  given = All-weaker (λ y. first_number ≤ y.number) (IsGiven acts) (λ y found. inr found) ys are.least;
+  once = are.once;
+}

@@ -37,6 +37,7 @@ use Rattle.core_opening.specs.declared.opening.OpenFault.{OpenFault}
 use Rattle.core_opening.specs.declared.opening.OpenFault.TheVariants.{NotSynced, DiskFault, NoMemory}
 use Rattle.core_state.specs.declared.state.Core.{Core}
 use Rattle.core_state.specs.declared.upkeep.Upkeep.{Upkeep}
+use Rattle.core_state.specs.Catalogue.{insert_listed}
 use Rattle.core_state.specs.Entering.{AllHeld}
 use Rattle.core_state.specs.History.{StandsFor, began}
 use Rattle.core_state.specs.KeepsTouches.{KeepsTouches}
@@ -77,6 +78,17 @@ abbrev pub AreListed : ℕ → List FoundSnapshot → List Listed → Type 0
 AreListed n [] [] = Unit {0}
 AreListed n (x ∷ xs) (y ∷ ys) = (y.number ≡ n) × IsKeptOf x y.kept × AreListed (n + 1) xs ys
 AreListed n _ _ = ⊥
+
+-- one after another at its place in the order
+abbrev pub inserted : List Listed → List Listed → List Listed
+inserted done [] = done
+inserted done (x ∷ xs) = inserted (insert_listed x done) xs
+
+-- in whatever order they were found, they stand in that of their keys
+pub record AreInserted (found : List FoundSnapshot) (catalogue : List Listed) : Type 0 where
+  pub each : List Listed
+  pub listed : AreListed first_number found each
+  pub order : catalogue ≡ inserted [] each
 
 -- no two have one number, nor that of an act
 abbrev pub NumbersAll : List Listed → Type 0

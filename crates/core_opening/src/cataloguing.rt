@@ -5,8 +5,7 @@ ghost use Rattle.std.specs.List.{All};
 ghost use Rattle.manifest.specs.Views.{manifest_view};
 ghost use Rattle.store_types.specs.Names.{IsKey};
 ghost use Rattle.snapshot_files.specs.Scanned.{HasNames};
-ghost use Rattle.core_state.specs.Numbers.{first_number};
-ghost use Rattle.core_opening.specs.Opening.{AreListed, IsKeptOf, ListsNames, NumbersAll, stored_at, stored_names_rise};
+ghost use Rattle.core_opening.specs.Opening.{AreInserted, IsKeptOf, ListsNames, NumbersAll, stored_at, stored_names_rise};
 
 use core_state::{Catalogue, Kept, Listed, StoredFile};
 use manifest::Manifest;
@@ -73,14 +72,15 @@ fn kept_of(alloc: Global, found: Found) -> Result<Kept, AllocError>
 /// The catalogue of the snapshots that were found, each with what is kept of it, by numbers of their own.
 pub fn catalogue_of(alloc: Global, found: Vec<Found>) -> Result<Catalogue, AllocError>
     requires { All HasNames found.items }
-    ensures listed { IfOk result (λ c. AreListed first_number found.items c.listed) }
+    ensures listed { IfOk result (λ c. AreInserted found.items c.listed) }
     ensures numbers { IfOk result (λ c. NumbersAll c.listed) }
 {
-    let mut listed = Vec::with_capacity(alloc, found.len())?;
+    let mut catalogue = Catalogue::new(alloc);
     for found in found {
-        let number = FIRST_NUMBER + listed.len() as u64;
+        let number = FIRST_NUMBER + catalogue.as_slice().len() as u64;
         let kept = kept_of(alloc, found)?;
-        listed.push(Listed { number, kept })?;
+        catalogue.reserve()?;
+        catalogue.insert_reserved(Listed { number, kept });
     }
-    Ok(Catalogue::from_vec(listed))
+    Ok(catalogue)
 }

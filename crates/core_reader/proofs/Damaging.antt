@@ -21,9 +21,10 @@ use Rattle.core_state.specs.declared.parts.Parts.{Parts}
 use Rattle.core_state.specs.declared.state.Core.{Core}
 use Rattle.core_state.specs.Begins.{Refuses, short as is_out_of_memory, halted as is_halted, IsReady}
 use Rattle.core_state.specs.Settles.{Settles, kind_by, reply_by}
-use Rattle.core_state.specs.Stops.{Gives, IfRefused, told}
-use Rattle.core_state.specs.declared.stop.Stop.{Stop}
-use Rattle.core_state.specs.declared.stop.Stop.TheVariants as kinds
+use Rattle.core_state.specs.Stops.{told}
+use Rattle.store_stops.specs.Stops.{Gives, IfRefused}
+use Rattle.store_stops.specs.declared.stop.Stop.{Stop}
+use Rattle.store_stops.specs.declared.stop.Stop.TheVariants as kinds
 use Rattle.core_reader.specs.Chunks.{or_damaged, part_chunk_at, part_found, parts_at, IsDamageAmong, StopsAmong, StopsAt}
 use Rattle.core_reader.specs.Damages.{digests_of, first_wrong, TellsDamaged}
 

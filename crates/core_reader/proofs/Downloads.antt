@@ -32,11 +32,11 @@ use Rattle.core_state.specs.Found.{path_in}
 use Rattle.core_state.specs.Holds.{IsReader, IsOnDisk, Holds, Shows}
 use Rattle.core_state.specs.Shown.{files_named, shown_reader, shown_session, shown_snapshot}
 use Rattle.core_state.specs.Replies.{refuses_download}
-use Rattle.core_state.specs.Stops.{Gives, IfRefused}
+use Rattle.store_stops.specs.Stops.{Gives, IfRefused}
 use Rattle.core_state.specs.Unreadables.{Asked, from_offset}
 use Rattle.core_state.specs.Wanted.{reader_in, session_at}
-use Rattle.core_state.specs.declared.stop.Stop.{Stop}
-use Rattle.core_state.specs.declared.stop.Stop.TheVariants.{Refused, NoMemory, DiskFailed}
+use Rattle.store_stops.specs.declared.stop.Stop.{Stop}
+use Rattle.store_stops.specs.declared.stop.Stop.TheVariants.{Refused, NoMemory, DiskFailed}
 use Rattle.core_state.proofs.Commanding.{reader_shown, reader_wanted, refused_by_state}
 use Rattle.core_state.proofs.Texts.{bad_name_has_text, no_file_has_text, wrong_state_has_text}
 use Rattle.core_state.proofs.LockLemmas.{locked_reads_on}

@@ -26,9 +26,10 @@ use Rattle.chunk_store.specs.declared.chunk.LoadFault.TheVariants as loads
 use Rattle.chunk_store.proofs.Blobs.{data_behind_header, data_is, checked_piece}
 use Rattle.core_state.specs.Replies.{refuses_get, refuses_range}
 use Rattle.core_state.specs.Unchanged.{is_uncalled}
-use Rattle.core_state.specs.Stops.{Gives, IfRefused, StopHasText}
-use Rattle.core_state.specs.declared.stop.Stop.{Stop}
-use Rattle.core_state.specs.declared.stop.Stop.TheVariants.{Refused, NoMemory, DiskFailed}
+use Rattle.snapshot_files.specs.Reads.{StopHasText}
+use Rattle.store_stops.specs.Stops.{Gives, IfRefused}
+use Rattle.store_stops.specs.declared.stop.Stop.{Stop}
+use Rattle.store_stops.specs.declared.stop.Stop.TheVariants.{Refused, NoMemory, DiskFailed}
 use Rattle.core_reader.specs.Chunks.{or_damaged, of_length, bytes_at, bytes_in, chunk_at, part_chunk_at, parts_at, stop_by_load, IsDamageOf, StopsAmong, StopsAt}
 
 -- ---- pieces that stand there

@@ -1,5 +1,7 @@
 -- RANGE is the store's.
-use Rattle.std.proofs.Common.{◌≡◌, ◌<◌, ◌≤◌, ℕ, true, false, List, [], drop, length, Option, Some, None, is_some, option_map, Result, Ok, Err, IfErr, IsErrAnd, IsErrOf, IsTrue, map, refl, sym, ap, subst, ◌∙◌, arith}
+use Rattle.std.proofs.Common.{◌≡◌, ◌<◌, ◌≤◌, ℕ, true, false, List, [], drop, length, Option, Some, None, is_some, option_map, Result, Ok, Err, IfOk, IfErr, IsErrAnd, IsErrOf, IsTrue, Vec, map, refl, sym, ap, subst, ◌∙◌, arith}
+use Rattle.std.specs.Prelude.{MatchResult}
+use Rattle.std.specs.declared.alloc.Global.{Global}
 use Rattle.std.specs.List.{All}
 use Rattle.std.proofs.lemmas.List.Elements.{All-drop}
 use Rattle.disk_trait.specs.Files.{Files}
@@ -10,6 +12,7 @@ use Rattle.store_types.specs.declared.names.Digest32.{Digest32}
 use Rattle.store_types.specs.declared.names.SnapshotKey.{SnapshotKey}
 use Rattle.store_types.specs.declared.refusal.Refusal.{Refusal}
 use Rattle.store_types.specs.declared.refusal.Refusal.TheVariants.{WrongState, BadName, NoFile, NotAllowed, TooMany, BadRange, Damaged}
+use Rattle.store_types.specs.declared.refusal.Refusal.TheVariants as refusals
 use Rattle.store_files.specs.Archive.{File, file_named}
 use Rattle.wire_frames.specs.Frames.{body_limit}
 use Rattle.wire_commands.specs.declared.reply.Reply.TheVariants.{Data}
@@ -19,7 +22,7 @@ use Rattle.store_model.specs.Store.{Store, reader, session, want_reader}
 use Rattle.store_model.specs.ReaderSteps.{pieces_at, range, range_of, reader_files}
 use Rattle.store_model.specs.Steps.{outcome}
 use Rattle.restore_reader.specs.declared.ranges.Part.{Part}
-use Rattle.restore_reader.specs.Answers.{GivesBytes, RefusesRange}
+use Rattle.restore_reader.specs.Answers.{GivesBytes, PlanPlainly, RefusesRange}
 use Rattle.restore_reader.specs.Cutting.{ArePartsOf, joined}
 use Rattle.restore_reader.specs.Session.{Reading}
 use Rattle.restore_reader.specs.Steps.{range_plan}
@@ -27,13 +30,15 @@ use Rattle.chunk_store.specs.Pieces.{IsHeld}
 use Rattle.core_state.specs.Found.{path_in}
 use Rattle.core_state.specs.Holds.{IsOnDisk}
 use Rattle.core_state.specs.Replies.{refuses_range}
-use Rattle.core_state.specs.Stops.{Gives, IfRefused, StopHasText}
+use Rattle.snapshot_files.specs.Reads.{StopHasText}
+use Rattle.store_stops.specs.Outcomes.{IfAnswered, IfCause}
+use Rattle.store_stops.specs.Stops.{Gives, IfRefused, answered_of}
 use Rattle.core_state.specs.Shown.{shown_reader, shown_snapshot}
 use Rattle.core_state.specs.Wanted.{reader_in}
 use Rattle.core_state.specs.declared.kept.Listed.{Listed}
 use Rattle.core_state.specs.declared.kept.Session.{Session}
-use Rattle.core_state.specs.declared.stop.Stop.{Stop}
-use Rattle.core_state.specs.declared.stop.Stop.TheVariants.{Refused, NoMemory, DiskFailed}
+use Rattle.store_stops.specs.declared.stop.Stop.{Stop}
+use Rattle.store_stops.specs.declared.stop.Stop.TheVariants.{Refused, NoMemory, DiskFailed}
 use Rattle.core_state.proofs.Found.{is_there, not_there, there_named}
 use Rattle.core_state.proofs.Texts.{bad_range_has_text, not_allowed_has_text, too_many_has_text}
 use Rattle.core_reader.specs.Asked.{range_asked}
@@ -178,6 +183,35 @@ module _ (s : Store) (lane : ℕ) (file : List ℕ) (offset len : ℕ) (catalogu
     given = plan_told path (Ok gives.bytes) found gives.stepped;
     reads = gives.reads;
   }
+
+  pub plan_shown : (path : List ℕ) (told : Result (Vec Part Global) Refusal) → path_in r.key file catalogue ≡ Some path → PlanPlainly r file offset len told
+      → MatchResult told (λ parts. PlansBytes s lane file offset len parts.items) (λ refusal. range s lane file offset len ≡ Err refusal)
+  plan_shown path (Ok parts) found says = plan_given path parts.items found (says (reader_files s v) v (sym is))
+  plan_shown path (Err refusal) found says = plan_refused path refusal found (says (reader_files s v) v (sym is))
+
+-- ---- the plan is answered
+
+pub answered_gives : {A B : Type 0} (f : A → B) (wanted : Result B Refusal) (told : Result A Refusal)
+    → IfAnswered told (λ t. MatchResult t (λ a. wanted ≡ Ok (f a)) (λ refusal. wanted ≡ Err refusal)) → Gives f (answered_of told) wanted
+answered_gives f wanted (Ok x) is = is
+answered_gives f wanted (Err refusals.NoMemory) is = tt
+answered_gives f wanted (Err cause) is = is
+
+pub answered_plans : {A : Type 0} (show : A → List Part) (s : Store) (lane : ℕ) (file : List ℕ) (offset len : ℕ) (P : Result A Refusal → Type 0) (told : Result A Refusal)
+    → ((t : Result A Refusal) → P t → MatchResult t (λ a. PlansBytes s lane file offset len (show a)) (λ refusal. range s lane file offset len ≡ Err refusal))
+    → IfAnswered told P → PlansRange show s lane file offset len (answered_of told)
+answered_plans show s lane file offset len P (Ok x) by is = by (Ok x) is
+answered_plans show s lane file offset len P (Err refusals.NoMemory) by is = tt
+answered_plans show s lane file offset len P (Err cause) by is = by (Err cause) is
+
+pub answered_has : {A : Type 0} (P : A → Type 0) (told : Result A Refusal) → IfOk told P → IfOk (answered_of told) P
+answered_has P (Ok x) is = is
+answered_has P (Err cause) is = tt
+
+pub answered_stops : {A : Type 0} (told : Result A Refusal) → IfCause told RefusesRange → IfErr (answered_of told) StopsRange
+answered_stops (Ok x) is = tt
+answered_stops (Err refusals.NoMemory) is = tt
+answered_stops (Err cause) is = plan_stops cause is
 
 -- no chunk is needed where it is not planned
 pub planned_needs : {A : Type 0} (show : A → List Part) (wanted : Result (List Part) Refusal) (stop : Stop) → Gives show (Err stop) wanted → StopsRange stop

@@ -31,21 +31,18 @@ use Rattle.restore_reader.specs.Session.{Reading}
 use Rattle.snapshot_files.specs.Entry.{entry_at}
 use Rattle.snapshot_files.specs.Indexes.{is_fixed_layout}
 use Rattle.snapshot_files.specs.Parts.{RefusesPart}
-use Rattle.snapshot_files.specs.Reads as reads
-use Rattle.snapshot_files.specs.declared.read_error.ReadError.{ReadError}
-use Rattle.snapshot_files.specs.declared.read_error.ReadError.TheVariants as errors
+use Rattle.store_stops.specs.declared.stop.Stop.{Stop}
 use Rattle.snapshot_files.proofs.Archives.{blob_no_dynamic, blob_no_fixed, layout_named}
 use Rattle.snapshot_files.proofs.EntryLemmas.{archive_entry}
 use Rattle.chunk_store.specs.Pieces.{IsHeld}
 use Rattle.core_state.specs.declared.kept.Listed.{Listed}
 use Rattle.core_state.specs.declared.kept.Session.{Session}
 use Rattle.core_state.specs.declared.parts.Parts.{Parts}
-use Rattle.core_state.specs.declared.stop.Stop.{Stop}
-use Rattle.core_state.specs.declared.stop.Stop.TheVariants.{Refused, NoMemory, DiskFailed}
+use Rattle.store_stops.specs.declared.stop.Stop.TheVariants.{Refused, NoMemory, DiskFailed}
 use Rattle.core_state.specs.Found.{path_in}
 use Rattle.core_state.specs.Holds.{Holds, Shows}
 use Rattle.core_state.specs.Replies.{refuses_entry}
-use Rattle.core_state.specs.Stops.{Gives, IfRefused, stop_by_read}
+use Rattle.store_stops.specs.Stops.{Gives, IfRefused}
 use Rattle.core_state.specs.Unreadables.{Asked, TellsUnreadable, part_read}
 use Rattle.core_state.specs.Wanted.{reader_in, session_at}
 use Rattle.core_state.proofs.Commanding.{none_refused, reader_shown, reader_wanted, refused_by_state}
@@ -336,11 +333,11 @@ module _ (m : Files) (path q name : List ℕ) (place : ℕ) (is_fixed : Bool) (h
   pub entry_got : (digest : Digest32) → entry_at m q is_fixed place ≡ Ok digest → part_read m (as_entry name place path) ≡ Ok Done
   entry_got digest gives = ap asked_of (sym entry_here ∙ gives)
 
-  pub entry_stop : (e : ReadError) → reads.Gives {A = Digest32} (λ digest. digest) (Err e) (entry_at m q is_fixed place)
-      → reads.Gives {A = Reply} (λ part. part) (Err e) (part_read m (as_entry name place path))
-  entry_stop (errors.Refused refusal) gives = ap asked_of (sym entry_here ∙ gives)
-  entry_stop errors.NoMemory gives = tt
-  entry_stop errors.Failed gives = tt
+  pub entry_stop : (e : Stop) → Gives {A = Digest32} (λ digest. digest) (Err e) (entry_at m q is_fixed place)
+      → Gives {A = Reply} (λ part. part) (Err e) (part_read m (as_entry name place path))
+  entry_stop (Refused refusal) gives = ap asked_of (sym entry_here ∙ gives)
+  entry_stop NoMemory gives = tt
+  entry_stop DiskFailed gives = tt
 
   -- ---- what is damaged
 
@@ -404,11 +401,11 @@ no_chunk path (BadRange size) h digest found e = cc
 no_chunk path (Unreadable name) h digest found e = cc
 no_chunk path _ h digest found e = absurd h
 
-pub unread_undamaged : (path : List ℕ) (e : ReadError) (H P : Type 0) (wanted : Result Digest32 Refusal) → reads.IfRefused (RefusesPart path) e → (H → reads.Gives {A = Digest32} (λ digest. digest) (Err e) wanted)
-    → ((refusal : Refusal) → H → wanted ≡ Err refusal → P) → IfRefused (λ refusal. (H → P) × ((digest : Digest32) (found : ChunkFault) → refusal ≡ Damaged digest found → ⊥)) (stop_by_read e)
-unread_undamaged path (errors.Refused refusal) H P wanted kind gives so = (λ h. so refusal h (gives h), no_chunk path refusal kind)
-unread_undamaged path errors.NoMemory H P wanted kind gives so = tt
-unread_undamaged path errors.Failed H P wanted kind gives so = tt
+pub unread_undamaged : (path : List ℕ) (e : Stop) (H P : Type 0) (wanted : Result Digest32 Refusal) → IfRefused (RefusesPart path) e → (H → Gives {A = Digest32} (λ digest. digest) (Err e) wanted)
+    → ((refusal : Refusal) → H → wanted ≡ Err refusal → P) → IfRefused (λ refusal. (H → P) × ((digest : Digest32) (found : ChunkFault) → refusal ≡ Damaged digest found → ⊥)) e
+unread_undamaged path (Refused refusal) H P wanted kind gives so = (λ h. so refusal h (gives h), no_chunk path refusal kind)
+unread_undamaged path NoMemory H P wanted kind gives so = tt
+unread_undamaged path DiskFailed H P wanted kind gives so = tt
 
 -- ---- what is answered
 
@@ -417,10 +414,10 @@ refusal_answers path (BadRange size) h = refl
 refusal_answers path (Unreadable name) h = refl
 refusal_answers path _ h = absurd h
 
-pub entry_error_answers : (path : List ℕ) (e : ReadError) → reads.IfRefused (RefusesPart path) e → IfRefused (λ r. IsTrue (refuses_entry r)) (stop_by_read e)
-entry_error_answers path (errors.Refused refusal) h = refusal_answers path refusal h
-entry_error_answers path errors.NoMemory h = tt
-entry_error_answers path errors.Failed h = tt
+pub entry_error_answers : (path : List ℕ) (e : Stop) → IfRefused (RefusesPart path) e → IfRefused (λ r. IsTrue (refuses_entry r)) e
+entry_error_answers path (Refused refusal) h = refusal_answers path refusal h
+entry_error_answers path NoMemory h = tt
+entry_error_answers path DiskFailed h = tt
 
 pub chunk_answers : (digest : Digest32) (stop : Stop) → StopsAt digest stop → IfRefused (λ refusal. IsTrue (refuses_entry refusal)) stop
 chunk_answers digest (Refused refusal) h = ap refuses_entry (h.0).1

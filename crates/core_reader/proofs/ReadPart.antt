@@ -20,18 +20,15 @@ use Rattle.store_model.specs.Steps.{outcome}
 use Rattle.store_files.specs.Archive.{file_text}
 use Rattle.restore_reader.specs.Session.{Reading}
 use Rattle.snapshot_files.specs.Parts.{FillsPart, IsPart, RefusesPart, part_at, part_from}
-use Rattle.snapshot_files.specs.Reads as reads
-use Rattle.snapshot_files.specs.declared.read_error.ReadError.{ReadError}
-use Rattle.snapshot_files.specs.declared.read_error.ReadError.TheVariants as errors
+use Rattle.store_stops.specs.declared.stop.Stop.{Stop}
 use Rattle.core_state.specs.declared.kept.Listed.{Listed}
 use Rattle.core_state.specs.declared.kept.Session.{Session}
 use Rattle.core_state.specs.declared.parts.Parts.{Parts}
 use Rattle.core_state.specs.Found.{path_in}
 use Rattle.core_state.specs.Holds.{Holds, Shows}
 use Rattle.core_state.specs.Replies.{answers_part, refuses_part}
-use Rattle.core_state.specs.Stops.{Gives, IfRefused, stop_by_read}
-use Rattle.core_state.specs.declared.stop.Stop.{Stop}
-use Rattle.core_state.specs.declared.stop.Stop.TheVariants.{Refused, NoMemory, DiskFailed}
+use Rattle.store_stops.specs.Stops.{Gives, IfRefused}
+use Rattle.store_stops.specs.declared.stop.Stop.TheVariants.{Refused, NoMemory, DiskFailed}
 use Rattle.core_state.specs.Unreadables.{Asked}
 use Rattle.core_state.specs.Wanted.{reader_in, session_at}
 use Rattle.core_state.proofs.Commanding.{reader_shown, reader_wanted, refused_by_state}
@@ -186,10 +183,10 @@ refusal_answers path (BadRange size) h = refl
 refusal_answers path (Unreadable name) h = refl
 refusal_answers path _ h = absurd h
 
-pub read_error_answers : (path : List ℕ) (e : ReadError) → reads.IfRefused (RefusesPart path) e → IfRefused (λ r. IsTrue (refuses_part r)) (stop_by_read e)
-read_error_answers path (errors.Refused refusal) h = refusal_answers path refusal h
-read_error_answers path errors.NoMemory h = tt
-read_error_answers path errors.Failed h = tt
+pub read_error_answers : (path : List ℕ) (e : Stop) → IfRefused (RefusesPart path) e → IfRefused (λ r. IsTrue (refuses_part r)) e
+read_error_answers path (Refused refusal) h = refusal_answers path refusal h
+read_error_answers path NoMemory h = tt
+read_error_answers path DiskFailed h = tt
 
 -- a part is not empty before the file's end
 pub filled_answers : (offset : ℕ) (reply : Reply) → IsPart reply → FillsPart offset reply → answers_part offset reply ≡ true

@@ -11,15 +11,13 @@ use Rattle.wire_commands.specs.declared.reply.Reply.{Reply}
 use Rattle.wire_commands.specs.declared.reply.Reply.TheVariants.{Data}
 use Rattle.snapshot_files.specs.Entry.{entry_at}
 use Rattle.snapshot_files.specs.Parts.{part_at}
-use Rattle.snapshot_files.specs.Reads as reads
-use Rattle.snapshot_files.specs.declared.read_error.ReadError.{ReadError}
-use Rattle.snapshot_files.specs.declared.read_error.ReadError.TheVariants as errors
+use Rattle.store_stops.specs.declared.stop.Stop.{Stop}
 use Rattle.core_state.specs.declared.entering.Place.{Place}
 use Rattle.core_state.specs.declared.parts.Parts.{Parts}
-use Rattle.core_state.specs.declared.stop.Stop.{Stop}
-use Rattle.core_state.specs.declared.stop.Stop.TheVariants.{Refused, NoMemory, DiskFailed}
+use Rattle.store_stops.specs.declared.stop.Stop.TheVariants.{Refused, NoMemory, DiskFailed}
 use Rattle.core_state.specs.Replies.{reply_told}
-use Rattle.core_state.specs.Stops.{Gives, stop_by_read, told}
+use Rattle.core_state.specs.Stops.{told}
+use Rattle.store_stops.specs.Stops.{Gives}
 use Rattle.core_state.specs.Wanted.{session_at}
 use Rattle.core_state.proofs.FromState.{Stops, stopped}
 use Rattle.core_reader.specs.AnsweredBy.{ActReads, chunk_told, part_told}
@@ -46,11 +44,6 @@ first_stops {A} rest (Refused refusal) first gives = ap (λ (o : Result A Refusa
 first_stops rest NoMemory first gives = tt
 first_stops rest DiskFailed first gives = tt
 
-read_stop : {A : Type 0} (e : ReadError) (wanted : Result A Refusal) → reads.Gives {A = A} (λ x. x) (Err e) wanted → Gives {A = A} (λ x. x) (Err (stop_by_read e)) wanted
-read_stop (errors.Refused refusal) wanted gives = gives
-read_stop errors.NoMemory wanted gives = tt
-read_stop errors.Failed wanted gives = tt
-
 -- ---- a part of a file
 
 module _ {D : Type 0} (d : Ghosts D) (old : Parts D) (at : Place) (name : List ℕ) (offset : ℕ) where
@@ -72,11 +65,11 @@ module _ {D : Type 0} (d : Ghosts D) (old : Parts D) (at : Place) (name : List �
     part_wanted = ap (λ (o : Result (List ℕ) Refusal). o >>= part_in) there ∙ ap part_in (sym here)
 
     -- it is refused by what stands there
-    pub part_unread : (e : ReadError) (result : Result Reply Stop) → Stops result (stop_by_read e) → (d.honest old.disk → reads.Gives {A = Reply} (λ part. part) (Err e) (part_in q))
+    pub part_unread : (e : Stop) (result : Result Reply Stop) → Stops result e → (d.honest old.disk → Gives {A = Reply} (λ part. part) (Err e) (part_in q))
         → ActReads d (part_told name offset) old at result
     part_unread e result stops gives = λ honest.
-        stop_told part_here (stop_by_read e) result stops
-        (subst (λ w. Gives {A = Reply} (λ reply. reply) (Err (stop_by_read e)) w) (sym part_wanted) (read_stop {A = Reply} e (part_in q) (gives honest)))
+        stop_told part_here e result stops
+        (subst (λ w. Gives {A = Reply} (λ reply. reply) (Err e) w) (sym part_wanted) (gives honest))
 
     -- it is given
     pub part_answers : (part : Reply) → (d.honest old.disk → part_in q ≡ Ok part) → ActReads d (part_told name offset) old at (Ok part)
@@ -126,12 +119,12 @@ module _ {D : Type 0} (d : Ghosts D) (old : Parts D) (at : Place) (name : List �
           ∙ ap (λ (o : Result Digest32 Refusal). o >>= bytes_in) (sym (entry_here (d.content old.disk) path q name place is_fixed here kind))
 
       -- the entry is refused by what stands there
-      pub entry_unread : (e : ReadError) (result : Result Reply Stop) → Stops result (stop_by_read e) → (d.honest old.disk → reads.Gives {A = Digest32} (λ digest. digest) (Err e) entry)
+      pub entry_unread : (e : Stop) (result : Result Reply Stop) → Stops result e → (d.honest old.disk → Gives {A = Digest32} (λ digest. digest) (Err e) entry)
           → ActReads d (chunk_told name place) old at result
       entry_unread e result stops gives = λ honest.
-          stop_told chunk_here (stop_by_read e) result stops
-          (subst (λ w. Gives {A = Reply} (λ reply. reply) (Err (stop_by_read e)) w) (sym chunk_wanted)
-          (first_stops {A = Digest32} bytes_in (stop_by_read e) entry (read_stop {A = Digest32} e entry (gives honest))))
+          stop_told chunk_here e result stops
+          (subst (λ w. Gives {A = Reply} (λ reply. reply) (Err e) w) (sym chunk_wanted)
+          (first_stops {A = Digest32} bytes_in e entry (gives honest)))
 
       module _ (digest : Digest32) (n : Files) (read : entry ≡ Ok digest) (same : n ≡ d.content old.disk) where
         bytes_wanted : chunk_here ≡ (bytes_at n digest >>= data_in)

@@ -9,11 +9,10 @@ use Rattle.store_types.specs.declared.refusal.Refusal.{Refusal}
 use Rattle.store_types.specs.declared.refusal.Refusal.TheVariants.{BadRange, Unreadable}
 use Rattle.wire_commands.specs.declared.reply.Reply.{Reply}
 use Rattle.wire_commands.specs.declared.reply.Reply.TheVariants as replies
+use Rattle.snapshot_files.specs.Reads.{StopHasText}
 use Rattle.snapshot_files.specs.Indexes.{Indexed, index_at, shown_index}
 use Rattle.snapshot_files.specs.Parts.{IsPart, RefusesPart, part_at}
-use Rattle.snapshot_files.specs.Reads as reads
-use Rattle.snapshot_files.specs.declared.read_error.ReadError.{ReadError}
-use Rattle.snapshot_files.specs.declared.read_error.ReadError.TheVariants as errors
+use Rattle.store_stops.specs.declared.stop.Stop.{Stop}
 use Rattle.wire_commands.specs.declared.command.Command.TheVariants.{Download}
 use Rattle.store_history.specs.declared.act.Act.{Act}
 use Rattle.store_history.specs.declared.act.Act.TheVariants.{Plain}
@@ -25,23 +24,23 @@ use Rattle.core_state.specs.Holds.{Holds}
 use Rattle.core_state.specs.Wanted.{session_at}
 use Rattle.core_state.specs.declared.entering.Place.{Place}
 use Rattle.core_state.specs.declared.parts.Parts.{Parts}
-use Rattle.core_state.proofs.Commanding.{act_does, read_text, reads_disk, stopped_does, stopped_leaves, writes_leaves}
+use Rattle.core_state.proofs.Commanding.{act_does, reads_disk, stopped_does, stopped_leaves, writes_leaves}
 use Rattle.core_state.specs.Replies.{answers_download, may_answer, refuses_download}
 use Rattle.core_state.specs.Settles.{kind_by, reply_by}
-use Rattle.core_state.specs.Stops.{IfRefused, stop_by_read, told}
+use Rattle.core_state.specs.Stops.{told}
+use Rattle.store_stops.specs.Stops.{IfRefused, Gives}
 use Rattle.core_state.specs.Unreadables.{Asked, TellsUnreadable, part_read, read_by}
 use Rattle.core_state.specs.Unchanged.{SameKept, is_uncalled}
-use Rattle.core_state.specs.declared.stop.Stop.{Stop}
-use Rattle.core_state.specs.declared.stop.Stop.TheVariants.{Refused, NoMemory, DiskFailed}
+use Rattle.store_stops.specs.declared.stop.Stop.TheVariants.{Refused, NoMemory, DiskFailed}
 use Rattle.core_state.proofs.Unreadables.{refusal_called, tells_failed, tells_other, tells_read}
 
 -- ---- what a read stops by
 
 -- it fails as the read did
-pub read_fails : {A B : Type 0} (read : Result A ReadError) (e : ReadError) → read ≡ Err e → IsErrOf {T = B} (Err (stop_by_read e)) DiskFailed → IsErrOf read errors.Failed
-read_fails read (errors.Refused refusal) was failed = cc
-read_fails read errors.NoMemory was failed = cc
-read_fails read errors.Failed was failed = was
+pub read_fails : {A B : Type 0} (read : Result A Stop) (e : Stop) → read ≡ Err e → IsErrOf {T = B} (Err e) DiskFailed → IsErrOf read DiskFailed
+read_fails read (Refused refusal) was failed = cc
+read_fails read NoMemory was failed = cc
+read_fails read DiskFailed was failed = was
 
 refuses_part : (path : List ℕ) (r : Refusal) → RefusesPart path r → refuses_download r ≡ true
 refuses_part path (BadRange size) h = refl
@@ -49,10 +48,10 @@ refuses_part path (Unreadable name) h = refl
 refuses_part path _ h = absurd h
 
 -- by what it gave
-pub read_stops : {A B : Type 0} (f : A → B) (wanted : Result B Refusal) (P : Refusal → Type 0) (e : ReadError) → reads.Gives f (Err e) wanted → ((r : Refusal) → wanted ≡ Err r → P r) → IfRefused P (stop_by_read e)
-read_stops f wanted P (errors.Refused refusal) gives so = so refusal gives
-read_stops f wanted P errors.NoMemory gives so = tt
-read_stops f wanted P errors.Failed gives so = tt
+pub read_stops : {A B : Type 0} (f : A → B) (wanted : Result B Refusal) (P : Refusal → Type 0) (e : Stop) → Gives f (Err e) wanted → ((r : Refusal) → wanted ≡ Err r → P r) → IfRefused P e
+read_stops f wanted P (Refused refusal) gives so = so refusal gives
+read_stops f wanted P NoMemory gives so = tt
+read_stops f wanted P DiskFailed gives so = tt
 
 pub reads_as : {D : Type 0} (d : Ghosts D) (old new : D) (F G : Type 0) → (G → F) → OnlyReads d old new F → OnlyReads d old new G
 reads_as d old new F G why reads = record {
@@ -71,18 +70,18 @@ true_false e = cc
 pub part_called : (path : List ℕ) (P : Type 0) (r : Refusal) → RefusesPart path r → is_uncalled r ≡ true → P
 part_called path P r kind uncalled = absurd (true_false (sym uncalled ∙ refusal_called path r kind))
 
-pub read_called : (path : List ℕ) (P : Type 0) (e : ReadError) → reads.IfRefused (RefusesPart path) e → IfRefused (λ r. is_uncalled r ≡ true → P) (stop_by_read e)
-read_called path P (errors.Refused refusal) h = part_called path P refusal h
-read_called path P errors.NoMemory h = tt
-read_called path P errors.Failed h = tt
+pub read_called : (path : List ℕ) (P : Type 0) (e : Stop) → IfRefused (RefusesPart path) e → IfRefused (λ r. is_uncalled r ≡ true → P) e
+read_called path P (Refused refusal) h = part_called path P refusal h
+read_called path P NoMemory h = tt
+read_called path P DiskFailed h = tt
 
-pub read_answers : (path : List ℕ) (e : ReadError) → reads.IfRefused (RefusesPart path) e → IfRefused (λ r. IsTrue (refuses_download r)) (stop_by_read e)
-read_answers path (errors.Refused refusal) h = refuses_part path refusal h
-read_answers path errors.NoMemory h = tt
-read_answers path errors.Failed h = tt
+pub read_answers : (path : List ℕ) (e : Stop) → IfRefused (RefusesPart path) e → IfRefused (λ r. IsTrue (refuses_download r)) e
+read_answers path (Refused refusal) h = refuses_part path refusal h
+read_answers path NoMemory h = tt
+read_answers path DiskFailed h = tt
 
-pub read_at : (path q : List ℕ) (e : ReadError) → q ≡ path → reads.IfRefused (RefusesPart q) e → reads.IfRefused (RefusesPart path) e
-read_at path q e is h = subst (λ p. reads.IfRefused (RefusesPart p) e) is h
+pub read_at : (path q : List ℕ) (e : Stop) → q ≡ path → IfRefused (RefusesPart q) e → IfRefused (RefusesPart path) e
+read_at path q e is h = subst (λ p. IfRefused (RefusesPart p) e) is h
 
 pub part_answers : (reply : Reply) → IsPart reply → answers_download reply ≡ true
 part_answers (replies.Part total bytes) h = refl
@@ -94,18 +93,18 @@ part_plain _ h = absurd h
 
 -- ---- the records of an act that stopped so
 
-module _ {A D : Type 0} (d : Ghosts D) (old new : Parts D) (at : Place) (act : Act) (read : Result A ReadError) (e : ReadError) (was : read ≡ Err e) (result : Result Reply Stop) where
-  pub stops_does : IsErrAnd result (λ x. x ≡ stop_by_read e) → OnlyReads d old.disk new.disk (IsErrOf read errors.Failed) → SameKept old new → reads.ErrorHasText e
-      → IfRefused (λ refusal. IsTrue (may_answer act (replies.Refused refusal))) (stop_by_read e)
-      → ((s : Store) → Holds d old s → IfRefused (λ refusal. act_does s at.lane at.moment act ≡ Err refusal) (stop_by_read e)) → ActDoes d old new at act result
+module _ {A D : Type 0} (d : Ghosts D) (old new : Parts D) (at : Place) (act : Act) (read : Result A Stop) (e : Stop) (was : read ≡ Err e) (result : Result Reply Stop) where
+  pub stops_does : IsErrAnd result (λ x. x ≡ e) → OnlyReads d old.disk new.disk (IsErrOf read DiskFailed) → SameKept old new → StopHasText e
+      → IfRefused (λ refusal. IsTrue (may_answer act (replies.Refused refusal))) e
+      → ((s : Store) → Holds d old s → IfRefused (λ refusal. act_does s at.lane at.moment act ≡ Err refusal) e) → ActDoes d old new at act result
   stops_does stops reads kept text answers is =
-      let ended : Result Reply Stop = Err (stop_by_read e) in
-      stopped_does d old new at act ended (stop_by_read e) result stops refl (reads_as d old.disk new.disk _ _ (read_fails read e was) reads) kept (read_text e text) answers is
+      let ended : Result Reply Stop = Err e in
+      stopped_does d old new at act ended e result stops refl (reads_as d old.disk new.disk _ _ (read_fails read e was) reads) kept text answers is
 
-  pub stops_leaves : (path : List ℕ) → IsErrAnd result (λ x. x ≡ stop_by_read e) → OnlyReads d old.disk new.disk (IsErrOf read errors.Failed) → SameKept old new → reads_disk act ≡ true → reads.IfRefused (RefusesPart path) e
+  pub stops_leaves : (path : List ℕ) → IsErrAnd result (λ x. x ≡ e) → OnlyReads d old.disk new.disk (IsErrOf read DiskFailed) → SameKept old new → reads_disk act ≡ true → IfRefused (RefusesPart path) e
       → (closes act (session_at old at.lane) ≡ true → ⊥) → ActLeaves d old new at act result
   stops_leaves path stops reads kept called kind goes_on =
-      stopped_leaves d old new at act (stop_by_read e) result _ stops reads kept called (read_called path _ e kind) goes_on
+      stopped_leaves d old new at act e result _ stops reads kept called (read_called path _ e kind) goes_on
 
 -- memory was wanting once the disk was read
 module _ {D : Type 0} (d : Ghosts D) (old new : Parts D) (at : Place) (act : Act) (F : Type 0) (result : Result Reply Stop) (stops : IsErrAnd result (λ x. x ≡ NoMemory)) where
@@ -147,14 +146,14 @@ module _ {D : Type 0} (d : Ghosts D) (disk : D) where
       by_stop DiskFailed h = tells_failed d disk asked disks.Failed
 
   -- stopped by what was read
-  pub tells_stopped : {A B : Type 0} (f : A → Reply) (asked : Option Asked) (a : Asked) (read : Result B ReadError) (e : ReadError) → read ≡ Err e → (result : Result Reply Stop) → IsErrAnd result (λ x. x ≡ stop_by_read e) → asked ≡ Some a
-      → reads.IfRefused (RefusesPart a.path) e → (d.honest disk → reads.Gives f (Err e) (part_read (d.content disk) a)) → Tells asked result
-  tells_stopped f asked a read e was result stops is kind gives = tells_by asked (stop_by_read e) result stops (by_error e kind gives)
+  pub tells_stopped : {A B : Type 0} (f : A → Reply) (asked : Option Asked) (a : Asked) (read : Result B Stop) (e : Stop) → read ≡ Err e → (result : Result Reply Stop) → IsErrAnd result (λ x. x ≡ e) → asked ≡ Some a
+      → IfRefused (RefusesPart a.path) e → (d.honest disk → Gives f (Err e) (part_read (d.content disk) a)) → Tells asked result
+  tells_stopped f asked a read e was result stops is kind gives = tells_by asked e result stops (by_error e kind gives)
     where
-      by_error : (e : ReadError) → reads.IfRefused (RefusesPart a.path) e → (d.honest disk → reads.Gives f (Err e) (part_read (d.content disk) a)) → Tells asked (Err (stop_by_read e))
-      by_error (errors.Refused refusal) kind gives = tells_read d disk asked a (Err refusal) is kind (λ h. sym (gives h))
-      by_error errors.NoMemory kind gives = tells_failed d disk asked disks.NoMemory
-      by_error errors.Failed kind gives = tells_failed d disk asked disks.Failed
+      by_error : (e : Stop) → IfRefused (RefusesPart a.path) e → (d.honest disk → Gives f (Err e) (part_read (d.content disk) a)) → Tells asked (Err e)
+      by_error (Refused refusal) kind gives = tells_read d disk asked a (Err refusal) is kind (λ h. sym (gives h))
+      by_error NoMemory kind gives = tells_failed d disk asked disks.NoMemory
+      by_error DiskFailed kind gives = tells_failed d disk asked disks.Failed
 
   -- the part is given
   pub tells_given : (asked : Option Asked) (a : Asked) (part : Reply) → asked ≡ Some a → IsPart part → (d.honest disk → part_read (d.content disk) a ≡ Ok part) → Tells asked (Ok part)
@@ -169,21 +168,21 @@ index_asked : (m : Files) (path q : List ℕ) (offset : ℕ) (is_fixed : Bool) (
     → (index_at m q is_fixed offset >>= λ x. Ok x.part) ≡ read_by whole m path offset
 index_asked m path q offset is_fixed whole is some = ap (λ p. read_by (Some is_fixed) m p offset) is ∙ ap (λ w. read_by w m path offset) (sym some)
 
-pub part_stop : (m : Files) (path q : List ℕ) (offset : ℕ) (whole : Option Bool) (e : ReadError) → q ≡ path → whole ≡ None → reads.Gives {A = Reply} (λ part. part) (Err e) (part_at m q offset)
-    → reads.Gives {A = Reply} (λ part. part) (Err e) (read_by whole m path offset)
-part_stop m path q offset whole e is none gives = subst (λ w. reads.Gives {A = Reply} (λ part. part) (Err e) w) (part_asked m path q offset whole is none) gives
+pub part_stop : (m : Files) (path q : List ℕ) (offset : ℕ) (whole : Option Bool) (e : Stop) → q ≡ path → whole ≡ None → Gives {A = Reply} (λ part. part) (Err e) (part_at m q offset)
+    → Gives {A = Reply} (λ part. part) (Err e) (read_by whole m path offset)
+part_stop m path q offset whole e is none gives = subst (λ w. Gives {A = Reply} (λ part. part) (Err e) w) (part_asked m path q offset whole is none) gives
 
 pub part_got : (m : Files) (path q : List ℕ) (offset : ℕ) (whole : Option Bool) (part : Reply) → q ≡ path → whole ≡ None → part_at m q offset ≡ Ok part → read_by whole m path offset ≡ Ok part
 part_got m path q offset whole part is none gives = sym (part_asked m path q offset whole is none) ∙ gives
 
-pub index_stop : (m : Files) (path q : List ℕ) (offset : ℕ) (is_fixed : Bool) (whole : Option Bool) (e : ReadError) → q ≡ path → whole ≡ Some is_fixed → reads.Gives shown_index (Err e) (index_at m q is_fixed offset)
-    → reads.Gives {A = Reply} (λ part. part) (Err e) (read_by whole m path offset)
-index_stop m path q offset is_fixed whole e is some gives = subst (λ w. reads.Gives {A = Reply} (λ part. part) (Err e) w) (index_asked m path q offset is_fixed whole is some) (index_part e _ gives)
+pub index_stop : (m : Files) (path q : List ℕ) (offset : ℕ) (is_fixed : Bool) (whole : Option Bool) (e : Stop) → q ≡ path → whole ≡ Some is_fixed → Gives shown_index (Err e) (index_at m q is_fixed offset)
+    → Gives {A = Reply} (λ part. part) (Err e) (read_by whole m path offset)
+index_stop m path q offset is_fixed whole e is some gives = subst (λ w. Gives {A = Reply} (λ part. part) (Err e) w) (index_asked m path q offset is_fixed whole is some) (index_part e _ gives)
   where
-    index_part : (e : ReadError) (wanted : Result Indexed Refusal) → reads.Gives shown_index (Err e) wanted → reads.Gives {A = Reply} (λ part. part) (Err e) (wanted >>= λ x. Ok x.part)
-    index_part (errors.Refused refusal) wanted is = ap (λ (w : Result Indexed Refusal). w >>= λ x. Ok x.part) is
-    index_part errors.NoMemory wanted is = tt
-    index_part errors.Failed wanted is = tt
+    index_part : (e : Stop) (wanted : Result Indexed Refusal) → Gives shown_index (Err e) wanted → Gives {A = Reply} (λ part. part) (Err e) (wanted >>= λ x. Ok x.part)
+    index_part (Refused refusal) wanted is = ap (λ (w : Result Indexed Refusal). w >>= λ x. Ok x.part) is
+    index_part NoMemory wanted is = tt
+    index_part DiskFailed wanted is = tt
 
 pub index_got : (m : Files) (path q : List ℕ) (offset : ℕ) (is_fixed : Bool) (whole : Option Bool) (x : Indexed) → q ≡ path → whole ≡ Some is_fixed → index_at m q is_fixed offset ≡ Ok x → read_by whole m path offset ≡ Ok x.part
 index_got m path q offset is_fixed whole x is some gives = sym (index_asked m path q offset is_fixed whole is some) ∙ ap (λ (w : Result Indexed Refusal). w >>= λ x. Ok x.part) gives

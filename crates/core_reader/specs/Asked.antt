@@ -21,10 +21,10 @@ use Rattle.core_state.specs.declared.kept.Listed.{Listed}
 use Rattle.core_state.specs.declared.kept.Session.{Session}
 use Rattle.core_state.specs.declared.kept.Session.TheVariants.{Idle, Writer, Reader}
 use Rattle.core_state.specs.declared.parts.Parts.{Parts}
-use Rattle.core_state.specs.declared.stop.Stop.{Stop}
+use Rattle.store_stops.specs.declared.stop.Stop.{Stop}
 use Rattle.core_state.specs.Found.{named_kept, path_in}
 use Rattle.core_state.specs.Shown.{files_named, shown_session}
-use Rattle.core_state.specs.Stops.{Gives}
+use Rattle.store_stops.specs.Stops.{Gives}
 use Rattle.core_state.specs.Unreadables.{Asked, at_entry, from_offset, known, whole_by}
 use Rattle.core_state.specs.Wanted.{reader_in, session_at, want_idle}
 use Rattle.core_reader.specs.declared.downloading.AskedFile.{AskedFile}

@@ -20,9 +20,9 @@ use Rattle.wire_commands.specs.HasText.{ReplyHasText}
 use Rattle.chunk_store.specs.Pieces.{IsHeld, found_at}
 use Rattle.chunk_store.specs.declared.chunk.LoadFault.{LoadFault}
 use Rattle.chunk_store.specs.declared.chunk.LoadFault.TheVariants as loads
-use Rattle.core_state.specs.declared.stop.Stop.{Stop}
-use Rattle.core_state.specs.declared.stop.Stop.TheVariants as stops
-use Rattle.core_state.specs.Stops.{Gives, IfRefused}
+use Rattle.store_stops.specs.declared.stop.Stop.{Stop}
+use Rattle.store_stops.specs.declared.stop.Stop.TheVariants as stops
+use Rattle.store_stops.specs.Stops.{Gives, IfRefused}
 
 -- ---- as they are read
 

@@ -16,10 +16,11 @@ use crate::downloading::download;
 use crate::opening::open_reader;
 use crate::ranges::range;
 use crate::reading::{read_chunk, read_file};
-use core_state::{Act, Admitted, Answer, Core, Family, Parts, Place, Stop, begin, settle};
+use core_state::{Act, Admitted, Answer, Core, Family, Parts, Place, begin, settle};
 use disk_trait::Disk;
 use port_traits::Clock;
 use std::alloc::Global;
+use store_stops::Stop;
 use wire_commands::{Command, Reply};
 
 fn perform<D: Disk>(parts: &mut Parts<D>, alloc: Global, at: Place, act: Act) -> Result<Reply, Stop>

@@ -7,9 +7,10 @@ ghost use Rattle.core_state.specs.Commands.{PlainDoes, PlainLeaves};
 ghost use Rattle.core_reader.specs.Damages.{ActDamaged};
 
 use crate::loading::read_chunk;
-use core_state::{Parts, Place, Stop};
+use core_state::{Parts, Place};
 use disk_trait::Disk;
 use std::alloc::Global;
+use store_stops::Stop;
 use store_types::{Bytes, Digest32, Refusal};
 use wire_commands::Reply;
 

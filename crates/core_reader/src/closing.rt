@@ -4,8 +4,9 @@ ghost use Rattle.std.specs.Prelude.{◌<◌};
 ghost use Rattle.wire_commands.specs.declared.command.Command.TheVariants.{CloseReader};
 ghost use Rattle.core_state.specs.Commands.{PlainDoes, PlainLeaves};
 
-use core_state::{Parts, Place, Stop, end_session};
+use core_state::{Parts, Place, end_session};
 use disk_trait::Disk;
+use store_stops::Stop;
 use wire_commands::Reply;
 
 /// The lane's reader ends, and the lane holds nothing. It makes no disk call, and takes no memory.

@@ -5,14 +5,15 @@ ghost use Rattle.wire_commands.specs.declared.command.Command.TheVariants.{Downl
 ghost use Rattle.store_files.specs.Entries.{FitsIndex, ends_of};
 ghost use Rattle.core_state.specs.Commands.{PlainDoes, PlainLeaves};
 ghost use Rattle.core_state.specs.Unreadables.{ActUnreadable};
-ghost use Rattle.core_state.specs.declared.stop.Stop.TheVariants.{DiskFailed};
+ghost use Rattle.store_stops.specs.declared.stop.Stop.TheVariants.{DiskFailed};
 ghost use Rattle.core_reader.specs.Asked.{GivesFile, NotesPlainly, asked_download, noting, whole_for};
 
-use core_state::{Parts, Place, Session, Stop};
+use core_state::{Parts, Place, Session};
 use disk_trait::Disk;
 use restore_reader::Reader;
 use snapshot_files::{read_index, read_part};
 use std::alloc::{AllocError, Global};
+use store_stops::Stop;
 use store_types::{Digest32, FileName, Refusal};
 use wire_commands::Reply;
 

@@ -4,16 +4,16 @@ ghost use Rattle.std.specs.Prelude.{◌≡◌, ◌≤◌, IfOk, IfErr, IsErrOf, 
 ghost use Rattle.disk_trait.specs.Effects.{OnlyReads};
 ghost use Rattle.blob_codec.specs.Blob.{blob_limit};
 ghost use Rattle.restore_reader.specs.Cutting.{cut, total_of};
-ghost use Rattle.core_state.specs.declared.stop.Stop.TheVariants.{DiskFailed};
-ghost use Rattle.core_state.specs.Stops.{StopHasText};
+ghost use Rattle.store_stops.specs.declared.stop.Stop.TheVariants.{DiskFailed};
+ghost use Rattle.snapshot_files.specs.Reads.{StopHasText};
 ghost use Rattle.core_reader.specs.Chunks.{GivesBytes, GivesChunk, GivesHeld, GivesHeldPart, GivesHeldParts, GivesPartChunk, GivesParts, StopsAmong, StopsAt, stop_by_load};
 ghost use Rattle.core_reader.specs.Damages.{digests_of};
 
 use chunk_store::{Chunk, LoadFault, load, read};
-use core_state::Stop;
 use disk_trait::Disk;
 use restore_reader::Part;
 use std::alloc::Global;
+use store_stops::Stop;
 use store_types::{Bytes, ChunkFault, Digest32, Refusal};
 
 /// Why the chunk isn't loaded, as a stop.

@@ -7,10 +7,11 @@ ghost use Rattle.core_state.specs.Unreadables.{ActUnreadable};
 ghost use Rattle.core_reader.specs.AnsweredBy.{ActOpens};
 ghost use Rattle.core_reader.specs.Asked.{asked_open};
 
-use core_state::{Parts, Place, Session, Stop};
+use core_state::{Parts, Place, Session};
 use disk_trait::Disk;
 use restore_reader::open_reader as reader_of;
 use std::alloc::Global;
+use store_stops::Stop;
 use store_types::{Refusal, SnapshotKey};
 use wire_commands::Reply;
 

@@ -11,10 +11,11 @@ ghost use Rattle.core_reader.specs.Planned.{PlansShown, StopsRange};
 ghost use Rattle.core_reader.specs.ReaderActs.{RangeDoes, RangeLeaves};
 
 use crate::loading::read_parts;
-use core_state::{Parts, Place, Stop};
+use core_state::{Parts, Place};
 use disk_trait::Disk;
 use restore_reader::Part;
 use std::alloc::{AllocError, Global};
+use store_stops::{Stop, answered};
 use store_types::{Bytes, FileName, Refusal};
 use wire_commands::Reply;
 
@@ -54,8 +55,7 @@ fn range_plan<D>(
     if parts.catalogue.path(reader.key(), &name).is_none() {
         return Err(Stop::Refused(Refusal::NoFile));
     }
-    let plan = reader.range_plan(alloc, &name, offset, length)??;
-    Ok(plan)
+    answered(reader.range_plan(alloc, &name, offset, length))
 }
 
 /// So many bytes of an archive's content from an offset on. Beside the reply there is one chunk at a time in memory.

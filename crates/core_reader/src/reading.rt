@@ -5,16 +5,17 @@ ghost use Rattle.store_types.specs.FileNames.{is_file_name};
 ghost use Rattle.store_history.specs.declared.act.Act.TheVariants.{ReadChunk, ReadFile};
 ghost use Rattle.core_state.specs.Commands.{ActDoes, ActLeaves};
 ghost use Rattle.core_state.specs.Unreadables.{ActUnreadable};
-ghost use Rattle.core_state.specs.declared.stop.Stop.TheVariants.{DiskFailed};
+ghost use Rattle.store_stops.specs.declared.stop.Stop.TheVariants.{DiskFailed};
 ghost use Rattle.core_reader.specs.AnsweredBy.{ActReads, chunk_told, part_told};
 ghost use Rattle.core_reader.specs.Asked.{GivesPlace, asked_entry, asked_part};
 ghost use Rattle.core_reader.specs.Damages.{ActDamaged};
 
 use crate::loading::read_bytes;
-use core_state::{Parts, Place, Stop};
+use core_state::{Parts, Place};
 use disk_trait::Disk;
 use snapshot_files::{read_entry, read_part};
 use std::alloc::Global;
+use store_stops::Stop;
 use store_types::{FileName, Refusal};
 use wire_commands::Reply;
 

@@ -30,15 +30,16 @@ use Rattle.store_history.proofs.Families.{by_remote}
 use Rattle.core_state.specs.declared.kept.Session.{Session}
 use Rattle.core_state.specs.declared.kept.Session.TheVariants.{Idle, Reader, Writer}
 use Rattle.core_state.specs.declared.parts.Parts.{Parts}
-use Rattle.core_state.specs.declared.stop.RemoteStop.{RemoteStop}
-use Rattle.core_state.specs.declared.stop.RemoteStop.TheVariants as stops
+use Rattle.store_stops.specs.declared.stop.Stop.{Stop}
+use Rattle.store_stops.specs.declared.stop.Stop.TheVariants as stops
 use Rattle.core_state.specs.Holds.{Shows}
 use Rattle.core_state.specs.Replies.{may_answer, may_give, refuses_sync}
 use Rattle.core_state.specs.Shown.{shown_session}
 use Rattle.core_state.specs.Wanted.{session_at, want_idle}
 use Rattle.core_state.proofs.Commanding.{session_shown}
 use Rattle.core_state.proofs.RemoteReads.{GivesFit}
-use Rattle.core_remote.specs.RemoteActs.{EndsBy, HasName, StopHasText, read_told}
+use Rattle.snapshot_files.specs.Reads.{StopHasText}
+use Rattle.core_remote.specs.RemoteActs.{EndsBy, HasName, read_told}
 
 -- the well-formed ones, one by one
 pub by_read : (P : Act → Type 0) → ((group : List ℕ) → P (RemoteList (Sync group))) → ((snapshot : List ℕ) (name : FileName) (offset : ℕ) → IsSome (key_of snapshot) → P (RemoteFile snapshot name offset))
@@ -152,9 +153,9 @@ has_remote has x =
     by_session group (Writer w) e = cc
     by_session group (Reader w) e = cc
 
-pub ends_fit : (act : Act) (has : Bool) (x : Session) (ended : Result Reply RemoteStop) → family_of act ≡ Reaches → IsWellFormed act → EndsBy (read_told act has x) ended → IfOk ended (λ reply. IsTrue (may_give act reply)) → MatchResult ended ReplyHasText StopHasText
+pub ends_fit : (act : Act) (has : Bool) (x : Session) (ended : Result Reply Stop) → family_of act ≡ Reaches → IsWellFormed act → EndsBy (read_told act has x) ended → IfOk ended (λ reply. IsTrue (may_give act reply)) → MatchResult ended ReplyHasText StopHasText
     → GivesFit act ended
 ends_fit act has x (Ok reply) is formed told kind text = (kind, text)
 ends_fit act has x (Err (stops.Refused r)) is formed told kind text = (refuses_by has x r act is formed told, text)
 ends_fit act has x (Err stops.NoMemory) is formed told kind text = tt
-ends_fit act has x (Err stops.Failed) is formed told kind text = tt
+ends_fit act has x (Err stops.DiskFailed) is formed told kind text = tt

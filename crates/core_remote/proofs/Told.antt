@@ -14,8 +14,8 @@ use Rattle.core_state.specs.declared.entering.Admitted.TheVariants.{Answered, At
 use Rattle.core_state.specs.declared.entering.Place.{Place}
 use Rattle.core_state.specs.declared.parts.Parts.{Parts}
 use Rattle.core_state.specs.declared.state.Core.{Core}
-use Rattle.core_state.specs.declared.stop.RemoteStop.{RemoteStop}
-use Rattle.core_state.specs.declared.stop.RemoteStop.TheVariants as stops
+use Rattle.store_stops.specs.declared.stop.Stop.{Stop}
+use Rattle.store_stops.specs.declared.stop.Stop.TheVariants as stops
 use Rattle.core_state.specs.Applies.{ActApplies, ActKeeps, CoreApplies}
 use Rattle.core_state.specs.Begins.{AdmittedHasText, FillsUp, IsAdmitted, Refuses, halted, short}
 use Rattle.core_state.specs.History.{History, StandsFor, world}
@@ -25,7 +25,8 @@ use Rattle.core_state.specs.Wanted.{session_at}
 use Rattle.core_state.proofs.Applying.{refused_remote}
 use Rattle.core_state.proofs.RemoteLemmas.{stays_there}
 use Rattle.core_state.proofs.RemoteReads.{FailsWhere, GivesRight, read_alone, read_applies, read_keeps, refused, unread_alone, unread_applies, unread_keeps}
-use Rattle.core_remote.specs.RemoteActs.{FailsBy, GivesFrom, GivesRemote, IsTested, RemoteGives, RemoteTells, StopHasText, TellsEnd, UnreadWhere, read_told}
+use Rattle.snapshot_files.specs.Reads.{StopHasText}
+use Rattle.core_remote.specs.RemoteActs.{FailsBy, GivesFrom, GivesRemote, IsTested, RemoteGives, RemoteTells, TellsEnd, UnreadWhere, read_told}
 use Rattle.core_remote.proofs.Given.{given_right}
 use Rattle.core_remote.proofs.RemoteLemmas.{ends_fit, told_same}
 
@@ -35,7 +36,7 @@ in_any None p = tt
 in_any (Some a) p = p
 
 -- what was not read gives nothing
-pub gives_none : {E : Type 0} (e : Ghosts E) (remote : Option E) (act : Act) (stop : RemoteStop) → GivesRemote e remote act (Err stop)
+pub gives_none : {E : Type 0} (e : Ghosts E) (remote : Option E) (act : Act) (stop : Stop) → GivesRemote e remote act (Err stop)
 gives_none e None act stop = tt
 gives_none e (Some r) act stop = λ h. tt
 
@@ -79,7 +80,7 @@ module _ {D E C : Type 0} (d : Ghosts D) (e : Ghosts E) (clock : clocks.Ghosts C
   -- ---- it was begun
 
   module _ (mid : Core D E C) (at : Place) (lt : k < 64) (formed : IsWellFormed act) (admitted : IsAdmitted clock.readings old mid k at) (filled : FillsUp old mid k act (At at))
-      (remote : Option E) (ended : Result Reply RemoteStop) (tells : TellsEnd mid.parts mid.remote k act ended) (stays : RemoteStays e mid.remote remote) (failed : FailsBy e mid.remote remote ended)
+      (remote : Option E) (ended : Result Reply Stop) (tells : TellsEnd mid.parts mid.remote k act ended) (stays : RemoteStays e mid.remote remote) (failed : FailsBy e mid.remote remote ended)
       (unread : UnreadWhere mid.parts mid.remote remote k act) (tested : IfOk ended (IsTested act)) (gives : GivesRemote e mid.remote act ended) (kind : IfOk ended (λ reply. IsTrue (may_give act reply))) (text : MatchResult ended ReplyHasText StopHasText)
       (settled : SettlesRead d (record mid { remote = remote }) new at.lane at.moment ended answer) where
     -- its tests, by the core as it was before
@@ -100,30 +101,30 @@ module _ {D E C : Type 0} (d : Ghosts D) (e : Ghosts E) (clock : clocks.Ghosts C
     kind_is = ap (λ x. x.kind) settled.entry
 
     -- where its tests refused it the remote is as it was
-    handed : (r : Result Reply RemoteStop) → TellsEnd mid.parts mid.remote k act r → kind_by r ≡ 0 → remote ≡ mid.remote
+    handed : (r : Result Reply Stop) → TellsEnd mid.parts mid.remote k act r → kind_by r ≡ 0 → remote ≡ mid.remote
     handed (Ok reply) tells zero = absurd (omega (arith, zero))
     handed (Err (stops.Refused r)) tells zero = unread r tells
     handed (Err stops.NoMemory) tells zero = absurd (omega (arith, zero))
-    handed (Err stops.Failed) tells zero = absurd (omega (arith, zero))
+    handed (Err stops.DiskFailed) tells zero = absurd (omega (arith, zero))
 
     pub done_keeps : ActKeeps d old new k act answer
     done_keeps = read_keeps d e clock old mid new k at.moment act is remote ended answer lt formed admitted.ready filled settles (handed ended tells)
 
-    fails_by : (r : Result Reply RemoteStop) → FailsBy e mid.remote remote r → FailsWhere e mid.remote remote r
+    fails_by : (r : Result Reply Stop) → FailsBy e mid.remote remote r → FailsWhere e mid.remote remote r
     fails_by (Ok reply) failed = tt
     fails_by (Err (stops.Refused r)) failed = tt
     fails_by (Err stops.NoMemory) failed = tt
-    fails_by (Err stops.Failed) failed = failed refl
+    fails_by (Err stops.DiskFailed) failed = failed refl
 
     -- of the remote as it was before
-    was : (r : Result Reply RemoteStop) → GivesRemote e mid.remote act r → GivesRemote e old.remote act r
+    was : (r : Result Reply Stop) → GivesRemote e mid.remote act r → GivesRemote e old.remote act r
     was r gives = subst (λ (x : Option E). GivesRemote e x act r) ((admitted.ready).begun).remote gives
 
-    right_by : (r : Result Reply RemoteStop) → TellsEnd mid.parts mid.remote k act r → GivesRemote e mid.remote act r → (h : History) → StandsFor d clock.readings old h → ShowsRemote e old.remote h.remote → GivesRight h k act r
+    right_by : (r : Result Reply Stop) → TellsEnd mid.parts mid.remote k act r → GivesRemote e mid.remote act r → (h : History) → StandsFor d clock.readings old h → ShowsRemote e old.remote h.remote → GivesRight h k act r
     right_by (Ok reply) tells gives h s shown = (of_history h s ∙ tells, given_right e old.remote h.remote act reply is formed shown (was (Ok reply) gives))
     right_by (Err (stops.Refused r)) tells gives h s shown = of_history h s ∙ tells
     right_by (Err stops.NoMemory) tells gives h s shown = tt
-    right_by (Err stops.Failed) tells gives h s shown = of_history h s ∙ tells
+    right_by (Err stops.DiskFailed) tells gives h s shown = of_history h s ∙ tells
 
     pub done_applies : CoreApplies d e clock old new k act answer
     done_applies =
@@ -131,11 +132,11 @@ module _ {D E C : Type 0} (d : Ghosts D) (e : Ghosts E) (clock : clocks.Ghosts C
         (ends_fit act (is_some mid.remote) (session_at mid.parts k) ended is formed tells kind text) stays (stays_there e mid.remote remote stays) (fails_by ended failed) (right_by ended tells gives)
 
     -- a refusal by its tests is that of each history, whatever the remote is
-    refused_right : (r : Result Reply RemoteStop) → TellsEnd mid.parts mid.remote k act r → kind_by r ≡ 0 → (h : History) → StandsFor d clock.readings old h → GivesRight h k act r
+    refused_right : (r : Result Reply Stop) → TellsEnd mid.parts mid.remote k act r → kind_by r ≡ 0 → (h : History) → StandsFor d clock.readings old h → GivesRight h k act r
     refused_right (Ok reply) tells zero h s = absurd (omega (arith, zero))
     refused_right (Err (stops.Refused r)) tells zero h s = of_history h s ∙ tells
     refused_right (Err stops.NoMemory) tells zero h s = absurd (omega (arith, zero))
-    refused_right (Err stops.Failed) tells zero h s = absurd (omega (arith, zero))
+    refused_right (Err stops.DiskFailed) tells zero h s = absurd (omega (arith, zero))
 
     pub done_alone : reads_remote act answer ≡ false → ActApplies d clock old new k act answer
     done_alone alone =
@@ -146,11 +147,11 @@ module _ {D E C : Type 0} (d : Ghosts D) (e : Ghosts E) (clock : clocks.Ghosts C
     not_read : (n : ℕ) → (answer.entry).kind ≡ n → (n ≡ 1 → ⊥) → (n ≡ 7 → ⊥) → ((answer.entry).kind ≡ PART_KIND) ⊎ ((answer.entry).kind ≡ REMOTE_FAULT_KIND) → ⊥
     not_read n kind one seven at = ⊎_elim (λ (x : (answer.entry).kind ≡ PART_KIND). one (sym kind ∙ x)) (λ (x : (answer.entry).kind ≡ REMOTE_FAULT_KIND). seven (sym kind ∙ x)) at
 
-    tested_by : (r : Result Reply RemoteStop) → IfOk r (IsTested act) → (answer.entry).kind ≡ kind_by r → answer.reply ≡ Some (reply_by r) → (answer.entry).kind ≡ PART_KIND → IfSome answer.reply (IsTested act)
+    tested_by : (r : Result Reply Stop) → IfOk r (IsTested act) → (answer.entry).kind ≡ kind_by r → answer.reply ≡ Some (reply_by r) → (answer.entry).kind ≡ PART_KIND → IfSome answer.reply (IsTested act)
     tested_by (Ok reply) tests kind told one = subst (λ (x : Option Reply). IfSome x (IsTested act)) (sym told) tests
     tested_by (Err (stops.Refused r)) tests kind told one = absurd (omega (arith, kind, one))
     tested_by (Err stops.NoMemory) tests kind told one = absurd (omega (arith, kind, one))
-    tested_by (Err stops.Failed) tests kind told one = absurd (omega (arith, kind, one))
+    tested_by (Err stops.DiskFailed) tests kind told one = absurd (omega (arith, kind, one))
 
     chunk_tested : (answer.entry).kind ≡ PART_KIND → IfSome answer.reply (IsTested act)
     chunk_tested = tested_by ended tested kind_is settled.reply_is
@@ -163,7 +164,7 @@ module _ {D E C : Type 0} (d : Ghosts D) (e : Ghosts E) (clock : clocks.Ghosts C
     no_halt : IfSome old.fault (λ _. new.remote ≡ old.remote)
     no_halt = subst (λ (o : Option ℕ). IfSome o (λ _. new.remote ≡ old.remote)) (sym (admitted.ready).no_fault) tt
 
-    tells_by : (r : Result Reply RemoteStop) → TellsEnd mid.parts mid.remote k act r → (answer.entry).kind ≡ kind_by r → answer.reply ≡ Some (reply_by r) → RemoteTells old new k act answer
+    tells_by : (r : Result Reply Stop) → TellsEnd mid.parts mid.remote k act r → (answer.entry).kind ≡ kind_by r → answer.reply ≡ Some (reply_by r) → RemoteTells old new k act answer
     tells_by (Ok reply) tells kind told = record { refused = λ zero. absurd (omega (arith, kind, zero)); reads = λ _. sym before ∙ tells; unread = not_called_where; halted = no_halt; tested = chunk_tested }
     tells_by (Err (stops.Refused r)) tells kind told = record {
       refused = λ _. (r, told, sym before ∙ tells);
@@ -179,7 +180,7 @@ module _ {D E C : Type 0} (d : Ghosts D) (e : Ghosts E) (clock : clocks.Ghosts C
       halted = no_halt;
       tested = chunk_tested;
     }
-    tells_by (Err stops.Failed) tells kind told = record { refused = λ zero. absurd (omega (arith, kind, zero)); reads = λ _. sym before ∙ tells; unread = not_called_where; halted = no_halt; tested = chunk_tested }
+    tells_by (Err stops.DiskFailed) tells kind told = record { refused = λ zero. absurd (omega (arith, kind, zero)); reads = λ _. sym before ∙ tells; unread = not_called_where; halted = no_halt; tested = chunk_tested }
 
     pub done_tells : RemoteTells old new k act answer
     done_tells = tells_by ended tells kind_is settled.reply_is
@@ -188,11 +189,11 @@ module _ {D E C : Type 0} (d : Ghosts D) (e : Ghosts E) (clock : clocks.Ghosts C
     given_from reply told None gives = tt
     given_from reply told (Some r) gives = λ h. subst (λ x. IfSome x (GivesFrom (e.content r) act)) (sym told) (gives h)
 
-    given_by : (r : Result Reply RemoteStop) → GivesRemote e old.remote act r → (answer.entry).kind ≡ kind_by r → answer.reply ≡ Some (reply_by r) → RemoteGives e old act answer
+    given_by : (r : Result Reply Stop) → GivesRemote e old.remote act r → (answer.entry).kind ≡ kind_by r → answer.reply ≡ Some (reply_by r) → RemoteGives e old act answer
     given_by (Ok reply) gives kind told = λ one. given_from reply told old.remote gives
     given_by (Err (stops.Refused r)) gives kind told = λ one. absurd (omega (arith, kind, one))
     given_by (Err stops.NoMemory) gives kind told = λ one. absurd (omega (arith, kind, one))
-    given_by (Err stops.Failed) gives kind told = λ one. absurd (omega (arith, kind, one))
+    given_by (Err stops.DiskFailed) gives kind told = λ one. absurd (omega (arith, kind, one))
 
     pub done_gives : RemoteGives e old act answer
     done_gives = given_by ended (was ended gives) kind_is settled.reply_is

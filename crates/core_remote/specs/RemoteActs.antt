@@ -16,7 +16,6 @@ use Rattle.store_files.specs.Folder.{file_path}
 use Rattle.wire_commands.specs.declared.command.Command.TheVariants.{Sync}
 use Rattle.wire_commands.specs.declared.reply.Reply.{Reply}
 use Rattle.wire_commands.specs.declared.reply.Reply.TheVariants.{Data, Keys, Refused}
-use Rattle.wire_commands.specs.HasText.{ReplyHasText}
 use Rattle.store_model.specs.Stands.{group_limit}
 use Rattle.chunk_store.specs.Pieces.{IsChunk, found_at}
 use Rattle.snapshot_files.specs.Grouped.{GroupKeys}
@@ -27,8 +26,8 @@ use Rattle.store_history.specs.declared.act.Answer.{Answer}
 use Rattle.core_state.specs.declared.kept.Session.{Session}
 use Rattle.core_state.specs.declared.parts.Parts.{Parts}
 use Rattle.core_state.specs.declared.state.Core.{Core}
-use Rattle.core_state.specs.declared.stop.RemoteStop.{RemoteStop}
-use Rattle.core_state.specs.declared.stop.RemoteStop.TheVariants as stops
+use Rattle.store_stops.specs.declared.stop.Stop.{Stop}
+use Rattle.store_stops.specs.declared.stop.Stop.TheVariants as stops
 use Rattle.core_state.specs.Remotes.{faults_of}
 use Rattle.core_state.specs.Replies.{reply_told}
 use Rattle.core_state.specs.Wanted.{session_at, want_idle}
@@ -47,26 +46,26 @@ read_told (RemoteList (Sync group)) has_remote session = begin_told group sessio
 read_told act has_remote session = unless NoRemote has_remote
 
 -- nothing refuses it, or it is refused so; or memory is wanting
-abbrev pub TellsBy : Result (Unit {0}) Refusal → Result (Unit {0}) RemoteStop → Type 0
+abbrev pub TellsBy : Result (Unit {0}) Refusal → Result (Unit {0}) Stop → Type 0
 TellsBy told (Ok done) = told ≡ Ok tt
 TellsBy told (Err (stops.Refused refusal)) = told ≡ Err refusal
 TellsBy told (Err stops.NoMemory) = Unit {0}
-TellsBy told (Err stops.Failed) = ⊥
+TellsBy told (Err stops.DiskFailed) = ⊥
 
-abbrev pub TellsBegin : {D : Type 0} → Parts D → ℕ → List ℕ → Result (Unit {0}) RemoteStop → Type 0
+abbrev pub TellsBegin : {D : Type 0} → Parts D → ℕ → List ℕ → Result (Unit {0}) Stop → Type 0
 TellsBegin parts lane group result = TellsBy (begin_told group (session_at parts lane)) result
 
-abbrev pub TellsRead : {D : Type 0} → Parts D → ℕ → Bool → Act → Result (Unit {0}) RemoteStop → Type 0
+abbrev pub TellsRead : {D : Type 0} → Parts D → ℕ → Bool → Act → Result (Unit {0}) Stop → Type 0
 TellsRead parts lane has_remote act result = TellsBy (read_told act has_remote (session_at parts lane)) result
 
 -- it is read exactly where nothing refuses it, or memory is wanting
-abbrev pub EndsBy : Result (Unit {0}) Refusal → Result Reply RemoteStop → Type 0
+abbrev pub EndsBy : Result (Unit {0}) Refusal → Result Reply Stop → Type 0
 EndsBy told (Ok reply) = told ≡ Ok tt
 EndsBy told (Err (stops.Refused refusal)) = told ≡ Err refusal
 EndsBy told (Err stops.NoMemory) = Unit {0}
-EndsBy told (Err stops.Failed) = told ≡ Ok tt
+EndsBy told (Err stops.DiskFailed) = told ≡ Ok tt
 
-abbrev pub TellsEnd : {D E : Type 0} → Parts D → Option E → ℕ → Act → Result Reply RemoteStop → Type 0
+abbrev pub TellsEnd : {D E : Type 0} → Parts D → Option E → ℕ → Act → Result Reply Stop → Type 0
 TellsEnd parts remote lane act result = EndsBy (read_told act (is_some remote) (session_at parts lane)) result
 
 -- the remote is not called where something refuses the read
@@ -79,11 +78,6 @@ abbrev pub HasName : Act → Type 0
 HasName (RemoteList (Sync group)) = IsSome (group_of group)
 HasName (RemoteFile snapshot name offset) = IsSome (key_of snapshot)
 HasName act = Unit {0}
-
--- a refusal has a spelling
-abbrev pub StopHasText : RemoteStop → Type 0
-StopHasText (stops.Refused refusal) = ReplyHasText (Refused refusal)
-StopHasText stop = Unit {0}
 
 -- the bytes that are given of a chunk are the blob of a piece with its digest
 abbrev pub IsTested : Act → Reply → Type 0
@@ -127,17 +121,17 @@ GivesFrom files act reply = Unit {0}
 abbrev pub Gives : {E X : Type 0} → Ghosts E → E → Act → Result Reply X → Type 0
 Gives e remote act result = e.honest remote → IfOk result (GivesFrom (e.content remote) act)
 
-abbrev pub GivesRemote : {E : Type 0} → Ghosts E → Option E → Act → Result Reply RemoteStop → Type 0
+abbrev pub GivesRemote : {E : Type 0} → Ghosts E → Option E → Act → Result Reply Stop → Type 0
 GivesRemote e remote act result = IfSome remote (λ r. Gives e r act result)
 
 -- by its failure, or memory was wanting
-abbrev pub IsUnread : RemoteStop → Type 0
+abbrev pub IsUnread : Stop → Type 0
 IsUnread (stops.Refused refusal) = ⊥
 IsUnread stop = Unit {0}
 
 -- it failed only where its count rose
-abbrev pub FailsBy : {E : Type 0} → Ghosts E → Option E → Option E → Result Reply RemoteStop → Type 0
-FailsBy e old new result = IsErrOf result stops.Failed → Rose (faults_of e old) (faults_of e new)
+abbrev pub FailsBy : {E : Type 0} → Ghosts E → Option E → Option E → Result Reply Stop → Type 0
+FailsBy e old new result = IsErrOf result stops.DiskFailed → Rose (faults_of e old) (faults_of e new)
 
 -- Of an honest remote, whatever it holds: what was read is what stands there.
 abbrev pub RemoteGives : {D E C : Type 0} → Ghosts E → Core D E C → Act → Answer → Type 0

@@ -7,14 +7,16 @@ ghost use Rattle.core_state.specs.Applies.{ActApplies, ActKeeps, CoreApplies};
 ghost use Rattle.core_state.specs.Remotes.{RemoteStays, reads_remote};
 ghost use Rattle.core_state.specs.Replies.{may_give};
 ghost use Rattle.core_state.specs.Reserved.{HasRoom};
-ghost use Rattle.core_remote.specs.RemoteActs.{FailsBy, GivesRemote, IsTested, RemoteGives, RemoteTells, StopHasText, TellsEnd, UnreadWhere};
+ghost use Rattle.snapshot_files.specs.Reads.{StopHasText};
+ghost use Rattle.core_remote.specs.RemoteActs.{FailsBy, GivesRemote, IsTested, RemoteGives, RemoteTells, TellsEnd, UnreadWhere};
 
 use crate::reading::read;
 use crate::refusing::may_read;
-use core_state::{Act, Admitted, Answer, Core, Family, Parts, RemoteStop, begin, settle_read};
+use core_state::{Act, Admitted, Answer, Core, Family, Parts, begin, settle_read};
 use disk_trait::Disk;
 use port_traits::Clock;
 use std::alloc::Global;
+use store_stops::Stop;
 use wire_commands::Reply;
 
 /// Reads the remote, where nothing refuses it.
@@ -24,7 +26,7 @@ fn reach<D, E: Disk>(
     alloc: Global,
     lane: u32,
     act: Act,
-) -> Result<Reply, RemoteStop>
+) -> Result<Reply, Stop>
     requires lane { lane < 64 }
     requires kind { family_of act ≡ Family.Reaches }
     requires formed { IsWellFormed act }

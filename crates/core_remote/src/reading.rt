@@ -13,10 +13,11 @@ ghost use Rattle.core_state.specs.Replies.{gives_blob, gives_file, gives_keys, m
 ghost use Rattle.core_remote.specs.RemoteActs.{FailsBy, Gives, GivesRemote, HasName, IsShort, IsTested, IsUnread, texts_of as texts_by};
 
 use chunk_store::{LoadFault, load};
-use core_state::{Act, Family, RemoteStop};
+use core_state::{Act, Family};
 use disk_trait::{Disk, DiskError};
-use snapshot_files::{ReadError, keys_in_group, path_of, read_part};
+use snapshot_files::{keys_in_group, path_of, read_part};
 use std::alloc::{AllocError, Global};
+use store_stops::Stop;
 use store_types::{Bytes, Digest32, FileName, GROUP_LIMIT, GroupKey, Refusal, Rows, SnapshotKey};
 use wire_commands::{Command, Reply};
 
@@ -79,9 +80,9 @@ fn part<E: Disk>(
     let path = path_of(alloc, &key, name)?;
     match read_part(remote, alloc, path.as_str(), offset) {
         Ok(part) => Ok(part),
-        Err(ReadError::Refused(refusal)) => Ok(Reply::Refused(refusal)),
-        Err(ReadError::NoMemory) => Err(DiskError::NoMemory),
-        Err(ReadError::Failed) => Err(DiskError::Failed),
+        Err(Stop::Refused(refusal)) => Ok(Reply::Refused(refusal)),
+        Err(Stop::NoMemory) => Err(DiskError::NoMemory),
+        Err(Stop::DiskFailed) => Err(DiskError::Failed),
     }
 }
 
@@ -131,7 +132,7 @@ fn read_disk<E: Disk>(remote: &mut E, alloc: Global, act: Act) -> Result<Reply, 
 }
 
 /// Reads what the act asks for, of the remote that is there.
-pub fn read<E: Disk>(remote: &mut Option<E>, alloc: Global, act: Act) -> Result<Reply, RemoteStop>
+pub fn read<E: Disk>(remote: &mut Option<E>, alloc: Global, act: Act) -> Result<Reply, Stop>
     requires there { is_some remote.old ≡ true }
     requires kind { family_of act ≡ Family.Reaches }
     requires formed { IsWellFormed act }

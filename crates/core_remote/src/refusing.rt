@@ -2,26 +2,26 @@
 
 ghost use Rattle.std.specs.Prelude.{◌≡◌, ◌<◌, IfErr};
 ghost use Rattle.store_history.specs.Acts.{family_of};
-ghost use Rattle.core_remote.specs.RemoteActs.{StopHasText, TellsBegin, TellsRead};
+ghost use Rattle.snapshot_files.specs.Reads.{StopHasText};
+ghost use Rattle.core_remote.specs.RemoteActs.{TellsBegin, TellsRead};
 
-use core_state::{Act, Family, Parts, RemoteStop};
+use core_state::{Act, Family, Parts};
 use std::alloc::Global;
+use store_stops::Stop;
 use store_types::{GroupKey, Refusal};
 use wire_commands::Command;
 
 /// What refuses a SYNC on its lane: it has a session; the text names no group.
 #[tactic(auto, using(core_state::proofs::Texts::bad_name_has_text))]
-fn may_begin<D>(parts: &Parts<D>, alloc: Global, lane: u32, group: &[u8]) -> Result<(), RemoteStop>
+fn may_begin<D>(parts: &Parts<D>, alloc: Global, lane: u32, group: &[u8]) -> Result<(), Stop>
     requires lane { lane < 64 }
     ensures tells { TellsBegin parts.now lane group.now result }
     ensures text { IfErr result StopHasText }
 {
-    if let Err(refusal) = parts.idle(lane) {
-        return Err(RemoteStop::Refused(refusal));
-    }
+    parts.idle(lane)?;
     match GroupKey::parse(alloc, group)? {
         Ok(_) => Ok(()),
-        Err(_) => Err(RemoteStop::Refused(Refusal::BadName)),
+        Err(_) => Err(Stop::Refused(Refusal::BadName)),
     }
 }
 
@@ -36,7 +36,7 @@ pub fn may_read<D>(
     lane: u32,
     has_remote: bool,
     act: &Act,
-) -> Result<(), RemoteStop>
+) -> Result<(), Stop>
     requires lane { lane < 64 }
     requires kind { family_of act.now ≡ Family.Reaches }
     ensures tells { TellsRead parts.now lane has_remote act.now result }
@@ -48,6 +48,6 @@ pub fn may_read<D>(
     if has_remote {
         Ok(())
     } else {
-        Err(RemoteStop::Refused(Refusal::NoRemote))
+        Err(Stop::Refused(Refusal::NoRemote))
     }
 }

@@ -1,72 +1,107 @@
 -- What the catalogue is asked, and how a snapshot comes into it.
-use Rattle.std.proofs.Common.{◌≡◌, ◌≤◌, ◌∙◌, ℕ, suc, Bool, true, false, ◌&&◌, cond, length, map, filter, List, [], ◌∷◌, ◌++◌, append-nil, Option, Some, None, refl, sym, ap, subst}
+use Rattle.std.proofs.Common.{◌≡◌, ◌≤◌, ◌∙◌, ℕ, suc, Bool, true, false, cond, ◌-◌, length, map, filter, List, [], ◌∷◌, ◌++◌, Option, Some, None, refl, sym, ap, subst, arith}
 use Rattle.std.proofs.lemmas.Bool.{and_parts, and_from, leb-true}
-use Rattle.std.proofs.lemmas.List.Elements.{filter-append}
 use Rattle.std.proofs.lemmas.List.Sums.{AllPass-from_list_all}
-use Rattle.std.specs.Prelude.{is_some}
+use Rattle.std.specs.Prelude.{is_some, option_map, slice_get}
 use Rattle.std.specs.List.{find, last_or, list_all, insert, position_or_len}
 use Rattle.store_types.specs.declared.names.SnapshotKey.{SnapshotKey}
 use Rattle.store_types.specs.declared.names.GroupKey.{GroupKey}
-use Rattle.store_types.specs.Names.{IsKey, key_lt, same_group, group_of_key}
+use Rattle.store_types.specs.Names.{IsKey, key_lt}
 use Rattle.core_state.specs.declared.kept.Kept.{Kept}
 use Rattle.core_state.specs.declared.kept.Listed.{Listed}
 use Rattle.core_state.specs.Catalogue.{insert_listed}
-use Rattle.core_state.specs.Found.{IsShortNamed, first_unreadable, is_whole, kept_in, kept_named, latest_kept, latest_whole, unreadable_of, whole_of}
+use Rattle.core_state.specs.Found.{IsShortNamed, first_unreadable, is_whole, is_in, kept_in, kept_named, latest_of, unreadable_of, whole_of}
 use Rattle.core_state.specs.Named.{has_text, is_named_snapshot, is_short_name}
 use Rattle.core_state.proofs.Finding.{found_in}
 use Rattle.core_state.proofs.NamedLemmas.{is_key}
 use Rattle.core_state.proofs.Naming.{damage_short}
 use Rattle.core_state.proofs.Places.{insert_at}
 
-abbrev pub is_in : GroupKey → Listed → Bool
-is_in group x = same_group (group_of_key (x.kept).key) group
+abbrev pub in_group : GroupKey → Listed → Bool
+in_group group x = is_in group x.kept
 
-abbrev all_kept : List Listed → List Kept
+abbrev pub all_kept : List Listed → List Kept
 all_kept xs = map (λ (x : Listed). x.kept) xs
 
 length_cond : {A B : Type 0} (b : Bool) (x : A) (xs : List A) (y : B) (ys : List B) → length xs ≡ length ys → length (cond b (x ∷ xs) xs) ≡ length (cond b (y ∷ ys) ys)
 length_cond true x xs y ys e = ap suc e
 length_cond false x xs y ys e = e
 
-pub kept_count : (group : GroupKey) (xs : List Listed) → length (filter (is_in group) xs) ≡ length (kept_in group (all_kept xs))
+pub kept_count : (group : GroupKey) (xs : List Listed) → length (filter (in_group group) xs) ≡ length (kept_in group (all_kept xs))
 kept_count group [] = refl
-kept_count group (x ∷ xs) = length_cond (is_in group x) x (filter (is_in group) xs) x.kept (kept_in group (all_kept xs)) (kept_count group xs)
+kept_count group (x ∷ xs) = length_cond (in_group group x) x (filter (in_group group) xs) x.kept (kept_in group (all_kept xs)) (kept_count group xs)
+
+-- ---- the last of a slice
 
 abbrev last_key : Option SnapshotKey → List Kept → Option SnapshotKey
 last_key o ks = last_or o (map (λ (k : Kept). k.key) ks)
+
+-- what is kept of the group is that of its slice
+kept_slice : (group : GroupKey) (xs : List Listed) → kept_in group (all_kept xs) ≡ all_kept (filter (in_group group) xs)
+kept_slice group [] = refl
+kept_slice group (x ∷ xs) = by_test (in_group group x) (kept_slice group xs)
+  where
+    by_test : (b : Bool) → kept_in group (all_kept xs) ≡ all_kept (filter (in_group group) xs)
+        → cond b (x.kept ∷ kept_in group (all_kept xs)) (kept_in group (all_kept xs)) ≡ all_kept (cond b (x ∷ filter (in_group group) xs) (filter (in_group group) xs))
+    by_test true e = ap (λ (ks : List Kept). x.kept ∷ ks) e
+    by_test false e = e
+
+last_at : (o : Option SnapshotKey) (x : Listed) (xs : List Listed) → last_key o (all_kept (x ∷ xs)) ≡ option_map (λ (y : Listed). (y.kept).key) (slice_get (x ∷ xs) (length xs))
+last_at o x [] = refl
+last_at o x (y ∷ ys) = last_at (Some (x.kept).key) y ys
+
+last_is : (xs : List Listed) → last_key None (all_kept xs) ≡ option_map (λ (y : Listed). (y.kept).key) (slice_get xs (length xs - 1))
+last_is [] = refl
+last_is (x ∷ xs) =
+    let before : length xs ≡ length (x ∷ xs) - 1 = omega arith in
+    last_at None x xs ∙ ap (λ n. option_map (λ (y : Listed). (y.kept).key) (slice_get (x ∷ xs) n)) before
+
+pub latest_at : (group : GroupKey) (xs ys : List Listed) → ys ≡ filter (in_group group) xs → option_map (λ (y : Listed). (y.kept).key) (slice_get ys (length ys - 1)) ≡ latest_of group xs
+latest_at group xs ys is = sym (last_is ys) ∙ ap (λ (l : List Listed). last_key None (all_kept l)) is ∙ sym (ap (last_key None) (kept_slice group xs))
+
+-- ---- the last whole one of a slice
+
+-- the last whole one of these
+abbrev pub whole_in : List Listed → Option SnapshotKey
+whole_in xs = last_key None (filter is_whole (all_kept xs))
 
 last_of_one : (o : Option SnapshotKey) (b : Bool) (k : Kept) → last_key o (cond b (k ∷ []) []) ≡ cond b (Some k.key) o
 last_of_one o true k = refl
 last_of_one o false k = refl
 
-abbrev of_group : GroupKey → Kept → Bool
-of_group group k = same_group (group_of_key k.key) group
-
-latest_from : (o : Option SnapshotKey) (group : GroupKey) (ks : List Kept) (k : Kept) → last_key o (kept_in group (ks ++ k ∷ [])) ≡ cond (of_group group k) (Some k.key) (last_key o (kept_in group ks))
-latest_from o group [] k = last_of_one o (of_group group k) k
-latest_from o group (j ∷ js) k = by_test (of_group group j) (λ p. latest_from p group js k)
+whole_from : (o : Option SnapshotKey) (xs : List Listed) (x : Listed)
+    → last_key o (filter is_whole (all_kept (xs ++ x ∷ []))) ≡ cond (is_whole x.kept) (Some (x.kept).key) (last_key o (filter is_whole (all_kept xs)))
+whole_from o [] x = last_of_one o (is_whole x.kept) x.kept
+whole_from o (y ∷ ys) x = by_test (is_whole y.kept) (λ p. whole_from p ys x)
   where
-    by_test : (b : Bool) → ((p : Option SnapshotKey) → last_key p (kept_in group (js ++ k ∷ [])) ≡ cond (of_group group k) (Some k.key) (last_key p (kept_in group js)))
-        → last_key o (cond b (j ∷ kept_in group (js ++ k ∷ [])) (kept_in group (js ++ k ∷ []))) ≡ cond (of_group group k) (Some k.key) (last_key o (cond b (j ∷ kept_in group js) (kept_in group js)))
-    by_test true go = go (Some j.key)
+    by_test : (b : Bool) → ((p : Option SnapshotKey) → last_key p (filter is_whole (all_kept (ys ++ x ∷ []))) ≡ cond (is_whole x.kept) (Some (x.kept).key) (last_key p (filter is_whole (all_kept ys))))
+        → last_key o (cond b (y.kept ∷ filter is_whole (all_kept (ys ++ x ∷ []))) (filter is_whole (all_kept (ys ++ x ∷ []))))
+        ≡ cond (is_whole x.kept) (Some (x.kept).key) (last_key o (cond b (y.kept ∷ filter is_whole (all_kept ys)) (filter is_whole (all_kept ys))))
+    by_test true go = go (Some (y.kept).key)
     by_test false go = go o
 
-kept_push : (xs : List Listed) (x : Listed) → all_kept (xs ++ x ∷ []) ≡ all_kept xs ++ x.kept ∷ []
-kept_push [] x = refl
-kept_push (y ∷ ys) x = ap (λ (ks : List Kept). y.kept ∷ ks) (kept_push ys x)
-
 -- one more
-pub latest_kept-push : (group : GroupKey) (xs : List Listed) (x : Listed) → latest_kept group (all_kept (xs ++ x ∷ [])) ≡ cond (is_in group x) (Some (x.kept).key) (latest_kept group (all_kept xs))
-latest_kept-push group xs x = ap (latest_kept group) (kept_push xs x) ∙ latest_from None group (all_kept xs) x.kept
+pub whole_in-push : (xs : List Listed) (x : Listed) → whole_in (xs ++ x ∷ []) ≡ cond (is_whole x.kept) (Some (x.kept).key) (whole_in xs)
+whole_in-push xs x = whole_from None xs x
 
-pub latest_whole-push : (group : GroupKey) (xs : List Listed) (x : Listed)
-    → latest_whole group (all_kept (xs ++ x ∷ [])) ≡ cond (is_whole x.kept && is_in group x) (Some (x.kept).key) (latest_whole group (all_kept xs))
-latest_whole-push group xs x =
-    ap (latest_whole group) (kept_push xs x) ∙ ap (latest_kept group) (filter-append is_whole (all_kept xs) (x.kept ∷ [])) ∙ by_test (is_whole x.kept)
+whole_slice : (group : GroupKey) (xs : List Listed) → kept_in group (filter is_whole (all_kept xs)) ≡ filter is_whole (all_kept (filter (in_group group) xs))
+whole_slice group [] = refl
+whole_slice group (x ∷ xs) = by_tests (in_group group x) refl (is_whole x.kept) refl (whole_slice group xs)
   where
-    by_test : (b : Bool) → latest_kept group (filter is_whole (all_kept xs) ++ cond b (x.kept ∷ []) []) ≡ cond (b && is_in group x) (Some (x.kept).key) (latest_whole group (all_kept xs))
-    by_test true = latest_from None group (filter is_whole (all_kept xs)) x.kept
-    by_test false = ap (latest_kept group) (append-nil (filter is_whole (all_kept xs)))
+    by_tests : (b : Bool) → in_group group x ≡ b → (d : Bool) → is_whole x.kept ≡ d → kept_in group (filter is_whole (all_kept xs)) ≡ filter is_whole (all_kept (filter (in_group group) xs))
+        → kept_in group (cond d (x.kept ∷ filter is_whole (all_kept xs)) (filter is_whole (all_kept xs))) ≡ filter is_whole (all_kept (cond b (x ∷ filter (in_group group) xs) (filter (in_group group) xs)))
+    by_tests true e true f go =
+        ap (λ c. cond c (x.kept ∷ kept_in group (filter is_whole (all_kept xs))) (kept_in group (filter is_whole (all_kept xs)))) e
+        ∙ ap (λ (ks : List Kept). x.kept ∷ ks) go
+        ∙ sym (ap (λ c. cond c (x.kept ∷ filter is_whole (all_kept (filter (in_group group) xs))) (filter is_whole (all_kept (filter (in_group group) xs)))) f)
+    by_tests true e false f go = go ∙ sym (ap (λ c. cond c (x.kept ∷ filter is_whole (all_kept (filter (in_group group) xs))) (filter is_whole (all_kept (filter (in_group group) xs)))) f)
+    by_tests false e true f go = ap (λ c. cond c (x.kept ∷ kept_in group (filter is_whole (all_kept xs))) (kept_in group (filter is_whole (all_kept xs)))) e ∙ go
+    by_tests false e false f go = go
+
+pub whole_at : (group : GroupKey) (xs ys : List Listed) → ys ≡ filter (in_group group) xs → whole_in ys ≡ whole_of group xs
+whole_at group xs ys is = ap whole_in is ∙ sym (ap (last_key None) (whole_slice group xs))
+
+-- ---- its place
 
 -- whether the second is greater
 abbrev pub is_after : Listed → Listed → Bool
@@ -119,34 +154,23 @@ first_short xs name named is = by_found (find (λ (x : Listed). is_some (x.kept)
 key_named : (x : Listed) → is_named_snapshot x ≡ true → has_text (x.kept).key ≡ true
 key_named x h = (and_parts (has_text (x.kept).key) (is_short_name (x.kept).unreadable) h).0
 
-abbrev whole_kept : List Listed → List Kept
-whole_kept xs = filter is_whole (map (λ (x : Listed). x.kept) xs)
-
-last_named : (o : Option SnapshotKey) (group : GroupKey) (xs : List Listed) (k : SnapshotKey) → ((j : SnapshotKey) → o ≡ Some j → has_text j ≡ true) → list_all is_named_snapshot xs ≡ true
-    → last_key o (kept_in group (whole_kept xs)) ≡ Some k → has_text k ≡ true
-last_named o group [] k first h e = first k e
-last_named o group (x ∷ xs) k first h e =
+last_named : (o : Option SnapshotKey) (xs : List Listed) (k : SnapshotKey) → ((j : SnapshotKey) → o ≡ Some j → has_text j ≡ true) → list_all is_named_snapshot xs ≡ true
+    → last_key o (filter is_whole (all_kept xs)) ≡ Some k → has_text k ≡ true
+last_named o [] k first h e = first k e
+last_named o (x ∷ xs) k first h e =
     let both = and_parts (is_named_snapshot x) (list_all is_named_snapshot xs) h in
-    by_whole (is_whole x.kept) (λ p f. last_named p group xs k f both.1) (key_named x both.0) e
+    by_whole (is_whole x.kept) (λ p f. last_named p xs k f both.1) (key_named x both.0) e
   where
     keys_same : (a b : SnapshotKey) → Some a ≡ Some b → a ≡ b
     keys_same a b e = cc
 
-    by_group : (b : Bool) → ((p : Option SnapshotKey) → ((j : SnapshotKey) → p ≡ Some j → has_text j ≡ true) → last_key p (kept_in group (whole_kept xs)) ≡ Some k → has_text k ≡ true) → has_text (x.kept).key ≡ true
-        → last_key o (cond b (x.kept ∷ kept_in group (whole_kept xs)) (kept_in group (whole_kept xs))) ≡ Some k → has_text k ≡ true
-    by_group true go here e = go (Some (x.kept).key) (λ j s. subst (λ q. has_text q ≡ true) (keys_same (x.kept).key j s) here) e
-    by_group false go here e = go o first e
-
-    by_whole : (b : Bool) → ((p : Option SnapshotKey) → ((j : SnapshotKey) → p ≡ Some j → has_text j ≡ true) → last_key p (kept_in group (whole_kept xs)) ≡ Some k → has_text k ≡ true) → has_text (x.kept).key ≡ true
-        → last_key o (kept_in group (cond b (x.kept ∷ whole_kept xs) (whole_kept xs))) ≡ Some k → has_text k ≡ true
-    by_whole true go here e = by_group (same_group (group_of_key (x.kept).key) group) go here e
+    by_whole : (b : Bool) → ((p : Option SnapshotKey) → ((j : SnapshotKey) → p ≡ Some j → has_text j ≡ true) → last_key p (filter is_whole (all_kept xs)) ≡ Some k → has_text k ≡ true) → has_text (x.kept).key ≡ true
+        → last_key o (cond b (x.kept ∷ filter is_whole (all_kept xs)) (filter is_whole (all_kept xs))) ≡ Some k → has_text k ≡ true
+    by_whole true go here e = go (Some (x.kept).key) (λ j s. subst (λ q. has_text q ≡ true) (keys_same (x.kept).key j s) here) e
     by_whole false go here e = go o first e
 
-pub latest_named : (group : GroupKey) (xs : List Listed) (k : SnapshotKey) → list_all is_named_snapshot xs ≡ true → latest_whole group (map (λ (x : Listed). x.kept) xs) ≡ Some k → has_text k ≡ true
-latest_named group xs k h e = last_named None group xs k (λ j n. absurd (none_some j n)) h e
+pub whole_key : (xs : List Listed) (k : SnapshotKey) → list_all is_named_snapshot xs ≡ true → whole_in xs ≡ Some k → IsKey k
+whole_key xs k named is = is_key k (last_named None xs k (λ j n. absurd (none_some j n)) named is)
   where
     none_some : (j : SnapshotKey) → None ≡ Some j → ⊥
     none_some j e = cc
-
-pub whole_key : (group : GroupKey) (xs : List Listed) (k : SnapshotKey) → list_all is_named_snapshot xs ≡ true → whole_of group xs ≡ Some k → IsKey k
-whole_key group xs k named is = is_key k (latest_named group xs k named is)

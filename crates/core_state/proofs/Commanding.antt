@@ -28,17 +28,14 @@ use Rattle.store_history.specs.declared.act.Act.{Act}
 use Rattle.store_history.specs.declared.act.Act.TheVariants as acts
 use Rattle.store_history.specs.History.{World, act_outcome, data_in}
 use Rattle.restore_reader.specs.Session.{Reading}
-use Rattle.snapshot_files.specs.Reads as reads
-use Rattle.snapshot_files.specs.declared.read_error.ReadError.{ReadError}
-use Rattle.snapshot_files.specs.declared.read_error.ReadError.TheVariants as errors
+use Rattle.store_stops.specs.declared.stop.Stop.{Stop}
 use Rattle.core_state.specs.declared.entering.Place.{Place}
 use Rattle.core_state.specs.declared.kept.Listed.{Listed}
 use Rattle.core_state.specs.declared.kept.Session.{Session}
 use Rattle.core_state.specs.declared.kept.Session.TheVariants.{Idle, Writer, Reader}
 use Rattle.core_state.specs.declared.kept.Writing.{Writing}
 use Rattle.core_state.specs.declared.parts.Parts.{Parts}
-use Rattle.core_state.specs.declared.stop.Stop.{Stop}
-use Rattle.core_state.specs.declared.stop.Stop.TheVariants.{Refused, NoMemory, DiskFailed}
+use Rattle.store_stops.specs.declared.stop.Stop.TheVariants.{Refused, NoMemory, DiskFailed}
 use Rattle.core_state.specs.Catalogue.{listed_by}
 use Rattle.core_state.specs.Changes.{Change, IsFirm, LeavesChange, MayLeave, after, by_stop, change_of, stays, undone, installs, stores, drops, finishes, forgets}
 use Rattle.core_state.specs.Chunks.{Adds, IsSafe}
@@ -50,7 +47,9 @@ use Rattle.core_state.specs.Replies.{may_answer}
 use Rattle.core_state.specs.Settles.{reply_by}
 use Rattle.core_state.specs.Shown.{shown_session, shown_reader, shown_writer}
 use Rattle.core_state.specs.States.{state_of}
-use Rattle.core_state.specs.Stops.{told, stop_by_read, stop_of, Gives, IfRefused, StopHasText}
+use Rattle.core_state.specs.Stops.{told}
+use Rattle.snapshot_files.specs.Reads.{StopHasText}
+use Rattle.store_stops.specs.Stops.{stop_of, Gives, IfRefused}
 use Rattle.core_state.specs.Unchanged.{SameKept, Unchanged, is_uncalled}
 use Rattle.core_state.specs.Wanted.{session_at, reader_in, want_writer, want_idle}
 use Rattle.core_state.proofs.Chunks.{adds_same}
@@ -219,21 +218,6 @@ refused_as P Q DiskFailed so p = tt
 pub gives_by : {A B : Type 0} (f : A → B) (wanted : Result B Refusal) (result : Result A Stop) (stop : Stop) → IsErrAnd result (λ x. x ≡ stop) → Gives f (Err stop) wanted → Gives f result wanted
 gives_by f wanted (Ok x) stop is g = absurd is
 gives_by f wanted (Err x) stop is g = subst (λ y. Gives f (Err y) wanted) (sym is) g
-
--- a file that is not read
-
-pub read_refused : (P : Refusal → Type 0) (e : ReadError) → reads.IfRefused P e → IfRefused P (stop_by_read e)
-read_refused P (errors.Refused refusal) p = p
-read_refused P errors.NoMemory p = tt
-read_refused P errors.Failed p = tt
-
-pub read_text : (e : ReadError) → reads.ErrorHasText e → StopHasText (stop_by_read e)
-read_text e text = read_refused (λ refusal. ReplyHasText (replies.Refused refusal)) e text
-
-pub read_failed : (e : ReadError) → stop_by_read e ≡ DiskFailed → e ≡ errors.Failed
-read_failed (errors.Refused refusal) is = cc
-read_failed errors.NoMemory is = cc
-read_failed errors.Failed is = refl
 
 -- ---- what an act does and leaves, by which act it is
 

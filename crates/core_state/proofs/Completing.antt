@@ -18,7 +18,7 @@ use Rattle.wire_commands.specs.declared.command.Command.TheVariants.{Finish}
 use Rattle.wire_commands.specs.declared.reply.Reply.TheVariants.{Done}
 use Rattle.store_model.specs.Manifests.{data_in, manifest_data, want_manifest, want_listed, listing_of, finish_check}
 use Rattle.store_model.specs.Stands.{IsSnapshot}
-use Rattle.store_model.specs.Store.{Store, Writer, Outcome, none, writer, session, with_session, insert_snapshot}
+use Rattle.store_model.specs.Store.{Store, Writer, Outcome, writer, session}
 use Rattle.store_model.specs.WriterSteps.{snapshot_of, finish}
 use Rattle.store_model.specs.Steps.{outcome}
 use Rattle.store_model.specs.Done.{finished}

@@ -15,7 +15,7 @@ use Rattle.store_history.specs.History.{act_outcome}
 use Rattle.core_state.specs.declared.entering.Place.{Place}
 use Rattle.core_state.specs.declared.kept.Session.TheVariants.{Idle}
 use Rattle.core_state.specs.declared.state.Core.{Core}
-use Rattle.core_state.specs.declared.stop.Stop.TheVariants.{DiskFailed}
+use Rattle.store_stops.specs.declared.stop.Stop.TheVariants.{DiskFailed}
 use Rattle.core_state.specs.Answers.{EndHasCause, ended as has_ended, end_failed}
 use Rattle.core_state.specs.Applies.{ActApplies, ActKeeps}
 use Rattle.core_state.specs.Begins.{IsNext, ReadsClock}

@@ -10,8 +10,8 @@ use Rattle.wire_commands.specs.declared.reply.Reply.{Reply}
 use Rattle.store_history.specs.declared.act.Answer.{Answer}
 use Rattle.core_state.specs.declared.entering.Place.{Place}
 use Rattle.core_state.specs.declared.state.Core.{Core}
-use Rattle.core_state.specs.declared.stop.Stop.{Stop}
-use Rattle.core_state.specs.declared.stop.Stop.TheVariants.{Refused}
+use Rattle.store_stops.specs.declared.stop.Stop.{Stop}
+use Rattle.store_stops.specs.declared.stop.Stop.TheVariants.{Refused}
 use Rattle.core_state.specs.Begins.{IsAdmitted, Refuses, short as is_out_of_memory, halted as is_halted}
 use Rattle.core_state.specs.FromState.{ActTells, FromState, CoreTells, kept_reply}
 use Rattle.core_state.specs.Replies.{reply_told}

@@ -8,6 +8,8 @@ pub mod Ended
 pub mod NamedLemmas
 pub mod Places
 pub mod CatalogueLemmas
+pub mod Partitions
+pub mod OrderLemmas
 pub mod Reserves
 pub mod Sessions
 pub mod LockLemmas

@@ -19,7 +19,7 @@ use Rattle.core_state.specs.Numbers.{AreNumbered, DifferInNumber, IsGiven, first
 
 -- ---- one snapshot more
 
-all_insert : (P : Listed → Type 0) (new : Listed) (xs : List Listed) → P new → All P xs → All P (insert_listed new xs)
+pub all_insert : (P : Listed → Type 0) (new : Listed) (xs : List Listed) → P new → All P xs → All P (insert_listed new xs)
 all_insert P new [] p all = All-cons P new [] p all
 all_insert P new (x ∷ xs) p all = by_test (key_lt (new.kept).key (x.kept).key) (all_insert P new xs p (All-tail P x xs all))
   where
@@ -33,7 +33,7 @@ head_differs x xs pairs k d within = pairs zero (suc k) d (omega arith) (omega (
 pub tail_differs : (x : Listed) (xs : List Listed) → AllPairs DifferInNumber (x ∷ xs) → AllPairs DifferInNumber xs
 tail_differs x xs pairs i j d lt within = pairs (suc i) (suc j) d (omega (arith, lt)) (omega (arith, within))
 
-pairs_insert : (new : Listed) (xs : List Listed) → All (DifferInNumber new) xs → AllPairs DifferInNumber xs → AllPairs DifferInNumber (insert_listed new xs)
+pub pairs_insert : (new : Listed) (xs : List Listed) → All (DifferInNumber new) xs → AllPairs DifferInNumber xs → AllPairs DifferInNumber (insert_listed new xs)
 pairs_insert new [] apart pairs = AllPairs-cons DifferInNumber new [] apart pairs
 pairs_insert new (x ∷ xs) apart pairs =
     by_test (key_lt (new.kept).key (x.kept).key) (pairs_insert new xs (All-tail (DifferInNumber new) x xs apart) (tail_differs x xs pairs))

@@ -25,8 +25,8 @@ use Rattle.core_state.specs.declared.kept.Listed.{Listed}
 use Rattle.core_state.specs.declared.kept.Session.{Session}
 use Rattle.core_state.specs.declared.parts.Parts.{Parts}
 use Rattle.core_state.specs.declared.state.Core.{Core}
-use Rattle.core_state.specs.declared.stop.RemoteStop.{RemoteStop}
-use Rattle.core_state.specs.declared.stop.RemoteStop.TheVariants as stops
+use Rattle.store_stops.specs.declared.stop.Stop.{Stop}
+use Rattle.store_stops.specs.declared.stop.Stop.TheVariants as stops
 use Rattle.core_state.specs.Answers.{ClassHasCause, EndHasCause, HasCause, IsAnswered, IsCaused, ReachHasCause, StartHasCause, StepHasCause, done, end_failed, ended as has_ended, failed, halted, reach_as_any, reach_failed, reach_reads, short, start_as_any, start_opens, step_as_any, step_ends, step_passes}
 use Rattle.core_state.specs.Applies.{ActApplies, ActKeeps, CoreApplies}
 use Rattle.core_state.specs.Begins.{AdmittedHasText, IsBegun, IsNotShort, IsReady, Refuses}
@@ -121,28 +121,28 @@ module _ {D E C : Type 0} (d : Ghosts D) (old new : Core D E C) (act : Act) (rem
 -- ---- what was read
 
 -- it is one of the act's replies
-abbrev pub GivesFit : Act → Result Reply RemoteStop → Type 0
+abbrev pub GivesFit : Act → Result Reply Stop → Type 0
 GivesFit act (Ok reply) = IsTrue (may_give act reply) × ReplyHasText reply
 GivesFit act (Err (stops.Refused refusal)) = IsTrue (may_answer act (replies.Refused refusal)) × ReplyHasText (replies.Refused refusal)
 GivesFit act (Err stop) = Unit {0}
 
 -- and that of a history
-abbrev pub GivesRight : History → ℕ → Act → Result Reply RemoteStop → Type 0
+abbrev pub GivesRight : History → ℕ → Act → Result Reply Stop → Type 0
 GivesRight h k act (Ok reply) = (may_read h.remote (world h).store k act ≡ Ok tt) × ReadsIn h.remote act (Some reply)
 GivesRight h k act (Err (stops.Refused refusal)) = may_read h.remote (world h).store k act ≡ Err refusal
 GivesRight h k act (Err stops.NoMemory) = Unit {0}
-GivesRight h k act (Err stops.Failed) = may_read h.remote (world h).store k act ≡ Ok tt
+GivesRight h k act (Err stops.DiskFailed) = may_read h.remote (world h).store k act ≡ Ok tt
 
 -- it failed only where the remote's count rose
-abbrev pub FailsWhere : {E : Type 0} → Ghosts E → Option E → Option E → Result Reply RemoteStop → Type 0
-FailsWhere e old new (Err stops.Failed) = Rose (faults_of e old) (faults_of e new)
+abbrev pub FailsWhere : {E : Type 0} → Ghosts E → Option E → Option E → Result Reply Stop → Type 0
+FailsWhere e old new (Err stops.DiskFailed) = Rose (faults_of e old) (faults_of e new)
 FailsWhere e old new ended = Unit {0}
 
-kind_calm : (ended : Result Reply RemoteStop) → (kind_by ended ≡ 3 → ⊥) × (kind_by ended ≡ 5 → ⊥)
+kind_calm : (ended : Result Reply Stop) → (kind_by ended ≡ 3 → ⊥) × (kind_by ended ≡ 5 → ⊥)
 kind_calm (Ok reply) = (λ e. absurd (omega (arith, e)), λ e. absurd (omega (arith, e)))
 kind_calm (Err (stops.Refused refusal)) = (λ e. absurd (omega (arith, e)), λ e. absurd (omega (arith, e)))
 kind_calm (Err stops.NoMemory) = (λ e. absurd (omega (arith, e)), λ e. absurd (omega (arith, e)))
-kind_calm (Err stops.Failed) = (λ e. absurd (omega (arith, e)), λ e. absurd (omega (arith, e)))
+kind_calm (Err stops.DiskFailed) = (λ e. absurd (omega (arith, e)), λ e. absurd (omega (arith, e)))
 
 -- such an act has one of two kinds, where it read nothing
 pub unread_kind : (act : Act) (answer : Answer) → family_of act ≡ Reaches → reads_remote act answer ≡ false → ((answer.entry).kind ≡ COMMAND_KIND) ⊎ ((answer.entry).kind ≡ FAULT_KIND)
@@ -159,14 +159,14 @@ unread_kind act answer remotes unread =
 pub others_unread : (act : Act) (answer : Answer) → is_remotes act ≡ false → reads_remote act answer ≡ false
 others_unread act answer alone = ap (λ b. b && not ((answer.entry).kind == COMMAND_KIND || (answer.entry).kind == FAULT_KIND)) alone
 
-fit_text : (act : Act) (ended : Result Reply RemoteStop) → GivesFit act ended → ReplyHasText (reply_by ended)
+fit_text : (act : Act) (ended : Result Reply Stop) → GivesFit act ended → ReplyHasText (reply_by ended)
 fit_text act (Ok reply) fit = fit.1
 fit_text act (Err (stops.Refused refusal)) fit = fit.1
 fit_text act (Err stops.NoMemory) fit = no_memory_has_text
-fit_text act (Err stops.Failed) fit = remote_fault_has_text
+fit_text act (Err stops.DiskFailed) fit = remote_fault_has_text
 
 module _ {D E C : Type 0} (d : Ghosts D) (e : Ghosts E) (clock : clocks.Ghosts C) (old mid new : Core D E C) (k m : ℕ) (act : Act) (remotes : family_of act ≡ Reaches)
-    (remote : Option E) (ended : Result Reply RemoteStop) (answer : Answer) (lt : k < 64) (formed : IsWellFormed act)
+    (remote : Option E) (ended : Result Reply Stop) (answer : Answer) (lt : k < 64) (formed : IsWellFormed act)
     (ready : IsReady clock.readings old mid k m) (filled : is_closing old k act ≡ false → (3 ≤ held_by mid.journal k) × (0 < (mid.journal).spare))
     (settles : SettlesRead d (record mid { remote = remote }) new k m ended answer) (unread : kind_by ended ≡ 0 → remote ≡ mid.remote) where
   abbrev acted : Core D E C
@@ -232,22 +232,22 @@ module _ {D E C : Type 0} (d : Ghosts D) (e : Ghosts E) (clock : clocks.Ghosts C
             (entered_keeps d clock.readings old mid acted new k m n (Some (reply_by ended)) (is_closing old k act) answer ready refl (filled not_closing) settles);
       }
 
-  cause_by : (r : Result Reply RemoteStop) → GivesFit act r → (answer.entry).kind ≡ kind_by r → answer.reply ≡ Some (reply_by r) → ReachHasCause d old new act answer
+  cause_by : (r : Result Reply Stop) → GivesFit act r → (answer.entry).kind ≡ kind_by r → answer.reply ≡ Some (reply_by r) → ReachHasCause d old new act answer
   cause_by (Ok reply) fit is told = reach_reads ready.no_fault is reply told fit.0
   cause_by (Err (stops.Refused refusal)) fit is told = reach_as_any (done ready.no_fault is (replies.Refused refusal) told fit.0)
   cause_by (Err stops.NoMemory) fit is told = reach_as_any (short is told)
-  cause_by (Err stops.Failed) fit is told = reach_failed ready.no_fault is told
+  cause_by (Err stops.DiskFailed) fit is told = reach_failed ready.no_fault is told
 
   answered : GivesFit act ended → IsAnswered d old new k answer
   answered fit =
       entered_answered d old acted new k m n (Some (reply_by ended)) answer settles (b.entries).entries (b.entries).calls (fit_text act ended fit)
       (b.fault ∙ ready.no_fault ∙ sym (unfaulted ended)) (let x = ap (λ p. d.faults p.disk) b.parts in omega (arith, x)) (λ five. absurd ((kind_calm ended).1 five))
     where
-      unfaulted : (r : Result Reply RemoteStop) → Rattle.core_state.specs.Answers.fault_after (length (old.journal).entries.items) (kind_by r) old.fault ≡ None
+      unfaulted : (r : Result Reply Stop) → Rattle.core_state.specs.Answers.fault_after (length (old.journal).entries.items) (kind_by r) old.fault ≡ None
       unfaulted (Ok reply) = ready.no_fault
       unfaulted (Err (stops.Refused refusal)) = ready.no_fault
       unfaulted (Err stops.NoMemory) = ready.no_fault
-      unfaulted (Err stops.Failed) = ready.no_fault
+      unfaulted (Err stops.DiskFailed) = ready.no_fault
 
   module _ (h : History) (s : StandsFor d clock.readings old h) where
     fault : (world h).fault ≡ None
@@ -259,25 +259,25 @@ module _ {D E C : Type 0} (d : Ghosts D) (e : Ghosts E) (clock : clocks.Ghosts C
     no_sweep : class_of act ≡ sweeping → ⊥
     no_sweep is = no_reach_sweep (sym class_is ∙ is)
 
-    right_by : (r : Result Reply RemoteStop) → GivesRight h k act r → Right h.remote (world h) k m act (Some (reply_by r)) reaching (kind_of (kind_by r))
+    right_by : (r : Result Reply Stop) → GivesRight h k act r → Right h.remote (world h) k m act (Some (reply_by r)) reaching (kind_of (kind_by r))
     right_by (Ok reply) gives = (fault, gives.0, gives.1)
     right_by (Err (stops.Refused refusal)) gives = (fault, subst (λ o. Rattle.store_history.specs.Legal.Refuses o (Some (replies.Refused refusal))) (sym gives) refl)
     right_by (Err stops.NoMemory) gives = refl
-    right_by (Err stops.Failed) gives = (fault, gives, refl)
+    right_by (Err stops.DiskFailed) gives = (fault, gives, refl)
 
-    world_by : (r : Result Reply RemoteStop) → WorldMoves h k m act (kind_by r)
+    world_by : (r : Result Reply Stop) → WorldMoves h k m act (kind_by r)
     unfolding moved
     world_by (Ok reply) = record { fault = refl; store = refl }
     world_by (Err (stops.Refused refusal)) = record { fault = refl; store = remote_moves h k m act remotes }
     world_by (Err stops.NoMemory) = record { fault = refl; store = refl }
-    world_by (Err stops.Failed) = record { fault = refl; store = refl }
+    world_by (Err stops.DiskFailed) = record { fault = refl; store = refl }
 
-    shown_by : (r : Result Reply RemoteStop) → open_in (collector_by (kind_by r) k mid.collector) ≡ shown_collecting (moves h k m act (kind_by r)).collecting
+    shown_by : (r : Result Reply Stop) → open_in (collector_by (kind_by r) k mid.collector) ≡ shown_collecting (moves h k m act (kind_by r)).collecting
     unfolding moved
     shown_by (Ok reply) = begun
     shown_by (Err (stops.Refused refusal)) = step_shown h.remote (world h) k m act no_sweep mid.collector begun
     shown_by (Err stops.NoMemory) = short_shown h.remote (world h) k m act no_sweep mid.collector begun
-    shown_by (Err stops.Failed) = begun
+    shown_by (Err stops.DiskFailed) = begun
 
     acted_is : is_some remote ≡ is_some mid.remote → IsActed d clock.readings old acted h k m act n
     acted_is there = let a = begun_acted d clock.readings old mid h k m act n s b (world_by ended) (shown_by ended) in record {
@@ -300,20 +300,20 @@ module _ {D E C : Type 0} (d : Ghosts D) (e : Ghosts E) (clock : clocks.Ghosts C
         entered_stands d clock.readings old acted new h k m act n (Some (reply_by ended)) answer s lt formed
         (subst (λ c. Right h.remote (world h) k m act (Some (reply_by ended)) c (kind_of n)) (sym class_is) (right_by ended gives)) (acted_is there) settles
 
-  serves_by : IsAnswered d old new k answer → RemoteStays e mid.remote remote → (r : Result Reply RemoteStop) → kind_by r ≡ n → FailsWhere e mid.remote remote r → RemoteServes e old new
+  serves_by : IsAnswered d old new k answer → RemoteStays e mid.remote remote → (r : Result Reply Stop) → kind_by r ≡ n → FailsWhere e mid.remote remote r → RemoteServes e old new
   serves_by answers stays_so r is fails = by_end r is fails
     where
       before : RemoteStays e old.remote new.remote
       before = subst (λ x. RemoteStays e old.remote x) (sym settles.remote) (subst (λ x. RemoteStays e x remote) b.remote stays_so)
 
-      calm : (r : Result Reply RemoteStop) → kind_by r ≡ n → (kind_by r ≡ 7 → ⊥) → RemoteServes e old new
+      calm : (r : Result Reply Stop) → kind_by r ≡ n → (kind_by r ≡ 7 → ⊥) → RemoteServes e old new
       calm r is other = serves_other e old new answer.entry answers.entries (λ seven. other (is ∙ sym kind_is ∙ seven)) before
 
-      by_end : (r : Result Reply RemoteStop) → kind_by r ≡ n → FailsWhere e mid.remote remote r → RemoteServes e old new
+      by_end : (r : Result Reply Stop) → kind_by r ≡ n → FailsWhere e mid.remote remote r → RemoteServes e old new
       by_end (Ok reply) is fails = calm (Ok reply) is (λ x. absurd (omega (arith, x)))
       by_end (Err (stops.Refused refusal)) is fails = calm (Err (stops.Refused refusal)) is (λ x. absurd (omega (arith, x)))
       by_end (Err stops.NoMemory) is fails = calm (Err stops.NoMemory) is (λ x. absurd (omega (arith, x)))
-      by_end (Err stops.Failed) is fails =
+      by_end (Err stops.DiskFailed) is fails =
           serves_failed e old new answer.entry answers.entries before
           (subst (λ x. Rose (faults_of e old.remote) (faults_of e x)) (sym settles.remote) (subst (λ x. Rose (faults_of e x) (faults_of e remote)) b.remote fails))
 

@@ -18,8 +18,8 @@ use Rattle.store_history.specs.History.{World, act_outcome}
 use Rattle.core_state.specs.declared.entering.Place.{Place}
 use Rattle.core_state.specs.declared.kept.Session.TheVariants.{Idle}
 use Rattle.core_state.specs.declared.parts.Parts.{Parts}
-use Rattle.core_state.specs.declared.stop.Stop.{Stop}
-use Rattle.core_state.specs.declared.stop.Stop.TheVariants.{DiskFailed}
+use Rattle.store_stops.specs.declared.stop.Stop.{Stop}
+use Rattle.store_stops.specs.declared.stop.Stop.TheVariants.{DiskFailed}
 use Rattle.core_state.specs.Catalogue.{listed_by}
 use Rattle.core_state.specs.Changes.{Change, IsFirm, LeavesChange, after, by_stop, change_of}
 use Rattle.core_state.specs.Chunks.{Adds, IsSafe}

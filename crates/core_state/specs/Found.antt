@@ -1,5 +1,5 @@
 -- What is found in the catalogue.
-use Rattle.std.specs.Prelude.{ℕ, ◌≤◌, Bool, List, map, filter, length, Option, None, Some, is_none, is_some, option_map, Result}
+use Rattle.std.specs.Prelude.{ℕ, ◌≤◌, Bool, true, List, map, filter, length, Option, None, Some, is_none, is_some, option_map, Result}
 use Rattle.std.specs.Borrow.{Bor}
 use Rattle.std.specs.List.{find, last_or}
 use Rattle.std.specs.Option.{ForSome}
@@ -9,7 +9,7 @@ use Rattle.store_types.specs.declared.names.SnapshotKey.{SnapshotKey}
 use Rattle.store_types.specs.declared.refusal.Refusal.{Refusal}
 use Rattle.store_types.specs.declared.refusal.Refusal.TheVariants.{BadName, NoSnapshot}
 use Rattle.store_types.specs.Chain.Refusing.{◌>>=◌, or_else}
-use Rattle.store_types.specs.Names.{group_of_key, key_of, same_group, same_key}
+use Rattle.store_types.specs.Names.{group_of_key, key_lt, key_of, same_group, same_key}
 use Rattle.core_state.specs.declared.kept.Listed.{Listed}
 use Rattle.core_state.specs.declared.kept.Kept.{Kept}
 use Rattle.core_state.specs.declared.kept.StoredFile.{StoredFile}
@@ -55,11 +55,21 @@ unreadable_of (Some x) = (x.kept).unreadable
 abbrev pub first_unreadable : List Listed → Option (List ℕ)
 first_unreadable catalogue = unreadable_of (find (λ x. is_some (x.kept).unreadable) catalogue)
 
+-- ---- behind a key
+
+-- behind this one, if any
+abbrev pub is_behind : Option SnapshotKey → Kept → Bool
+is_behind None k = true
+is_behind (Some key) k = key_lt key k.key
+
 -- ---- a group
+
+abbrev pub is_in : GroupKey → Kept → Bool
+is_in group k = same_group (group_of_key k.key) group
 
 -- the group's snapshots, the oldest first
 abbrev pub kept_in : GroupKey → List Kept → List Kept
-kept_in group kept = filter (λ x. same_group (group_of_key x.key) group) kept
+kept_in group kept = filter (is_in group) kept
 
 abbrev pub latest_kept : GroupKey → List Kept → Option SnapshotKey
 latest_kept group kept = last_or None (map (λ x. x.key) (kept_in group kept))
@@ -74,7 +84,7 @@ latest_whole group kept = latest_kept group (filter is_whole kept)
 
 -- how many snapshots of the catalogue the group has, damaged ones too
 abbrev pub count_of : GroupKey → List Listed → ℕ
-count_of group catalogue = length (filter (λ x. same_group (group_of_key (x.kept).key) group) catalogue)
+count_of group catalogue = length (filter (λ x. is_in group x.kept) catalogue)
 
 -- the group's latest snapshot in the catalogue
 abbrev pub latest_of : GroupKey → List Listed → Option SnapshotKey

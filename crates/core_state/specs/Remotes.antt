@@ -13,8 +13,8 @@ use Rattle.store_history.specs.declared.act.Act.{Act}
 use Rattle.store_history.specs.declared.act.Answer.{Answer}
 use Rattle.store_history.specs.declared.act.Event.{Event}
 use Rattle.core_state.specs.declared.state.Core.{Core}
-use Rattle.core_state.specs.declared.stop.RemoteStop.{RemoteStop}
-use Rattle.core_state.specs.declared.stop.RemoteStop.TheVariants as stops
+use Rattle.store_stops.specs.declared.stop.Stop.{Stop}
+use Rattle.store_stops.specs.declared.stop.Stop.TheVariants as stops
 use Rattle.core_state.specs.Commands.{is_remotes}
 use Rattle.core_state.specs.Settles.{IsEntered}
 
@@ -71,17 +71,17 @@ pub record RemoteServes {D E C : Type 0} (e : Ghosts E) (old new : Core D E C) :
 -- ---- how a read of it is entered
 
 -- What it gave has kind 1, a refusal of what it has too. A refusal without a read has kind 0, and a read that failed 7.
-abbrev pub kind_by : Result Reply RemoteStop → ℕ
+abbrev pub kind_by : Result Reply Stop → ℕ
 kind_by (Ok reply) = 1
 kind_by (Err (stops.Refused refusal)) = 0
 kind_by (Err stops.NoMemory) = 2
-kind_by (Err stops.Failed) = 7
+kind_by (Err stops.DiskFailed) = 7
 
-abbrev pub reply_by : Result Reply RemoteStop → Reply
+abbrev pub reply_by : Result Reply Stop → Reply
 reply_by (Ok reply) = reply
 reply_by (Err (stops.Refused refusal)) = Refused refusal
 reply_by (Err stops.NoMemory) = Refused refusals.NoMemory
-reply_by (Err stops.Failed) = Refused refusals.RemoteFault
+reply_by (Err stops.DiskFailed) = Refused refusals.RemoteFault
 
-abbrev pub SettlesRead : {D E C : Type 0} → Ghosts D → Core D E C → Core D E C → ℕ → ℕ → Result Reply RemoteStop → Answer → Type 0
+abbrev pub SettlesRead : {D E C : Type 0} → Ghosts D → Core D E C → Core D E C → ℕ → ℕ → Result Reply Stop → Answer → Type 0
 SettlesRead d old new lane moment ended answer = IsEntered d old new lane moment (kind_by ended) (Some (reply_by ended)) answer

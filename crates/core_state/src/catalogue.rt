@@ -1,39 +1,38 @@
-//! The catalogue of the finished snapshots, and all that is asked of it.
+//! The catalogue of the finished snapshots.
 
-ghost use Rattle.std.specs.Prelude.{◌≡◌, ◌<◌, ◌≤◌, IsTrue, OnOk, length, option_map, position};
-ghost use Rattle.std.specs.List.{list_all};
+ghost use Rattle.std.specs.Prelude.{◌≡◌, ◌<◌, ◌≤◌, IsTrue, OnOk, [], drop, filter, length, option_map};
+ghost use Rattle.std.specs.List.{list_all, position_or_len};
+ghost use Rattle.std.specs.Ordering.{is_lt};
 ghost use Rattle.std.specs.Option.{ForSome};
-ghost use Rattle.store_types.specs.Names.{IsKey, key_lt};
+ghost use Rattle.store_types.specs.Names.{IsKey, group_cmp, group_of_key, key_lt};
 ghost use Rattle.core_state.specs.Catalogue.{insert_listed, without_listed};
-ghost use Rattle.core_state.specs.Found.{IsShortNamed, count_of, first_unreadable, kept_named, latest_of, lent_key, path_in, path_named as path_among, whole_of};
+ghost use Rattle.core_state.specs.Found.{IsShortNamed, count_of, first_unreadable, is_behind, is_in, kept_named, latest_of, lent_key, path_in, path_named as path_among, whole_of};
 ghost use Rattle.core_state.specs.Named.{is_named_snapshot};
 ghost use Rattle.core_state.specs.Sweeps.{kept_at};
 
 use crate::kept::{Kept, Listed, StoredFile};
 use snapshot_files::FilePath;
-use std::alloc::AllocError;
+use std::alloc::{AllocError, Global};
 use std::marker::Model;
 use store_types::{Bytes, FileName, GroupKey, SnapshotKey};
 
-/// The finished snapshots in their order, as contracts see it: the list, and how many more are taken in without memory.
+/// The finished snapshots. Contracts see their list, and how many more are taken in without memory.
 ///
-/// Each has a key with a text, and the name of the file that makes it damaged, if any, is short.
+/// Their keys never fall. Each has a key with a text, and the name of the file that makes it damaged, if any, is short.
 #[derive(Drop)]
 pub struct Catalogue {
     listed: Vec<Listed>,
 }
 
 impl Model for Catalogue {
-    ghost use Rattle.std.specs.Prelude.{◌-◌, IsTrue, vec_capacity, vec_len};
-    ghost use Rattle.std.specs.List.{list_all};
-    ghost use Rattle.core_state.specs.Catalogued.{Catalogued};
-    ghost use Rattle.core_state.specs.Named.{is_named_snapshot};
+    ghost use Rattle.std.specs.Prelude.{◌-◌, vec_capacity, vec_len};
+    ghost use Rattle.core_state.specs.Catalogued.{Catalogued, IsListing};
 
     ghost Value = { Catalogued };
 
     ghost view = { λ c. record { listed = c.listed.items; room = vec_capacity c.listed - vec_len c.listed } };
 
-    ghost invariant = { λ c. IsTrue (list_all is_named_snapshot c.listed.items) };
+    ghost invariant = { λ c. IsListing c.listed.items };
 }
 
 /// Where the file of that name stands.
@@ -44,23 +43,27 @@ pub fn path_named<'a>(files: &'a [StoredFile], name: &FileName) -> Option<&'a Fi
     found.map(|file| &file.path)
 }
 
-/// The place of the first snapshot that is greater.
-fn first_after(listed: &[Listed], key: &SnapshotKey) -> Option<usize>
-    ensures { result ≡ position (λ x. key_lt key.now x.kept.key) listed.now }
+/// The key's group comes before this one.
+fn is_before(key: &SnapshotKey, group: &GroupKey) -> bool
+    ensures { result ≡ is_lt (group_cmp (group_of_key key.now) group.now) }
 {
-    listed.iter().position(|listed| *key < listed.kept.key)
+    key.kind
+        .cmp(&group.kind)
+        .then(key.id.cmp(&group.id))
+        .is_lt()
 }
 
 impl Catalogue {
-    /// The catalogue of these snapshots. It takes no memory.
-    pub fn from_vec(listed: Vec<Listed>) -> Catalogue
-        requires { IsTrue (list_all is_named_snapshot listed.items) }
-        ensures { result.listed ≡ listed.items }
+    /// A catalogue without snapshots. It takes no memory.
+    pub fn new(alloc: Global) -> Catalogue
+        ensures { result.listed ≡ [] }
     {
-        Catalogue { listed }
+        Catalogue {
+            listed: Vec::new(alloc),
+        }
     }
 
-    /// All finished snapshots, in their order.
+    /// All finished snapshots. Their keys never fall.
     pub fn as_slice(&self) -> &[Listed]
         ensures listed { result.now ≡ self.now.listed }
         ensures named { IsTrue (list_all is_named_snapshot result.now) }
@@ -68,15 +71,49 @@ impl Catalogue {
         self.listed.as_slice()
     }
 
+    /// The place of the first snapshot that is greater, or the end.
+    fn place_after(&self, key: &SnapshotKey) -> usize
+        ensures value { result ≡ position_or_len (λ x. key_lt key.now x.kept.key) self.now.listed }
+        ensures bound { result ≤ length self.now.listed }
+        ensures rest { drop result self.now.listed ≡ filter (λ x. key_lt key.now x.kept.key) self.now.listed }
+    {
+        let listed = self.listed.as_slice();
+        listed.partition_point(|x| !(*key < x.kept.key))
+    }
+
+    /// The snapshots behind a key, or all.
+    pub fn after(&self, key: Option<&SnapshotKey>) -> &[Listed]
+        ensures value { result.now ≡ filter (λ x. is_behind (lent_key key.entry) x.kept) self.now.listed }
+        ensures named { IsTrue (list_all is_named_snapshot result.now) }
+    {
+        match key {
+            Some(key) => &self.listed[self.place_after(key)..],
+            None => self.listed.as_slice(),
+        }
+    }
+
+    /// The group's snapshots, damaged ones too, the oldest first.
+    pub fn group(&self, group: &GroupKey) -> &[Listed]
+        ensures value { result.now ≡ filter (λ x. is_in group.now x.kept) self.now.listed }
+        ensures named { IsTrue (list_all is_named_snapshot result.now) }
+    {
+        let listed = self.listed.as_slice();
+        let start = listed.partition_point(|x| is_before(&x.kept.key, group));
+        let rest = &listed[start..];
+        let count = rest.partition_point(|x| x.kept.key.is_of(group));
+        &rest[..count]
+    }
+
     /// The finished snapshot with this key.
     pub fn named(&self, key: &SnapshotKey) -> Option<&Kept>
         ensures value { option_map (λ k. k.now) result ≡ kept_named key.now self.now.listed }
         ensures short { ForSome result (λ k. IsShortNamed k.now) }
     {
-        let found = self.listed.iter().find(|listed| listed.kept.key == *key);
-        match found {
-            Some(listed) => Some(&listed.kept),
-            None => None,
+        let listed = self.listed.as_slice();
+        let place = listed.partition_point(|x| x.kept.key < *key);
+        match listed.get(place) {
+            Some(found) if found.kept.key == *key => Some(&found.kept),
+            _ => None,
         }
     }
 
@@ -115,23 +152,17 @@ impl Catalogue {
     pub fn count(&self, group: &GroupKey) -> usize
         ensures { result ≡ count_of group.now self.now.listed }
     {
-        self.listed
-            .iter()
-            .filter(|listed| listed.kept.key.is_of(group))
-            .count()
+        self.group(group).len()
     }
 
     /// The group's latest snapshot, whole or damaged.
     pub fn latest(&self, group: &GroupKey) -> Option<&SnapshotKey>
         ensures value { lent_key result ≡ latest_of group.now self.now.listed }
     {
-        let mut latest = None;
-        for listed in self.listed.as_slice() {
-            if listed.kept.key.is_of(group) {
-                latest = Some(&listed.kept.key);
-            }
+        match self.group(group).last() {
+            Some(listed) => Some(&listed.kept.key),
+            None => None,
         }
-        latest
     }
 
     /// The group's latest whole snapshot.
@@ -140,15 +171,15 @@ impl Catalogue {
         ensures grammar { ForSome result (λ k. IsKey k.now) }
     {
         let mut whole = None;
-        for listed in self.listed.as_slice() {
-            if listed.kept.unreadable.is_none() && listed.kept.key.is_of(group) {
+        for listed in self.group(group) {
+            if listed.kept.unreadable.is_none() {
                 whole = Some(&listed.kept.key);
             }
         }
         whole
     }
 
-    /// Takes memory for one more snapshot. At want of memory nothing has changed.
+    /// Takes memory for one more snapshot. The list stays as it is.
     pub fn reserve(&mut self) -> Result<(), AllocError>
         ensures same { self.new.listed ≡ self.old.listed }
         ensures room { OnOk result (0 < self.new.room) }
@@ -162,8 +193,7 @@ impl Catalogue {
         requires named { IsTrue (is_named_snapshot listed) }
         ensures { self.new.listed ≡ insert_listed listed self.old.listed }
     {
-        let after = first_after(&self.listed, &listed.kept.key);
-        let place = after.unwrap_or(self.listed.len());
+        let place = self.place_after(&listed.kept.key);
         self.listed.insert(place, listed).unwrap();
     }
 

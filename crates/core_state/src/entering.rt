@@ -14,11 +14,11 @@ ghost use Rattle.core_state.specs.Stops.{told};
 
 use crate::noting::note_entry;
 use crate::state::Core;
-use crate::stop::{RemoteStop, Stop};
 use disk_trait::Disk;
 use port_traits::Clock;
 use std::alloc::Global;
 use store_history::{Act, Answer};
+use store_stops::Stop;
 use store_types::{
     COMMAND_KIND, Entry, FAULT_KIND, LAST_MOMENT, MEMORY_KIND, PART_KIND, REMOTE_FAULT_KIND,
     Refusal,
@@ -148,7 +148,7 @@ pub fn short<D: Disk, E, C: Clock>(core: &mut Core<D, E, C>, alloc: Global, lane
 pub fn settle_read<D: Disk, E, C>(
     core: &mut Core<D, E, C>,
     at: Place,
-    ended: Result<Reply, RemoteStop>,
+    ended: Result<Reply, Stop>,
 ) -> Answer
     requires lane { at.lane < 64 }
     requires in_time { at.moment ≤ last_moment }
@@ -157,15 +157,15 @@ pub fn settle_read<D: Disk, E, C>(
 {
     match ended {
         Ok(reply) => enter(core, at, PART_KIND, Some(reply)),
-        Err(RemoteStop::Refused(refusal)) => {
+        Err(Stop::Refused(refusal)) => {
             let reply = Reply::Refused(refusal);
             enter(core, at, COMMAND_KIND, Some(reply))
         }
-        Err(RemoteStop::NoMemory) => {
+        Err(Stop::NoMemory) => {
             let reply = Reply::Refused(Refusal::NoMemory);
             enter(core, at, MEMORY_KIND, Some(reply))
         }
-        Err(RemoteStop::Failed) => {
+        Err(Stop::DiskFailed) => {
             let reply = Reply::Refused(Refusal::RemoteFault);
             enter(core, at, REMOTE_FAULT_KIND, Some(reply))
         }

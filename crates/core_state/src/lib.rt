@@ -11,7 +11,6 @@ mod noting;
 mod parts;
 mod saving;
 mod state;
-mod stop;
 mod upkeep;
 mod wanted;
 
@@ -25,6 +24,5 @@ pub use noting::is_on;
 pub use parts::Parts;
 pub use saving::BOOK_NAME;
 pub use state::{Core, CoreParts};
-pub use stop::{RemoteStop, Stop};
 pub use store_history::{Act, Answer, Family};
 pub use upkeep::{Upkeep, touch_each};

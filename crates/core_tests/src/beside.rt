@@ -1,21 +1,25 @@
 //! Collections beside the acts of other lanes, which fall at every place of them. The clock stands still, or it falls. The bytes are made
 //! by `tests/make-tables`.
 
-use crate::asserts::same_at;
-use crate::books::{BOOK, Contents, Kept, NONE_OF_BOTH};
-use crate::calls::{DONE, FIRST_BASE, IN_NONE, NO_BASE};
+use crate::acts::{Row, Rows, Step};
+use crate::books::NONE_OF_BOTH;
+use crate::cases::{Case, Spot, try_case};
 use crate::collecting::{
-    ALL_THREE, APPEND, Archives, BEFORE, BUSY, CLOSE, Collection, FROM_END, NEW, NO_MEMORY, NUMBER,
-    OF_MANY, OF_TWO, ONE_NEEDED, PUT, Spot, TAKE_OVER, try_collection,
+    ALL_THREE, APPEND, BEFORE, CLOSE as CLOSE_INDEX, FROM_END, NEW, NONE_USED, OF_MANY, OF_TWO,
+    ONE_CAME_BACK, ONE_NEEDED, ONE_OF_TWO, ONE_PENDING, ONE_USED, PASS, PUT, START, TAKE_OVER,
+    TWO_CAME_BACK, TWO_GONE, TWO_USED,
 };
-use crate::damage::{ABC_BLOB, ABC_CHUNK, AT_END, DE_BLOB, DE_CHUNK};
-use crate::fixtures::{FIRST, MANIFEST_PATH, SECOND};
-use crate::steps::{Row, Step};
+use crate::fixtures::{
+    ABC_BLOB, ABC_CHUNK, BOOK, Clock, DE_BLOB, DE_CHUNK, FALLING, Kept, MANIFEST_PATH, STILL,
+};
+use crate::folders::{Archives, Contents};
+use crate::sent::{
+    ABORT, AT_END, BUSY, CLOSE_READER, DONE, FINISH, FIRST_BASE, FORGET_FIRST, IN_NONE, NO_BASE,
+    NO_MEMORY, NOTHING, NUMBER, OPEN_FIRST, OPEN_SECOND, READ_FIRST, READ_SECOND,
+};
 use std::alloc::{AllocError, Global};
 use std::process::Abort;
 use std::test::Fail;
-
-pub(crate) type Rows = &'static [Row];
 
 /// How a collection goes where others' acts fall at one of its places, and what the core has in the end, and one that is opened then.
 #[derive(Clone, Copy)]
@@ -42,67 +46,6 @@ struct Beside {
     after: Rows,
 }
 
-/// The acts of a collection. They are told nothing but at the end: how many chunks are used, pending and removed.
-pub(crate) const START: Row = (5, Step::Start, b"", 3);
-
-pub(crate) const PASS: Row = (5, Step::Pass, b"", 1);
-
-pub(crate) const TWO_USED: Row = (
-    5,
-    Step::Pass,
-    b")\0\0\0\0@B\x0f\0\0\0\0\0\x94\xef\x0d\0\0\0\0\0\x02\0\0\0\0\0\0\0\0\0\0\0\0\0\0\0\0\0\0\0\0\0\0\0",
-    4,
-);
-
-const ONE_OF_TWO: Row = (
-    5,
-    Step::Pass,
-    b")\0\0\0\0@B\x0f\0\0\0\0\0\x94\xef\x0d\0\0\0\0\0\x01\0\0\0\0\0\0\0\0\0\0\0\0\0\0\0\x01\0\0\0\0\0\0\0",
-    4,
-);
-
-const ONE_USED: Row = (
-    5,
-    Step::Pass,
-    b")\0\0\0\0@B\x0f\0\0\0\0\0\x94\xef\x0d\0\0\0\0\0\x01\0\0\0\0\0\0\0\0\0\0\0\0\0\0\0\0\0\0\0\0\0\0\0",
-    4,
-);
-
-const NONE_USED: Row = (
-    5,
-    Step::Pass,
-    b")\0\0\0\0@B\x0f\0\0\0\0\0\x94\xef\x0d\0\0\0\0\0\0\0\0\0\0\0\0\0\0\0\0\0\0\0\0\0\0\0\0\0\0\0\0\0",
-    4,
-);
-
-const ONE_CAME_BACK: Row = (
-    5,
-    Step::Pass,
-    b")\0\0\0\0@B\x0f\0\0\0\0\0\x94\xef\x0d\0\0\0\0\0\x02\0\0\0\0\0\0\0\0\0\0\0\0\0\0\0\x01\0\0\0\0\0\0\0",
-    4,
-);
-
-const TWO_CAME_BACK: Row = (
-    5,
-    Step::Pass,
-    b")\0\0\0\0@B\x0f\0\0\0\0\0\x94\xef\x0d\0\0\0\0\0\x02\0\0\0\0\0\0\0\0\0\0\0\0\0\0\0\x02\0\0\0\0\0\0\0",
-    4,
-);
-
-const TWO_GONE: Row = (
-    5,
-    Step::Pass,
-    b")\0\0\0\0@B\x0f\0\0\0\0\0\x94\xef\x0d\0\0\0\0\0\0\0\0\0\0\0\0\0\0\0\0\0\0\0\0\0\x02\0\0\0\0\0\0\0",
-    4,
-);
-
-const ONE_PENDING: Row = (
-    5,
-    Step::Pass,
-    b")\0\0\0\0@B\x0f\0\0\0\0\0\x94\xef\x0d\0\0\0\0\0\0\0\0\0\0\0\0\0\x01\0\0\0\0\0\0\0\x01\0\0\0\0\0\0\0",
-    4,
-);
-
 /// An end that memory was wanting for.
 const CUT: Row = (5, Step::Pass, NO_MEMORY, 4);
 
@@ -121,7 +64,7 @@ const BACKED_UP: Contents = &[
 ];
 
 /// A writer takes `abc` over from it, and sends nothing.
-const OPEN: Row = (3, Step::OpenWriter(SECOND), FIRST_BASE, 0);
+const OPEN: Row = (3, Step::Send(OPEN_SECOND), FIRST_BASE, 0);
 
 const TAKE: Row = (3, Step::Send(TAKE_OVER), AT_END, 0);
 
@@ -129,18 +72,18 @@ const BEGIN: Row = (3, Step::Send(NEW), NUMBER, 0);
 
 const NAME_ABC: Row = (3, Step::Send(APPEND), DONE, 0);
 
-const CLOSE_ABC: Row = (3, Step::Send(CLOSE), DONE, 0);
+const CLOSE_ABC: Row = (3, Step::Send(CLOSE_INDEX), DONE, 0);
 
 const PUT_SECOND: Row = (3, Step::Send(PUT), DONE, 0);
 
-const FINISH: Row = (3, Step::Finish, DONE, 0);
+const FINISHED: Row = (3, Step::Send(FINISH), DONE, 0);
 
-const FORGET: Row = (6, Step::Forget(FIRST), DONE, 0);
+const FORGOT: Row = (6, Step::Send(FORGET_FIRST), DONE, 0);
 
 /// What is restored in the end.
-pub(crate) const READ_FIRST: Row = (4, Step::OpenReader(FIRST), DONE, 0);
+pub(crate) const OPENED_FIRST: Row = (4, Step::Send(READ_FIRST), DONE, 0);
 
-pub(crate) const READ_SECOND: Row = (4, Step::OpenReader(SECOND), DONE, 0);
+pub(crate) const OPENED_SECOND: Row = (4, Step::Send(READ_SECOND), DONE, 0);
 
 pub(crate) const AT_END_OF_ONE: Row = (
     4,
@@ -165,10 +108,10 @@ pub(crate) const DE_ABC: Row = (
     0,
 );
 
-pub(crate) const CLOSE_READER: Row = (4, Step::CloseReader, DONE, 0);
+pub(crate) const CLOSE: Row = (4, Step::Send(CLOSE_READER), DONE, 0);
 
 /// A writer beside a collection. The snapshot that it takes from stays.
-const REUSE: Rows = &[OPEN, TAKE, BEGIN, NAME_ABC, CLOSE_ABC, PUT_SECOND, FINISH];
+const REUSE: Rows = &[OPEN, TAKE, BEGIN, NAME_ABC, CLOSE_ABC, PUT_SECOND, FINISHED];
 
 const MARKED: Place = Place {
     starts: true,
@@ -188,7 +131,7 @@ const MARKED_TWICE: Place = Place {
 
 /// The snapshot that it took from is forgotten at once. What it took stays, whether that was marked or not.
 const REUSE_ALONE: Rows = &[
-    OPEN, TAKE, BEGIN, NAME_ABC, CLOSE_ABC, PUT_SECOND, FINISH, FORGET,
+    OPEN, TAKE, BEGIN, NAME_ABC, CLOSE_ABC, PUT_SECOND, FINISHED, FORGOT,
 ];
 
 const ONE_MARKED: Place = Place {
@@ -210,7 +153,7 @@ const ONE_TOUCHED: Place = Place {
 /// A writer sends both chunks, which are there and of no snapshot.
 const UNNEEDED: Contents = &[(ABC_CHUNK, ABC_BLOB), (DE_CHUNK, DE_BLOB), (BOOK, BEFORE)];
 
-const OPEN_FIRST: Row = (3, Step::OpenWriter(FIRST), NO_BASE, 0);
+const BEGIN_FIRST: Row = (3, Step::Send(OPEN_FIRST), NO_BASE, 0);
 
 const SEND_DE: Row = (
     3,
@@ -258,7 +201,14 @@ const PUT_FIRST: Row = (
 );
 
 const WRITE: Rows = &[
-    OPEN_FIRST, BEGIN, SEND_DE, SEND_ABC, NAME_BOTH, CLOSE_BOTH, PUT_FIRST, FINISH,
+    BEGIN_FIRST,
+    BEGIN,
+    SEND_DE,
+    SEND_ABC,
+    NAME_BOTH,
+    CLOSE_BOTH,
+    PUT_FIRST,
+    FINISHED,
 ];
 
 /// A chunk that is sent before it is visited stays. One that is gone by then is there again, and is used.
@@ -327,8 +277,8 @@ const UNMARKED: Place = Place {
 /// A snapshot, of `de` a thousand times and `abc`, is forgotten and made again, of `abc` alone. Its new index is no more marked, and what is
 /// left of the old one is passed over.
 const MAKE_AGAIN: Rows = &[
-    FORGET,
-    OPEN_FIRST,
+    FORGOT,
+    BEGIN_FIRST,
     BEGIN,
     SEND_ABC,
     NAME_ABC,
@@ -341,13 +291,13 @@ const MAKE_AGAIN: Rows = &[
         DONE,
         0,
     ),
-    FINISH,
+    FINISHED,
 ];
 
 /// Another lane collects too. While one's collector is open the other is refused.
-const START_OTHER: Row = (6, Step::Start, b"", 3);
+const START_OTHER: Row = (6, Step::Start, NOTHING, 3);
 
-const PASS_OTHER: Row = (6, Step::Pass, b"", 1);
+const PASS_OTHER: Row = (6, Step::Pass, NOTHING, 1);
 
 const NONE_USED_BY_OTHER: Row = (
     6,
@@ -455,11 +405,11 @@ static REUSED: Beside = Beside {
     // where it finishes before the start, its index is marked too
     places: &[MARKED_TWICE, MARKED, MARKED, MARKED, MARKED, MARKED],
     after: &[
-        READ_SECOND,
+        OPENED_SECOND,
         AT_END_OF_ONE,
         ABC,
-        CLOSE_READER,
-        READ_FIRST,
+        CLOSE,
+        OPENED_FIRST,
         AT_END_OF_TWO,
         DE_ABC,
     ],
@@ -473,7 +423,7 @@ static REUSED_ALONE: Beside = Beside {
     acts: REUSE_ALONE,
     early: 6,
     places: &[ONE_MARKED, ONE_TOUCHED, MARKED, MARKED, MARKED, MARKED],
-    after: &[READ_SECOND, AT_END_OF_ONE, ABC],
+    after: &[OPENED_SECOND, AT_END_OF_ONE, ABC],
 };
 
 /// A writer sends what is there already.
@@ -484,7 +434,7 @@ static WRITTEN: Beside = Beside {
     acts: WRITE,
     early: 2,
     places: &[MARKED, TWO_TOUCHED, HALF_VISITED, VISITED, SENT_BEHIND],
-    after: &[READ_FIRST, AT_END_OF_TWO, DE_ABC],
+    after: &[OPENED_FIRST, AT_END_OF_TWO, DE_ABC],
 };
 
 /// The same, but that it finishes after the collection.
@@ -492,15 +442,15 @@ static FINISHED_AFTER: Beside = Beside {
     files: UNNEEDED,
     entries: 0,
     before: &[],
-    acts: &[OPEN_FIRST, BEGIN, SEND_DE, SEND_ABC],
+    acts: &[BEGIN_FIRST, BEGIN, SEND_DE, SEND_ABC],
     early: 2,
     places: &[TWO_TOUCHED, TWO_TOUCHED, HALF_VISITED, VISITED, SENT_BEHIND],
     after: &[
         NAME_BOTH,
         CLOSE_BOTH,
         PUT_FIRST,
-        FINISH,
-        READ_FIRST,
+        FINISHED,
+        OPENED_FIRST,
         AT_END_OF_TWO,
         DE_ABC,
     ],
@@ -511,7 +461,7 @@ static SENT: Beside = Beside {
     files: NONE_OF_BOTH,
     entries: 0,
     before: &[],
-    acts: &[OPEN_FIRST, BEGIN, SEND_ABC],
+    acts: &[BEGIN_FIRST, BEGIN, SEND_ABC],
     early: 2,
     places: &[ONE_SENT, ONE_SENT, ONE_SENT, ONE_SENT_BEHIND],
     after: &[],
@@ -527,7 +477,7 @@ static FORGOTTEN: Beside = Beside {
     ],
     entries: 2,
     before: &[],
-    acts: &[FORGET],
+    acts: &[FORGOT],
     early: 0,
     places: &[UNMARKED, UNMARKED, MARKED, MARKED, MARKED, MARKED],
     after: &[],
@@ -555,7 +505,7 @@ static MADE_AGAIN: Beside = Beside {
         MARKED_TWICE,
         MARKED_TWICE,
     ],
-    after: &[READ_FIRST, AT_END_OF_ONE, ABC],
+    after: &[OPENED_FIRST, AT_END_OF_ONE, ABC],
 };
 
 /// Another lane's collector is open before, and goes on.
@@ -607,7 +557,7 @@ static SHORT_ELSEWHERE: Beside = Beside {
         (7, Step::Short, NO_MEMORY, 2),
         OPEN,
         (3, Step::Short, NO_MEMORY, 2),
-        (3, Step::Abort, DONE, 0),
+        (3, Step::Send(ABORT), DONE, 0),
     ],
     early: 1,
     places: &[
@@ -621,18 +571,11 @@ static ENDED: Beside = Beside {
     files: ONE_NEEDED,
     entries: 1,
     before: &[START],
-    acts: &[(5, Step::End, b"", 6), START_OTHER],
+    acts: &[(5, Step::End, NOTHING, 6), START_OTHER],
     early: 0,
     places: &[LEFT_AT_MARK, LEFT_AT_FIRST, LEFT_AT_SECOND, LEFT_AT_END],
     after: &[],
 };
-
-/// What a clock reads first, and then always.
-type Clock = (&'static [u64], u64);
-
-const STILL: Clock = (&[], 1_000_000);
-
-const FALLING: Clock = (&[1_000_000], 5);
 
 /// Adds the rows from one number on, up to another.
 fn add(list: &mut Vec<Row>, rows: &[Row], from: usize, to: usize) -> Result<(), AllocError> {
@@ -684,20 +627,15 @@ fn try_spot(
     spot: Spot,
 ) -> Result<(), Fail> {
     let steps = woven(alloc, table, place, spot)?;
-    let (clock, then) = clock;
-    let row = Collection {
+    let case = Case {
         files: table.files,
         archives: Archives::Root(table.entries),
         clock,
-        then,
         steps: &steps,
         left: place.left,
         saved: place.saved,
     };
-    let order = try_collection(rt, alloc, spot, &row)?;
-    let is_still = order.iter().all(|entry| entry.moment == 1_000_000);
-    same_at(rt, spot, is_still, true);
-    Ok(())
+    try_case(rt, alloc, spot, &case)
 }
 
 /// All acts come at one place, or so many before the collection begins, or at the place before.

@@ -1,19 +1,19 @@
 //! The book of touches, as a core begins with it and dates what it lacks. The bytes are made by `tests/make-tables`.
 
-use crate::asserts::{same, same_at};
-use crate::calls::{NO_BASE, NO_SNAPSHOT, NONE_THERE};
-use crate::damage::{ABC_BLOB, ABC_CHUNK, DE_BLOB, DE_CHUNK};
-use crate::fixtures::{ABC, CoreOver, DE, FIRST, MemoryCore, opened_over};
-use crate::steps::{Step, try_step};
-use disk_trait::{Disk, DiskError, MemoryDisk};
+use crate::acts::{Row, Step};
+use crate::asserts::same_at;
+use crate::cases::try_act;
+use crate::fixtures::{
+    ABC_BLOB, ABC_CHUNK, BOOK, Clock, DE_BLOB, DE_CHUNK, Kept, TestCore, kept, opened,
+};
+use crate::folders::{Archives, Contents, folder, put};
+use crate::sent::{
+    FORGET_FIRST, LIST, NO_BASE, NO_MEMORY, NO_SNAPSHOT, NONE_THERE, NOTHING, OPEN_FIRST,
+};
+use disk_trait::Disk;
 use std::alloc::Global;
 use std::process::Abort;
 use std::test::Fail;
-
-pub(crate) const BOOK: &str = ".chunks/book";
-
-/// Files by name and content.
-pub(crate) type Contents = &'static [(&'static str, &'static [u8])];
 
 pub(crate) const NONE_OF_BOTH: Contents = &[];
 
@@ -21,12 +21,13 @@ const ONE: Contents = &[(ABC_CHUNK, ABC_BLOB)];
 
 pub(crate) const BOTH: Contents = &[(ABC_CHUNK, ABC_BLOB), (DE_CHUNK, DE_BLOB)];
 
-/// What a core has: its last moment, the last touches of `abc` and of `de`, and how many chunks are undated.
-pub(crate) type Kept = (u64, Option<u64>, Option<u64>, usize);
-
-/// A book as of 10 in which `abc` was touched at 5 and `de` at 4; one that has no chunk; one as of the last moment that there is.
+/// A book as of 10 in which `abc` was touched at 5 and `de` at 4; one without `de`; one that has no chunk; one as of the last moment that
+/// there is.
 pub(crate) const SAVED: &[u8] =
     b"PBSBOOK1\x0a\0\0\0\0\0\0\0\x02\0\0\0\0\0\0\0\x95\x9aE\xd4No\xcfX6\x1e\xd0\x04h\x15V\xfeP\x12\x9f!\x09\xe8\x17\xde\xc0\x98\xc0\x0c\x9e]%x\x04\0\0\0\0\0\0\0\xbax\x16\xbf\x8f\x01\xcf\xeaAA@\xde]\xae\"#\xb0\x03a\xa3\x96\x17z\x9c\xb4\x10\xffa\xf2\0\x15\xad\x05\0\0\0\0\0\0\0\xcaS\xfaZL3\x84\xd1\xe5\xcd\xae\x16\x11\x19l\x19=\xef\x9c\x93\x16\x02\xcd\x06\x87\xad\xe7\x06\x0bS\xd8\x87";
+
+pub(crate) const OF_ABC: &[u8] =
+    b"PBSBOOK1\x0a\0\0\0\0\0\0\0\x01\0\0\0\0\0\0\0\xbax\x16\xbf\x8f\x01\xcf\xeaAA@\xde]\xae\"#\xb0\x03a\xa3\x96\x17z\x9c\xb4\x10\xffa\xf2\0\x15\xad\x05\0\0\0\0\0\0\06\xe8\xda'\x04\x05\xad\xa9\xa3\xfb\x96P\xf9\xaayIe\xd8\x17!\xcd\xce\xc2t%?kn7`D[";
 
 const NO_CHUNKS: &[u8] =
     b"PBSBOOK1\x0a\0\0\0\0\0\0\0\0\0\0\0\0\0\0\0f\x9e\xf87\xe7\xbdJ\xa5*04\x1f\xa6\x92\x08\xe9g1\xa1\xbe\xcd\x93x\xd7\x82p\0_\xda\xa6{\xdd";
@@ -44,13 +45,7 @@ static BEGUN: [(Option<&[u8]>, Contents, Kept); 9] = [
     (Some(SAVED), NONE_OF_BOTH, (10, None, None, 0)),
     // a chunk that it lacks stands as of its moment
     (Some(NO_CHUNKS), BOTH, (10, Some(10), Some(10), 2)),
-    (
-        Some(
-            b"PBSBOOK1\x0a\0\0\0\0\0\0\0\x01\0\0\0\0\0\0\0\xbax\x16\xbf\x8f\x01\xcf\xeaAA@\xde]\xae\"#\xb0\x03a\xa3\x96\x17z\x9c\xb4\x10\xffa\xf2\0\x15\xad\x05\0\0\0\0\0\0\06\xe8\xda'\x04\x05\xad\xa9\xa3\xfb\x96P\xf9\xaayIe\xd8\x17!\xcd\xce\xc2t%?kn7`D[",
-        ),
-        BOTH,
-        (10, Some(5), Some(10), 1),
-    ),
+    (Some(OF_ABC), BOTH, (10, Some(5), Some(10), 1)),
     (
         Some(LATEST),
         ONE,
@@ -101,55 +96,42 @@ static DAMAGED: [(&[u8], u64); 9] = [
     ),
 ];
 
-/// A disk with these files.
-pub(crate) fn disk_of(alloc: Global, files: &[(&str, &[u8])]) -> Result<MemoryDisk, DiskError> {
-    let mut disk = MemoryDisk::new(alloc);
-    for (name, bytes) in files {
-        if name.len() <= 255 {
-            disk.put(alloc, name, bytes)?;
-        }
-    }
-    Ok(disk)
-}
+/// A clock that falls behind its second reading.
+const CLOCK: Clock = (&[70, 80], 0);
 
-/// A core over these chunks and this book, whose clock reads 70 and 80, and then 0.
-fn opened(
-    alloc: Global,
-    book: Option<&[u8]>,
-    chunks: &[(&str, &[u8])],
-) -> Result<MemoryCore, Fail> {
-    let mut disk = disk_of(alloc, chunks)?;
+/// A core over these chunks and this book.
+fn begun(alloc: Global, book: Option<&[u8]>, chunks: Contents) -> Result<TestCore, Fail> {
+    let mut disk = folder(alloc, chunks, Archives::Root(0))?;
     if let Some(bytes) = book {
-        disk.put(alloc, BOOK, bytes)?;
+        put(alloc, &mut disk, BOOK, bytes)?;
     }
-    opened_over(alloc, disk, &[70, 80], 0)
+    opened(alloc, disk, CLOCK)
 }
 
-pub(crate) fn kept<D>(core: &CoreOver<D>) -> Kept {
-    let book = &core.upkeep.book;
-    let undated = core.upkeep.undated.len();
-    (core.last, book.last(&ABC), book.last(&DE), undated)
+/// What it has, and how many calls its opening made.
+fn kept_by(alloc: Global, book: Option<&[u8]>, chunks: Contents) -> Result<(Kept, u64), Fail> {
+    let core = begun(alloc, book, chunks)?;
+    let put = (chunks.len() as u64).saturating_add(book.is_some() as u64);
+    Ok((kept(&core), core.parts.disk.calls().saturating_sub(put)))
+}
+
+#[test]
+fn cores_begin_with_the_saved_book(rt: HostRuntime) -> Result<(), Fail> {
+    for (number, (book, chunks, wanted)) in BEGUN.iter().enumerate() {
+        let (found, _) = kept_by(rt.alloc(), *book, *chunks)?;
+        same_at(&rt, number, found, *wanted);
+    }
+    Ok(())
 }
 
 /// One of its touches and one undated, and nothing of a book.
 const AS_IF_NONE: Kept = (0, Some(0), None, 1);
 
 #[test]
-fn cores_begin_with_the_saved_book(rt: HostRuntime) -> Result<(), Fail> {
-    let alloc = rt.alloc();
-    for (book, chunks, begun) in &BEGUN {
-        same(&rt, kept(&opened(alloc, *book, chunks)?), *begun);
-    }
-    for (book, calls) in &DAMAGED {
-        let core = opened(alloc, Some(book), ONE)?;
-        same_at(&rt, book.len(), kept(&core), AS_IF_NONE);
-        // two files were put before
-        same_at(
-            &rt,
-            book.len(),
-            core.parts.disk.calls(),
-            calls.saturating_add(2),
-        );
+fn damaged_books_count_as_none(rt: HostRuntime) -> Result<(), Fail> {
+    for (number, (book, calls)) in DAMAGED.iter().enumerate() {
+        let found = kept_by(rt.alloc(), Some(book), ONE)?;
+        same_at(&rt, number, found, (AS_IF_NONE, *calls));
     }
     Ok(())
 }
@@ -157,30 +139,33 @@ fn cores_begin_with_the_saved_book(rt: HostRuntime) -> Result<(), Fail> {
 /// A book that is cut anywhere is none.
 #[test]
 fn torn_books_count_as_none(rt: HostRuntime) -> Result<(), Fail> {
-    let alloc = rt.alloc();
     for len in 0..SAVED.len() {
         let torn = &SAVED[..len.min(SAVED.len())];
-        let found = kept(&opened(alloc, Some(torn), ONE)?);
+        let (found, _) = kept_by(rt.alloc(), Some(torn), ONE)?;
         same_at(&rt, len, found, AS_IF_NONE);
     }
     Ok(())
 }
 
-/// What stands in place of the book, a first act on a lane with its reply, the moment of it, and that of a second one.
-static DATED: [(Option<&[u8]>, (u32, Step, &[u8]), u64, u64); 8] = [
-    (None, (5, Step::List, NONE_THERE), 70, 80),
+/// What stands in place of the book, a first act, its moment, and that of a second one.
+type Dated = (Option<&'static [u8]>, Row, u64, u64);
+
+const LISTS: Row = (5, Step::Send(LIST), NONE_THERE, 0);
+
+static DATED: [Dated; 8] = [
+    (None, LISTS, 70, 80),
     // refused, for want of memory, a lane's end
-    (None, (6, Step::Forget(FIRST), NO_SNAPSHOT), 70, 80),
-    (None, (7, Step::Short, b"\x01\0\0\0\x1c"), 70, 80),
-    (None, (3, Step::End, b""), 70, 80),
-    (None, (63, Step::OpenWriter(FIRST), NO_BASE), 70, 80),
+    (None, (6, Step::Send(FORGET_FIRST), NO_SNAPSHOT, 0), 70, 80),
+    (None, (7, Step::Short, NO_MEMORY, 2), 70, 80),
+    (None, (3, Step::End, NOTHING, 6), 70, 80),
+    (None, (63, Step::Send(OPEN_FIRST), NO_BASE, 0), 70, 80),
     // no moment is before the book's
-    (Some(NO_CHUNKS), (5, Step::List, NONE_THERE), 70, 80),
+    (Some(NO_CHUNKS), LISTS, 70, 80),
     (
         Some(
             b"PBSBOOK1K\0\0\0\0\0\0\0\0\0\0\0\0\0\0\0\xbb8\xd3\x1b\x87\x983\x88\xeby\xcaT\xe5\xcd\xa2\x85D\xbfCH$co\x1e\xa6\xd2\x8a\xb6\xc7\xb0\x14]",
         ),
-        (5, Step::List, NONE_THERE),
+        LISTS,
         75,
         80,
     ),
@@ -188,33 +173,38 @@ static DATED: [(Option<&[u8]>, (u32, Step, &[u8]), u64, u64); 8] = [
         Some(
             b"PBSBOOK1\x7fA\xf4\xff:\0\0\0\0\0\0\0\0\0\0\0\xbfk\xe8\xed\x0c\x7f\x8a\xf0.&Cf\xd9\xa0Y\x9cD\xa8\xa5\x17P4K\x81\x0e\x06\\\xcf\x8ee\xf3\xce",
         ),
-        (5, Step::List, NONE_THERE),
+        LISTS,
         253_402_300_799,
         253_402_300_799,
     ),
 ];
 
 /// An act, and another: the first dates what is undated.
-fn try_dated(
-    rt: &impl Abort,
-    core: &mut MemoryCore,
-    alloc: Global,
-    row: &(Option<&[u8]>, (u32, Step, &[u8]), u64, u64),
-) -> Result<(), Fail> {
-    let (_, (lane, step, reply), first, second) = row;
-    try_step(rt, core, alloc, *lane, *step, reply)?;
-    same(rt, kept(core), (*first, Some(*first), Some(*first), 0));
-    try_step(rt, core, alloc, 9, Step::List, NONE_THERE)?;
-    same(rt, kept(core), (*second, Some(*first), Some(*first), 0));
+fn try_dated(rt: &impl Abort, alloc: Global, number: usize, row: &Dated) -> Result<(), Fail> {
+    let (book, act, first, second) = row;
+    let mut core = begun(alloc, *book, BOTH)?;
+    let spot = [number, 0, 0, 0];
+    let _ = try_act(rt, &mut core, alloc, (spot, 0), act)?;
+    same_at(
+        rt,
+        spot,
+        kept(&core),
+        (*first, Some(*first), Some(*first), 0),
+    );
+    let _ = try_act(rt, &mut core, alloc, (spot, 1), &LISTS)?;
+    same_at(
+        rt,
+        spot,
+        kept(&core),
+        (*second, Some(*first), Some(*first), 0),
+    );
     Ok(())
 }
 
 #[test]
 fn first_entries_date(rt: HostRuntime) -> Result<(), Fail> {
-    let alloc = rt.alloc();
-    for row in &DATED {
-        let mut core = opened(alloc, row.0, BOTH)?;
-        try_dated(&rt, &mut core, alloc, row)?;
+    for (number, row) in DATED.iter().enumerate() {
+        try_dated(&rt, rt.alloc(), number, row)?;
     }
     Ok(())
 }

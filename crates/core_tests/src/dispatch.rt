@@ -1,156 +1,128 @@
-use crate::asserts::same;
-use crate::calls::{
-    DONE, FIRST_BASE, IN_NONE, IN_READER, IN_WRITER, NO_BASE, NO_SNAPSHOT, NONE_THERE, ONE_LISTED,
+use crate::acts::{Row, Step};
+use crate::asserts::{same, same_at};
+use crate::cases::{try_act, try_acts, try_tables};
+use crate::fixtures::{STILL, TestCore, opened};
+use crate::folders::Archives;
+use crate::sent::{
+    ABORT, CLOSE_READER, DONE, FINISH, FIRST_BASE, FORGET_FIRST, GROUP_BUSY, IN_NONE, IN_READER,
+    IN_WRITER, LIST, NO_BASE, NO_MEMORY, NO_SNAPSHOT, NONE_THERE, NOT_NEWER, NOTHING, ONE_KEY,
+    ONE_LISTED, OPEN_FIRST, OPEN_SECOND, PRUNE, PUT_MANIFEST, READ_FIRST,
 };
-use crate::collecting::NO_MEMORY;
-use crate::fixtures::{FIRST, MemoryCore, SECOND, at, opened};
-use crate::steps::{Row, Step, try_step};
-use core_state::{Act, enter};
+use core_state::{Act, Place, enter};
+use disk_trait::MemoryDisk;
+use std::alloc::Global;
 use std::process::Abort;
 use std::test::Fail;
-use store_types::{Entry, MEMORY_KIND, SnapshotKey};
+use store_types::MEMORY_KIND;
 
-/// The first snapshot alone, as GROUP tells it.
-const ONE_KEY: &[u8] = b"\x1f\0\0\0\0\x01\0\x1bhost/a/2020-01-15T06:30:03Z";
+/// The first snapshot is a lane's base, or has a reader of it.
+const HELD_BY_2: &[u8] = b"\x05\0\0\0\x06\x02\0\0\0";
 
-/// Two lanes want writers of one group, and a third wants to forget what is a base: each act with the frame of its reply, and
-/// the kind of its entry.
+const HELD_BY_4: &[u8] = b"\x05\0\0\0\x06\x04\0\0\0";
+
+const HELD_BY_5: &[u8] = b"\x05\0\0\0\x06\x05\0\0\0";
+
+/// Two lanes want writers of one group, and a third wants to forget what is a base.
 static STEPS: [Row; 17] = [
-    (3, Step::OpenWriter(FIRST), NO_BASE, 0),
-    (1, Step::OpenWriter(SECOND), b"\x05\0\0\0\x05\x03\0\0\0", 0),
-    (3, Step::Manifest, DONE, 0),
-    (3, Step::Finish, DONE, 0),
-    (
-        1,
-        Step::OpenWriter(FIRST),
-        b"\x09\0\0\0\x07\x6b\xb1\x1e\x5e\0\0\0\0",
-        0,
-    ),
-    (1, Step::OpenWriter(SECOND), FIRST_BASE, 0),
-    (1, Step::End, b"", 6),
-    (5, Step::List, ONE_LISTED, 0),
-    (2, Step::OpenWriter(SECOND), FIRST_BASE, 0),
-    (5, Step::Forget(FIRST), b"\x05\0\0\0\x06\x02\0\0\0", 0),
-    (5, Step::List, ONE_LISTED, 0),
-    (2, Step::Abort, DONE, 0),
-    (5, Step::List, ONE_LISTED, 0),
-    (5, Step::Forget(FIRST), DONE, 0),
-    (5, Step::Forget(FIRST), NO_SNAPSHOT, 0),
-    (2, Step::List, NONE_THERE, 0),
-    (5, Step::Short, b"\x01\0\0\0\x1c", 2),
+    (3, Step::Send(OPEN_FIRST), NO_BASE, 0),
+    (1, Step::Send(OPEN_SECOND), GROUP_BUSY, 0),
+    (3, Step::Send(PUT_MANIFEST), DONE, 0),
+    (3, Step::Send(FINISH), DONE, 0),
+    (1, Step::Send(OPEN_FIRST), NOT_NEWER, 0),
+    (1, Step::Send(OPEN_SECOND), FIRST_BASE, 0),
+    (1, Step::End, NOTHING, 6),
+    (5, Step::Send(LIST), ONE_LISTED, 0),
+    (2, Step::Send(OPEN_SECOND), FIRST_BASE, 0),
+    (5, Step::Send(FORGET_FIRST), HELD_BY_2, 0),
+    (5, Step::Send(LIST), ONE_LISTED, 0),
+    (2, Step::Send(ABORT), DONE, 0),
+    (5, Step::Send(LIST), ONE_LISTED, 0),
+    (5, Step::Send(FORGET_FIRST), DONE, 0),
+    (5, Step::Send(FORGET_FIRST), NO_SNAPSHOT, 0),
+    (2, Step::Send(LIST), NONE_THERE, 0),
+    (5, Step::Short, NO_MEMORY, 2),
 ];
-
-/// Lanes whose sessions are closed, or are not theirs to close, and a collector that memory was wanting for: each act with the frame
-/// of its reply, and how many entries the lane then has in reserve. What ends a session or such a collector fills up nothing, and
-/// takes an entry of the reserve where no spare one is.
-static CLOSINGS: [(u32, Step, &[u8], u8); 16] = [
-    (3, Step::Abort, IN_NONE, 3),
-    (3, Step::OpenWriter(FIRST), NO_BASE, 3),
-    (3, Step::CloseReader, IN_WRITER, 3),
-    (3, Step::Abort, DONE, 2),
-    (1, Step::OpenWriter(FIRST), NO_BASE, 3),
-    (1, Step::Manifest, DONE, 3),
-    (1, Step::Finish, DONE, 3),
-    (2, Step::OpenReader(FIRST), DONE, 3),
-    (2, Step::Abort, IN_READER, 3),
-    (2, Step::CloseReader, DONE, 2),
-    (2, Step::CloseReader, IN_NONE, 3),
-    (5, Step::Start, b"", 3),
-    (5, Step::Short, b"\x01\0\0\0\x1c", 3),
-    (5, Step::Pass, b"\x01\0\0\0\x1c", 2),
-    (5, Step::Pass, IN_NONE, 3),
-    (3, Step::End, b"", 1),
-];
-
-/// Lanes that hold the first snapshot, as base or with a reader, while another prunes its group: each act with the frame of
-/// its reply, and the least lane that then holds it.
-static HOLDERS: [(u32, Step, &[u8], Option<u32>); 18] = [
-    (3, Step::OpenWriter(FIRST), NO_BASE, None),
-    (3, Step::Manifest, DONE, None),
-    (3, Step::Finish, DONE, None),
-    (4, Step::OpenWriter(SECOND), FIRST_BASE, Some(4)),
-    (5, Step::OpenReader(FIRST), DONE, Some(4)),
-    (2, Step::OpenReader(FIRST), DONE, Some(2)),
-    (6, Step::Forget(FIRST), b"\x05\0\0\0\x06\x02\0\0\0", Some(2)),
-    (2, Step::Forget(FIRST), IN_READER, Some(2)),
-    (4, Step::Prune, IN_WRITER, Some(2)),
-    (2, Step::CloseReader, DONE, Some(4)),
-    (
-        1,
-        Step::OpenWriter(SECOND),
-        b"\x05\0\0\0\x05\x04\0\0\0",
-        Some(4),
-    ),
-    (4, Step::Abort, DONE, Some(5)),
-    (6, Step::Prune, ONE_KEY, Some(5)),
-    (6, Step::Forget(FIRST), b"\x05\0\0\0\x06\x05\0\0\0", Some(5)),
-    (
-        1,
-        Step::OpenWriter(FIRST),
-        b"\x09\0\0\0\x07\x6b\xb1\x1e\x5e\0\0\0\0",
-        Some(5),
-    ),
-    (5, Step::End, b"", None),
-    (6, Step::Forget(FIRST), DONE, None),
-    (6, Step::Prune, NONE_THERE, None),
-];
-
-fn assert_entered(rt: &impl Abort, order: &[Entry], steps: &[Row]) {
-    same(rt, order.len(), steps.len());
-    for (entry, (lane, _, _, kind)) in order.iter().zip(steps) {
-        let entered = (entry.lane, entry.moment, entry.kind);
-        same(rt, entered, (*lane, 1000, *kind));
-    }
-}
 
 #[test]
 fn groups_have_one_writer(rt: HostRuntime) -> Result<(), Fail> {
-    let alloc = rt.alloc();
-    let mut core = opened(alloc, &[], 1000)?;
-    let steps: &[Row] = &STEPS;
-    for (lane, step, expected, _) in steps {
-        try_step(&rt, &mut core, alloc, *lane, *step, expected)?;
-    }
-    assert_entered(&rt, &core.parts().order, steps);
-    Ok(())
+    try_tables(&rt, rt.alloc(), &[], Archives::Root(0), &[], &STEPS)
 }
 
-/// The least lane that holds the snapshot.
-fn holder_of(core: &MemoryCore, key: &SnapshotKey) -> Option<u32> {
-    let free = core.parts.locks.free_for_removal(key);
-    free.err().map(|held| held.lane)
-}
+/// Lanes that hold the first snapshot, as base or with a reader, while another prunes its group. Behind each act a FORGET is told the
+/// least lane that then holds it.
+static HOLDERS: [Row; 29] = [
+    (3, Step::Send(OPEN_FIRST), NO_BASE, 0),
+    (3, Step::Send(PUT_MANIFEST), DONE, 0),
+    (6, Step::Send(FORGET_FIRST), NO_SNAPSHOT, 0),
+    (3, Step::Send(FINISH), DONE, 0),
+    (4, Step::Send(OPEN_SECOND), FIRST_BASE, 0),
+    (6, Step::Send(FORGET_FIRST), HELD_BY_4, 0),
+    (5, Step::Send(READ_FIRST), DONE, 0),
+    (6, Step::Send(FORGET_FIRST), HELD_BY_4, 0),
+    (2, Step::Send(READ_FIRST), DONE, 0),
+    (6, Step::Send(FORGET_FIRST), HELD_BY_2, 0),
+    (2, Step::Send(FORGET_FIRST), IN_READER, 0),
+    (6, Step::Send(FORGET_FIRST), HELD_BY_2, 0),
+    (4, Step::Send(PRUNE), IN_WRITER, 0),
+    (6, Step::Send(FORGET_FIRST), HELD_BY_2, 0),
+    (2, Step::Send(CLOSE_READER), DONE, 0),
+    (6, Step::Send(FORGET_FIRST), HELD_BY_4, 0),
+    (1, Step::Send(OPEN_SECOND), b"\x05\0\0\0\x05\x04\0\0\0", 0),
+    (6, Step::Send(FORGET_FIRST), HELD_BY_4, 0),
+    (4, Step::Send(ABORT), DONE, 0),
+    (6, Step::Send(FORGET_FIRST), HELD_BY_5, 0),
+    (6, Step::Send(PRUNE), ONE_KEY, 0),
+    (6, Step::Send(FORGET_FIRST), HELD_BY_5, 0),
+    (1, Step::Send(OPEN_FIRST), NOT_NEWER, 0),
+    (6, Step::Send(FORGET_FIRST), HELD_BY_5, 0),
+    (5, Step::End, NOTHING, 6),
+    (6, Step::Send(FORGET_FIRST), DONE, 0),
+    (6, Step::Send(FORGET_FIRST), NO_SNAPSHOT, 0),
+    (6, Step::Send(PRUNE), NONE_THERE, 0),
+    (6, Step::Send(FORGET_FIRST), NO_SNAPSHOT, 0),
+];
 
 #[test]
 fn snapshots_are_held(rt: HostRuntime) -> Result<(), Fail> {
-    let alloc = rt.alloc();
-    let mut core = opened(alloc, &[], 1000)?;
-    let key = SnapshotKey::parse(alloc, FIRST)??;
-    for (lane, step, expected, holder) in &HOLDERS {
-        try_step(&rt, &mut core, alloc, *lane, *step, expected)?;
-        same(&rt, holder_of(&core, &key), *holder);
-    }
-    Ok(())
+    try_tables(&rt, rt.alloc(), &[], Archives::Root(0), &[], &HOLDERS)
 }
 
-/// How many entries the lane has in reserve.
-fn held(core: &MemoryCore, lane: u32) -> u8 {
-    core.journal.held.get(lane as usize).map_or(0, |held| *held)
-}
+/// Lanes whose sessions are closed, or are not theirs to close, and a collector that memory was wanting for: each act, and how many
+/// entries the lane then has in reserve. What ends a session or such a collector fills up nothing, and takes an entry of the reserve
+/// where no spare one is.
+static CLOSINGS: [(Row, u8); 16] = [
+    ((3, Step::Send(ABORT), IN_NONE, 0), 3),
+    ((3, Step::Send(OPEN_FIRST), NO_BASE, 0), 3),
+    ((3, Step::Send(CLOSE_READER), IN_WRITER, 0), 3),
+    ((3, Step::Send(ABORT), DONE, 0), 2),
+    ((1, Step::Send(OPEN_FIRST), NO_BASE, 0), 3),
+    ((1, Step::Send(PUT_MANIFEST), DONE, 0), 3),
+    ((1, Step::Send(FINISH), DONE, 0), 3),
+    ((2, Step::Send(READ_FIRST), DONE, 0), 3),
+    ((2, Step::Send(ABORT), IN_READER, 0), 3),
+    ((2, Step::Send(CLOSE_READER), DONE, 0), 2),
+    ((2, Step::Send(CLOSE_READER), IN_NONE, 0), 3),
+    ((5, Step::Start, NOTHING, 3), 3),
+    ((5, Step::Short, NO_MEMORY, 2), 3),
+    ((5, Step::Pass, NO_MEMORY, 4), 2),
+    ((5, Step::Pass, IN_NONE, 0), 3),
+    ((3, Step::End, NOTHING, 6), 1),
+];
 
-fn has_room(core: &MemoryCore, lane: u32) -> bool {
-    lane < 64 && core.room(lane, &Act::Short)
+/// How many spare entries there are, how many the lane has in reserve, and whether there is one for it.
+fn reserve(core: &TestCore, lane: u32) -> (usize, u8, bool) {
+    let held = core.journal.held.get(lane as usize);
+    let has_room = lane < 64 && core.room(lane, &Act::Short);
+    (core.journal.spare, *held.unwrap_or(&0), has_room)
 }
 
 #[test]
 fn sessions_are_closed_by_the_reserve(rt: HostRuntime) -> Result<(), Fail> {
     let alloc = rt.alloc();
-    let mut core = opened(alloc, &[], 1000)?;
-    for (lane, step, expected, left) in &CLOSINGS {
-        try_step(&rt, &mut core, alloc, *lane, *step, expected)?;
-        let now = (core.journal.spare, held(&core, *lane));
-        same(&rt, now, (0, *left));
-        same(&rt, has_room(&core, *lane), true);
+    let mut core = opened(alloc, MemoryDisk::new(alloc), STILL)?;
+    for (number, (row, left)) in CLOSINGS.iter().enumerate() {
+        let _ = try_act(&rt, &mut core, alloc, ([0; 4], number), row)?;
+        same_at(&rt, number, reserve(&core, row.0), (0, *left, true));
     }
     core.reserve(2)?;
     same(&rt, core.journal.spare, 2);
@@ -158,47 +130,63 @@ fn sessions_are_closed_by_the_reserve(rt: HostRuntime) -> Result<(), Fail> {
 }
 
 /// A want of memory on lane 3 that takes an entry of the lane's reserve, since none is spare.
-fn use_reserve(rt: &impl Abort, core: &mut MemoryCore) {
+fn use_reserve(rt: &impl Abort, core: &mut TestCore) {
+    let at = Place {
+        lane: 3,
+        moment: 1_000_000,
+        number: 0,
+    };
     assert!(rt; core.journal.room(3));
-    same(rt, enter(core, at(3), MEMORY_KIND, None).last, true);
+    same(rt, enter(core, at, MEMORY_KIND, None).last, true);
 }
 
 /// How many entries and counts of calls the order has memory for.
-fn capacities(core: &MemoryCore) -> (usize, usize) {
-    (
-        core.journal.entries.capacity(),
-        core.journal.calls.capacity(),
-    )
+fn capacities(core: &TestCore) -> (usize, usize) {
+    let journal = &core.journal;
+    (journal.entries.capacity(), journal.calls.capacity())
 }
 
-/// The end of a writer's lane by the last entry of its reserve. It takes no memory, and frees the group.
+/// What ends a lane by the last entries of its reserve, with what came before. It takes no memory, and another lane has what was its.
+fn try_ending(
+    rt: &impl Abort,
+    alloc: Global,
+    first: &Row,
+    used: usize,
+    ending: &[Row],
+    other: &Row,
+) -> Result<(), Fail> {
+    let mut core = opened(alloc, MemoryDisk::new(alloc), STILL)?;
+    let spot = [0; 4];
+    let _ = try_act(rt, &mut core, alloc, (spot, 0), first)?;
+    for _ in 0..used {
+        use_reserve(rt, &mut core);
+    }
+    let before = capacities(&core);
+    let _ = try_acts(rt, &mut core, alloc, spot, ending)?;
+    same(
+        rt,
+        (capacities(&core), core.collector.is_none()),
+        (before, true),
+    );
+    same(rt, core.journal.room(3), false);
+    let _ = try_act(rt, &mut core, alloc, (spot, 1), other)?;
+    Ok(())
+}
+
+/// A writer's lane ends by the last entry of its reserve, and frees the group.
 #[test]
 fn lanes_end_without_memory(rt: HostRuntime) -> Result<(), Fail> {
-    let alloc = rt.alloc();
-    let mut core = opened(alloc, &[], 1000)?;
-    try_step(&rt, &mut core, alloc, 3, Step::OpenWriter(FIRST), NO_BASE)?;
-    use_reserve(&rt, &mut core);
-    use_reserve(&rt, &mut core);
-    let before = capacities(&core);
-    try_step(&rt, &mut core, alloc, 3, Step::End, b"")?;
-    same(&rt, capacities(&core), before);
-    same(&rt, core.journal.room(3), false);
-    try_step(&rt, &mut core, alloc, 4, Step::OpenWriter(FIRST), NO_BASE)
+    let first = (3, Step::Send(OPEN_FIRST), NO_BASE, 0);
+    let ending = [(3, Step::End, NOTHING, 6)];
+    let other = (4, Step::Send(OPEN_FIRST), NO_BASE, 0);
+    try_ending(&rt, rt.alloc(), &first, 2, &ending, &other)
 }
 
-/// Memory is wanting for a collector's lane by an entry of its reserve: the collector's end and the lane's have the other two, and take
-/// no memory.
+/// Memory is wanting for a collector's lane by an entry of its reserve: the collector's end and the lane's have the other two.
 #[test]
 fn collections_end_without_memory(rt: HostRuntime) -> Result<(), Fail> {
-    let alloc = rt.alloc();
-    let mut core = opened(alloc, &[], 1000)?;
-    try_step(&rt, &mut core, alloc, 3, Step::Start, b"")?;
-    use_reserve(&rt, &mut core);
-    let before = capacities(&core);
-    try_step(&rt, &mut core, alloc, 3, Step::Pass, NO_MEMORY)?;
-    same(&rt, core.collector.is_none(), true);
-    try_step(&rt, &mut core, alloc, 3, Step::End, b"")?;
-    same(&rt, capacities(&core), before);
-    same(&rt, core.journal.room(3), false);
-    try_step(&rt, &mut core, alloc, 4, Step::Start, b"")
+    let first = (3, Step::Start, NOTHING, 3);
+    let ending = [(3, Step::Pass, NO_MEMORY, 4), (3, Step::End, NOTHING, 6)];
+    let other = (4, Step::Start, NOTHING, 3);
+    try_ending(&rt, rt.alloc(), &first, 1, &ending, &other)
 }

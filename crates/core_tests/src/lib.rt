@@ -1,6 +1,8 @@
-//! The tests of the core: its state, the commands over its parts, and the dispatch of acts.
+//! The tests of the core: acts on it, one after another and as one list, and what it keeps.
 #![tactic(auto)]
 
+#[cfg(test)]
+mod acts;
 #[cfg(test)]
 mod admin;
 #[cfg(test)]
@@ -10,7 +12,7 @@ mod beside;
 #[cfg(test)]
 mod books;
 #[cfg(test)]
-mod calls;
+mod cases;
 #[cfg(test)]
 mod collecting;
 #[cfg(test)]
@@ -18,15 +20,19 @@ mod damage;
 #[cfg(test)]
 mod dispatch;
 #[cfg(test)]
+mod faults;
+#[cfg(test)]
 mod fixtures;
+#[cfg(test)]
+mod folders;
 #[cfg(test)]
 mod opening;
 #[cfg(test)]
 mod reader;
 #[cfg(test)]
-mod state;
+mod sent;
 #[cfg(test)]
-mod steps;
+mod state;
 #[cfg(test)]
 mod stopped;
 #[cfg(test)]

@@ -1,116 +1,83 @@
-ghost use Rattle.std.specs.Prelude.{◌≡◌};
-ghost use Rattle.store_history.specs.declared.act.Act.TheVariants.{Plain};
-ghost use Rattle.store_history.specs.Acts.{family_of};
-
-use crate::asserts::same;
-use crate::calls::{
-    BAD_NAME, Call, Calls, DONE, IN_NONE, IN_READER, IN_WRITER, NO_BASE, NO_FILE, NO_SNAPSHOT,
-    UNREADABLE, after, frame, try_calls,
+use crate::acts::{Row, Step};
+use crate::cases::try_tables;
+use crate::fixtures::MANIFEST_PATH;
+use crate::folders::Archives;
+use crate::sent::{
+    ABORT, BAD_NAME, CLOSE_READER, DONE, FINISH, IN_NONE, IN_READER, IN_WRITER, NO_BASE, NO_FILE,
+    NO_SNAPSHOT, OPEN_FIRST, OPEN_OTHER, PUT_MANIFEST, READ_FIRST, READ_SECOND, UNREADABLE,
 };
-use crate::fixtures::{FIRST, MANIFEST, MANIFEST_PATH, MemoryCore, OTHER, SECOND, opened};
-use core_reader::reader_act;
-use core_state::{Act, Answer, Family};
-use std::alloc::Global;
-use std::process::Abort;
 use std::test::Fail;
-use store_types::Bytes;
-use wire_commands::Command;
-
-const NAME: &[u8] = b"index.json.blob";
-
-/// The end of the manifest, of 86 bytes.
-const REST: &[u8] = b"\x0f\0\0\0\0V\0\0\0\0\0\0\0s\":[]}";
 
 /// The first snapshot, of its manifest alone.
-static WRITTEN: Calls = &[
-    (3, Call::OpenWriter(FIRST), NO_BASE),
-    (3, Call::Blob(NAME, MANIFEST), DONE),
-    (3, Call::Finish, DONE),
+static WRITTEN: [Row; 3] = [
+    (3, Step::Send(OPEN_FIRST), NO_BASE, 0),
+    (3, Step::Send(PUT_MANIFEST), DONE, 0),
+    (3, Step::Send(FINISH), DONE, 0),
 ];
 
+/// DOWNLOAD of the manifest, of 86 bytes, from its front on, and from an offset.
+const DOWNLOAD: &[u8] = b"\x15\x0findex.json.blob\0\0\0\0\0\0\0\0";
+
 /// A reader of one snapshot, and what it is refused.
-static READ: Calls = &[
-    (5, Call::Download(NAME, 0), IN_NONE),
-    (5, Call::OpenReader(SECOND), NO_SNAPSHOT),
-    (5, Call::OpenReader(b"host/a"), BAD_NAME),
-    (5, Call::OpenReader(FIRST), DONE),
-    (5, Call::OpenReader(FIRST), IN_READER),
+static READ: [Row; 13] = [
+    (5, Step::Send(DOWNLOAD), IN_NONE, 0),
+    (5, Step::Send(READ_SECOND), NO_SNAPSHOT, 0),
+    (5, Step::Send(b"\x14\x06host/a"), BAD_NAME, 0),
+    (5, Step::Send(READ_FIRST), DONE, 0),
+    (5, Step::Send(READ_FIRST), IN_READER, 0),
     (
         5,
-        Call::Download(NAME, 0),
+        Step::Send(DOWNLOAD),
         b"_\0\0\0\0V\0\0\0\0\0\0\0B\xab8\x07\xbe\x83p\xa1\xb2\x94\x08E{\"backup-id\":\"a\",\"backup-time\":1579069803,\"backup-type\":\"host\",\"files\":[]}",
+        0,
     ),
-    (5, Call::Download(NAME, 80), REST),
-    (5, Call::Download(NAME, 86), b"\x09\0\0\0\0V\0\0\0\0\0\0\0"),
     (
         5,
-        Call::Download(NAME, 87),
-        b"\x09\0\0\0\x16V\0\0\0\0\0\0\0",
+        Step::Send(b"\x15\x0findex.json.blobP\0\0\0\0\0\0\0"),
+        b"\x0f\0\0\0\0V\0\0\0\0\0\0\0s\":[]}",
+        0,
     ),
-    (5, Call::Download(b"x.conf.blob", 0), NO_FILE),
-    (5, Call::Download(b"../x", 0), BAD_NAME),
-    (5, Call::Remove(MANIFEST_PATH), DONE),
-    (5, Call::Download(NAME, 0), UNREADABLE),
+    (
+        5,
+        Step::Send(b"\x15\x0findex.json.blobV\0\0\0\0\0\0\0"),
+        b"\x09\0\0\0\0V\0\0\0\0\0\0\0",
+        0,
+    ),
+    (
+        5,
+        Step::Send(b"\x15\x0findex.json.blobW\0\0\0\0\0\0\0"),
+        b"\x09\0\0\0\x16V\0\0\0\0\0\0\0",
+        0,
+    ),
+    (
+        5,
+        Step::Send(b"\x15\x0bx.conf.blob\0\0\0\0\0\0\0\0"),
+        NO_FILE,
+        0,
+    ),
+    (5, Step::Send(b"\x15\x04../x\0\0\0\0\0\0\0\0"), BAD_NAME, 0),
+    (5, Step::Remove(MANIFEST_PATH), DONE, 0),
+    (5, Step::Send(DOWNLOAD), UNREADABLE, 0),
 ];
 
 /// A reader is closed, and no other session is.
-static CLOSED: Calls = &[
-    (5, Call::CloseReader, IN_NONE),
-    (3, Call::OpenWriter(OTHER), NO_BASE),
-    (3, Call::CloseReader, IN_WRITER),
-    (5, Call::OpenReader(FIRST), DONE),
-    (5, Call::Abort, IN_READER),
-    (5, Call::CloseReader, DONE),
-    (5, Call::Download(NAME, 0), IN_NONE),
-    (5, Call::CloseReader, IN_NONE),
+static CLOSED: [Row; 8] = [
+    (5, Step::Send(CLOSE_READER), IN_NONE, 0),
+    (3, Step::Send(OPEN_OTHER), NO_BASE, 0),
+    (3, Step::Send(CLOSE_READER), IN_WRITER, 0),
+    (5, Step::Send(READ_FIRST), DONE, 0),
+    (5, Step::Send(ABORT), IN_READER, 0),
+    (5, Step::Send(CLOSE_READER), DONE, 0),
+    (5, Step::Send(DOWNLOAD), IN_NONE, 0),
+    (5, Step::Send(CLOSE_READER), IN_NONE, 0),
 ];
 
 #[test]
 fn snapshots_are_read(rt: HostRuntime) -> Result<(), Fail> {
-    let alloc = rt.alloc();
-    for calls in [READ, CLOSED] {
-        let mut parts = after(&rt, alloc, WRITTEN)?;
-        try_calls(&rt, &mut parts, alloc, calls)?;
-    }
-    Ok(())
+    try_tables(&rt, rt.alloc(), &[], Archives::Root(0), &WRITTEN, &READ)
 }
 
-/// An act on lane 6, where there is room: the frame of its reply, and the moment, kind and place of its entry.
-fn try_act(
-    rt: &impl Abort,
-    core: &mut MemoryCore,
-    alloc: Global,
-    command: Command,
-    expected: &[u8],
-    entered: (u64, u8, u64),
-) -> Result<(), Fail>
-    requires { family_of (Plain command) ≡ Family.Reads }
-{
-    if !core.journal.room(6) {
-        return Err("no room".into());
-    }
-    let Answer {
-        reply,
-        entry,
-        place,
-        ..
-    } = reader_act(core, alloc, 6, Act::Plain(command));
-    same(rt, frame(alloc, reply)?.as_bytes(), expected);
-    same(rt, (entry.moment, entry.kind, place), entered);
-    same(rt, entry.lane, 6);
-    Ok(())
-}
-
-/// Two acts of a reader on one lane, by a clock that goes back.
 #[test]
-fn readers_acts_are_entered(rt: HostRuntime) -> Result<(), Fail> {
-    let alloc = rt.alloc();
-    let mut core = opened(alloc, &[100, 90], 110)?;
-    try_calls(&rt, &mut core.parts, alloc, WRITTEN)?;
-    let snapshot = Bytes::from_slice(alloc, FIRST)?;
-    let open = Command::OpenReader { snapshot };
-    try_act(&rt, &mut core, alloc, open, DONE, (100, 0, 0))?;
-    let file = Bytes::from_slice(alloc, NAME)?;
-    let download = Command::Download { file, offset: 80 };
-    try_act(&rt, &mut core, alloc, download, REST, (100, 0, 1))
+fn readers_are_closed(rt: HostRuntime) -> Result<(), Fail> {
+    try_tables(&rt, rt.alloc(), &[], Archives::Root(0), &WRITTEN, &CLOSED)
 }

@@ -1,20 +1,59 @@
 //! A collection beside a writer, on a disk that fails at each call, or stops before it: what is found after a crash of each kind. The
 //! bytes are made by `tests/make-tables`.
 
+use crate::acts::{Row, Rows, Step, do_act, frame};
 use crate::asserts::same_at;
 use crate::beside::{
-    ABC, AT_END_OF_ONE, AT_END_OF_TWO, CLOSE_READER, DE_ABC, PASS, READ_FIRST, READ_SECOND, Rows,
-    START, TWO_USED,
+    ABC, AT_END_OF_ONE, AT_END_OF_TWO, CLOSE, DE_ABC, OPENED_FIRST, OPENED_SECOND,
 };
-use crate::calls::{IN_READER, NO_SNAPSHOT, frame};
-use crate::collecting::{Spot, folder, taken_over, try_acts};
-use crate::fixtures::{FIRST, SECOND, opened_over};
-use crate::steps::{Step, do_step};
-use core_state::Answer;
-use disk_trait::{Disk, FailingDisk, MemoryDisk};
+use crate::cases::{Spot, opening_calls, try_acts};
+use crate::collecting::{PASS, START, TWO_USED, taken_over};
+use crate::fixtures::{STILL, TestDisk, opened, opened_over};
+use crate::folders::folder;
+use crate::sent::{IN_READER, LIST, NO_SNAPSHOT, READ_FIRST, READ_SECOND};
+use disk_trait::{FailingDisk, MemoryDisk};
 use std::alloc::Global;
 use std::process::Abort;
 use std::test::Fail;
+
+/// What is there is restored whole: the first snapshot.
+static FIRST_RESTORED: [Row; 9] = [
+    (4, Step::Send(READ_SECOND), NO_SNAPSHOT, 0),
+    OPENED_FIRST,
+    AT_END_OF_TWO,
+    DE_ABC,
+    START,
+    PASS,
+    PASS,
+    PASS,
+    TWO_USED,
+];
+
+/// Both.
+static BOTH_RESTORED: [Row; 14] = [
+    OPENED_FIRST,
+    AT_END_OF_TWO,
+    DE_ABC,
+    (4, Step::Send(READ_SECOND), IN_READER, 0),
+    CLOSE,
+    OPENED_SECOND,
+    AT_END_OF_ONE,
+    ABC,
+    START,
+    PASS,
+    PASS,
+    PASS,
+    PASS,
+    TWO_USED,
+];
+
+/// The second.
+static SECOND_RESTORED: [Row; 4] = [
+    (4, Step::Send(READ_FIRST), NO_SNAPSHOT, 0),
+    OPENED_SECOND,
+    AT_END_OF_ONE,
+    ABC,
+];
 
 /// The snapshots that may be found, as LIST tells them: the first alone; the second too, once it is finished; that one alone, once the
 /// first is forgotten.
@@ -24,48 +63,11 @@ static LISTED: [&[u8]; 3] = [
     b"!\0\0\0\0\x01\0\x1bhost/a/2020-01-15T06:30:04Z\0\x02",
 ];
 
-/// Each is restored whole, and both chunks of the first are used as long as it is there.
-static FIRST_RESTORED: Rows = &[
-    (4, Step::OpenReader(SECOND), NO_SNAPSHOT, 0),
-    READ_FIRST,
-    AT_END_OF_TWO,
-    DE_ABC,
-    START,
-    PASS,
-    PASS,
-    PASS,
-    TWO_USED,
-];
-
-static BOTH_RESTORED: Rows = &[
-    READ_FIRST,
-    AT_END_OF_TWO,
-    DE_ABC,
-    (4, Step::OpenReader(SECOND), IN_READER, 0),
-    CLOSE_READER,
-    READ_SECOND,
-    AT_END_OF_ONE,
-    ABC,
-    START,
-    PASS,
-    PASS,
-    PASS,
-    PASS,
-    TWO_USED,
-];
-
-static SECOND_RESTORED: Rows = &[
-    (4, Step::OpenReader(FIRST), NO_SNAPSHOT, 0),
-    READ_SECOND,
-    AT_END_OF_ONE,
-    ABC,
-];
-
 fn restored(number: usize) -> Rows {
     match number {
-        0 => FIRST_RESTORED,
-        1 => BOTH_RESTORED,
-        _ => SECOND_RESTORED,
+        0 => &FIRST_RESTORED,
+        1 => &BOTH_RESTORED,
+        _ => &SECOND_RESTORED,
     }
 }
 
@@ -78,78 +80,74 @@ fn listed_after(acts: usize) -> usize {
     }
 }
 
-/// What they are done on.
-fn begun(alloc: Global) -> Result<MemoryDisk, Fail> {
-    let row = taken_over();
-    folder(alloc, row.files, row.archives)
+/// What they are done on: a disk that fails at a call, or stops before it.
+fn begun(alloc: Global, stops: bool, call: u64) -> Result<TestDisk, Fail> {
+    let case = taken_over();
+    let disk = folder(alloc, case.files, case.archives)?;
+    if stops {
+        return Ok(FailingDisk::stopping_after(disk, call));
+    }
+    let calls = Vec::from_slice(alloc, &[call])?;
+    Ok(FailingDisk::at_calls(disk, calls))
 }
 
-/// Does them all on a disk that may fail: how many were done before it did, and what stands on it.
-fn done_on(alloc: Global, disk: FailingDisk<MemoryDisk>) -> Result<(usize, MemoryDisk), Fail> {
-    let row = taken_over();
-    let mut core = opened_over(alloc, disk, &[], row.then)?;
-    for (lane, step, _, _) in row.steps {
-        do_step(&mut core, alloc, *lane, *step)?;
+/// Does them all: how many were done before the disk failed, and what stands on it.
+fn done_on(rt: &impl Abort, alloc: Global, disk: TestDisk) -> Result<(usize, MemoryDisk), Fail> {
+    let mut core = opened_over(alloc, disk, STILL)?;
+    let mut done = 0usize;
+    for (lane, step, _, _) in taken_over().steps {
+        let answer = do_act(rt, &mut core, alloc, *lane, *step)?;
+        if answer.entry.kind != 5 {
+            done = done.saturating_add(1);
+        }
     }
-    let parts = core.parts();
-    let failed = parts.order.iter().position(|entry| entry.kind == 5);
-    let done = failed.unwrap_or(parts.order.len());
-    Ok((done, parts.disk.into_inner()))
+    Ok((done, core.parts().disk.into_inner()))
+}
+
+/// Which of the three is told.
+fn listed(told: &[u8]) -> Option<usize> {
+    for (number, listed) in LISTED.iter().enumerate() {
+        if told == *listed {
+            return Some(number);
+        }
+    }
+    None
 }
 
 /// What was there before the act that failed is found, or what is there after it, and is restored.
 fn assert_found(rt: &impl Abort, alloc: Global, spot: Spot, disk: MemoryDisk) -> Result<(), Fail> {
     let [_, _, _, done] = spot;
-    let mut core = opened_over(alloc, disk, &[], taken_over().then)?;
-    let Answer { reply, .. } = do_step(&mut core, alloc, 4, Step::List)?;
-    let told = frame(alloc, reply)?;
-    for (number, listed) in LISTED.iter().enumerate() {
-        if told.as_bytes() == *listed {
-            let fits = number == listed_after(done)
-                || number == listed_after(done.saturating_add(1));
-            same_at(rt, spot, fits, true);
-            let _ = try_acts(rt, &mut core, alloc, spot, restored(number))?;
-            return Ok(());
-        }
-    }
-    Err("other snapshots".into())
-}
-
-/// A crash of each kind comes behind them.
-fn try_disk(
-    rt: &impl Abort,
-    alloc: Global,
-    disk: FailingDisk<MemoryDisk>,
-    spot: Spot,
-) -> Result<(), Fail> {
-    let [kind, call, _, _] = spot;
-    let (done, left) = done_on(alloc, disk)?;
-    for choice in 0..3u8 {
-        let crashed = left.crashed(alloc, choice)?;
-        assert_found(rt, alloc, [kind, call, choice as usize, done], crashed)?;
-    }
+    let mut core = opened(alloc, disk, STILL)?;
+    let answer = do_act(rt, &mut core, alloc, 4, Step::Send(LIST))?;
+    let found = listed(frame(alloc, answer.reply)?.as_bytes()).ok_or("other snapshots")?;
+    let fits = found == listed_after(done) || found == listed_after(done.saturating_add(1));
+    same_at(rt, spot, fits, true);
+    let _ = try_acts(rt, &mut core, alloc, spot, restored(found))?;
     Ok(())
 }
 
-/// The first call behind those of opening, and the number of all.
-fn calls(alloc: Global) -> Result<(u64, u64), Fail> {
-    let disk = begun(alloc)?;
-    let before = disk.calls();
-    let core = opened_over(alloc, disk, &[], taken_over().then)?;
-    let opened = core.parts.disk.calls().saturating_sub(before);
-    let (_, left) = done_on(alloc, FailingDisk::at_calls(begun(alloc)?, Vec::new(alloc)))?;
-    Ok((opened, left.calls().saturating_sub(before)))
+/// A crash of each kind comes behind them. Gives whether all were done.
+fn try_call(rt: &impl Abort, alloc: Global, stops: bool, call: u64) -> Result<bool, Fail> {
+    let (done, left) = done_on(rt, alloc, begun(alloc, stops, call)?)?;
+    for choice in 0..3u8 {
+        let crashed = left.crashed(alloc, choice)?;
+        let spot = [stops as usize, call as usize, choice as usize, done];
+        assert_found(rt, alloc, spot, crashed)?;
+    }
+    Ok(done == taken_over().steps.len())
 }
 
+/// From the first call behind those of opening on, until there is none more.
 #[test]
 fn faults_and_stops_lose_no_snapshot(rt: HostRuntime) -> Result<(), Fail> {
     let alloc = rt.alloc();
-    let (opened, all) = calls(alloc)?;
-    for call in opened..=all {
-        let failing = FailingDisk::at_calls(begun(alloc)?, [call].to_vec(alloc)?);
-        try_disk(&rt, alloc, failing, [0, call as usize, 0, 0])?;
-        let stopping = FailingDisk::stopping_after(begun(alloc)?, call);
-        try_disk(&rt, alloc, stopping, [1, call as usize, 0, 0])?;
+    let opened = opening_calls(alloc, taken_over().files, taken_over().archives)?;
+    for call in opened..opened.saturating_add(1000) {
+        let is_done = try_call(&rt, alloc, false, call)?;
+        try_call(&rt, alloc, true, call)?;
+        if is_done {
+            return Ok(());
+        }
     }
-    Ok(())
+    Err("calls without an end".into())
 }

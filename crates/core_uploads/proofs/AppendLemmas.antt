@@ -12,7 +12,8 @@ use Rattle.store_model.specs.ArchiveSteps as steps
 use Rattle.store_model.specs.WriterCalls as calls
 use Rattle.store_model.specs.WriterSteps.{goes_on}
 use Rattle.store_model.specs.Steps.{outcome}
-use Rattle.backup_session.specs.Answers.{Does, DoesPlainly, LeavesShown}
+use Rattle.backup_session.specs.Answers.{LeavesShown}
+use Rattle.core_uploads.specs.Does.{Does, DoesPlainly}
 use Rattle.backup_session.specs.Session as rows
 use Rattle.backup_session.specs.Session.{settled}
 use Rattle.backup_session.specs.Shown.{Shows}
@@ -20,16 +21,16 @@ use Rattle.backup_session.specs.Steps as row_steps
 use Rattle.core_state.specs.declared.kept.Session.{Session}
 use Rattle.core_state.specs.declared.kept.Session.TheVariants as kept
 use Rattle.core_state.specs.declared.kept.Writing.{Writing}
-use Rattle.core_state.specs.declared.stop.Stop.{Stop}
-use Rattle.core_state.specs.declared.stop.Stop.TheVariants as stops
+use Rattle.store_stops.specs.declared.stop.Stop.{Stop}
+use Rattle.store_stops.specs.declared.stop.Stop.TheVariants as stops
 use Rattle.core_state.specs.Named.{is_named}
 use Rattle.core_state.specs.Replies.{answers_append}
 use Rattle.core_state.specs.Shown.{shown_writer, shown_files}
-use Rattle.core_state.specs.Stops.{StopHasText}
+use Rattle.snapshot_files.specs.Reads.{StopHasText}
 use Rattle.core_state.proofs.NamedLemmas.{writer_named, writer_stays_named}
 use Rattle.core_state.proofs.Sessions.{writer_found}
 use Rattle.core_state.proofs.Texts.{done_has_text}
-use Rattle.core_uploads.specs.Stepped.{StepsQuietly, answer_of}
+use Rattle.core_uploads.specs.Stepped.{StepsQuietly}
 use Rattle.core_uploads.proofs.AppendRefusals.{append_refuses, append_key}
 use Rattle.core_uploads.proofs.AppendedLemmas.{HasGrown, has_grown, is_writer_appended, has_uploads_appended}
 use Rattle.core_uploads.proofs.KeepLemmas.{shows_found}
@@ -62,12 +63,12 @@ module _ (moment number : ℕ) (entries : List AppendEntry) (found : Session) (w
   stops_at new (Ok reply) stop ended p = absurd ended
   stops_at new (Err x) stop ended p = subst (λ y. Quietly new (Err y)) (sym ended) p
 
-  module _ (new : rows.Session) (result : Result (Unit {0}) Stop) (does : Does (λ u. u) settled w.session new (answer_of result) (row_steps.append (w.session).writer number (map steps.named entries))) (none : new.pending ≡ None)
-      (plain : DoesPlainly (λ u. u) settled w.session new (answer_of result) (λ v. calls.append v number (map steps.named entries))) where
+  module _ (new : rows.Session) (result : Result (Unit {0}) Stop) (does : Does (λ u. u) settled w.session new result (row_steps.append (w.session).writer number (map steps.named entries))) (none : new.pending ≡ None)
+      (plain : DoesPlainly (λ u. u) settled w.session new result (λ v. calls.append v number (map steps.named entries))) where
     abbrev left : Session
     left = kept.Writer (record w { session = new })
 
-    key_by : (t : Result (Unit {0}) Stop) → Does (λ u. u) settled w.session new (answer_of t) (row_steps.append (w.session).writer number (map steps.named entries)) → (new.writer).key ≡ ((w.session).writer).key
+    key_by : (t : Result (Unit {0}) Stop) → Does (λ u. u) settled w.session new t (row_steps.append (w.session).writer number (map steps.named entries)) → (new.writer).key ≡ ((w.session).writer).key
     key_by (Ok u) h = ap (λ (x : rows.Session). (x.writer).key) h.left ∙ append_key (w.session).writer number (map steps.named entries) h.after h.stepped
     key_by (Err (stops.Refused r)) h = ap (λ (x : rows.Session). (x.writer).key) h.1
     key_by (Err stops.NoMemory) h = ap (λ (x : rows.Session). (x.writer).key) h
@@ -85,7 +86,7 @@ module _ (moment number : ℕ) (entries : List AppendEntry) (found : Session) (w
         by_stop : (stop : Stop) → result ≡ Err stop → StopHasText stop → Quietly left (Err stop)
         by_stop (stops.Refused r) was text =
             let refuses : (row_steps.append (w.session).writer number (map steps.named entries) ≡ Err r) × (new ≡ w.session) =
-            subst (λ t. Does (λ u. u) settled w.session new (answer_of t) (row_steps.append (w.session).writer number (map steps.named entries))) was does in
+            subst (λ t. Does (λ u. u) settled w.session new t (row_steps.append (w.session).writer number (map steps.named entries))) was does in
             record {
               text = text;
               answers = append_refuses (w.session).writer number (map steps.named entries) r refuses.0;
@@ -96,10 +97,10 @@ module _ (moment number : ℕ) (entries : List AppendEntry) (found : Session) (w
               step = λ s lane sound at.
                   let f = writer_found s lane found w at is in
                   refused s lane moment number entries f.0 r f.1
-                  (subst (λ t. DoesPlainly (λ u. u) settled w.session new (answer_of t) (λ v. calls.append v number (map steps.named entries))) was plain f.0 (shows_found s lane f.0 w sound f.1 f.2));
+                  (subst (λ t. DoesPlainly (λ u. u) settled w.session new t (λ v. calls.append v number (map steps.named entries))) was plain f.0 (shows_found s lane f.0 w sound f.1 f.2));
             }
         by_stop stops.NoMemory was text =
-            let same : new ≡ w.session = subst (λ t. Does (λ u. u) settled w.session new (answer_of t) (row_steps.append (w.session).writer number (map steps.named entries))) was does in
+            let same : new ≡ w.session = subst (λ t. Does (λ u. u) settled w.session new t (row_steps.append (w.session).writer number (map steps.named entries))) was does in
             record { text = tt; answers = tt; plain = tt; named = left_named; writes = refl; same = as_found same; step = tt }
         by_stop stops.DiskFailed was text = absurd (uncalled was)
 
@@ -120,7 +121,7 @@ module _ (moment number : ℕ) (entries : List AppendEntry) (found : Session) (w
       step = λ s lane sound at.
           let f = writer_found s lane found w at is in
           let leaves : LeavesShown settled new (calls.append f.0 number (map steps.named entries)) tt =
-          subst (λ t. DoesPlainly (λ u. u) settled w.session new (answer_of t) (λ v. calls.append v number (map steps.named entries))) was plain f.0 (shows_found s lane f.0 w sound f.1 f.2) in
+          subst (λ t. DoesPlainly (λ u. u) settled w.session new t (λ v. calls.append v number (map steps.named entries))) was plain f.0 (shows_found s lane f.0 w sound f.1 f.2) in
           let grown = has_grown number (map steps.named entries) f.0 leaves.plain leaves.stepped in
           record {
             before = f.0;

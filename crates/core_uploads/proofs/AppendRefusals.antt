@@ -1,24 +1,24 @@
 -- What a session answers to APPEND, and what it keeps.
-use Rattle.std.proofs.Common.{◌≡◌, ℕ, ◌+◌, Bool, true, false, length, Option, Some, None, List, [], ◌∷◌, Result, Ok, Err, IfErr, IsErrAnd, nat_le, refl, sym, ap, subst, ◌∙◌}
+use Rattle.std.proofs.Common.{◌≡◌, ℕ, ◌+◌, Bool, true, false, length, Option, Some, None, List, [], ◌∷◌, Result, Ok, Err, IfErr, nat_le, refl, sym, ap, ◌∙◌}
 use Rattle.std.specs.Prelude.{◌==◌}
 use Rattle.store_types.specs.declared.names.Digest32.{Digest32}
 use Rattle.store_types.specs.declared.refusal.Refusal.{Refusal}
 use Rattle.store_types.specs.declared.refusal.Refusal.TheVariants.{WrongState, NoFile, TooMany, WrongSize, UnknownChunk, BadOffset}
+use Rattle.store_types.specs.declared.refusal.Refusal.TheVariants as refusals
 use Rattle.store_types.specs.Chain.Refusing.{◌>>=◌, unless, or_else}
 use Rattle.store_files.specs.Cells.{entry_limit}
 use Rattle.store_files.specs.Archive.{Layout}
 use Rattle.store_model.specs.Archives.{change_first, fits_layout, piece_named, pieces_named}
 use Rattle.dynamic_index.specs.Writing.{Known}
 use Rattle.backup_session.specs.Session.{Open, Writing, Session, settled}
-use Rattle.backup_session.specs.Answers.{Tells}
+use Rattle.backup_session.specs.Answers.{Does}
 use Rattle.backup_session.specs.Indexes.{layout_of, count_of, end_of}
 use Rattle.backup_session.specs.Steps as rows
 use Rattle.wire_commands.specs.HasText.{FitsRefusal, ReplyHasText}
 use Rattle.wire_commands.specs.declared.reply.Reply.TheVariants.{Refused}
 use Rattle.core_state.specs.Replies.{refuses_append}
-use Rattle.core_state.specs.Stops.{StopHasText}
-use Rattle.core_state.specs.declared.stop.Stop.{Stop}
-use Rattle.core_state.specs.declared.stop.Stop.TheVariants as stops
+use Rattle.snapshot_files.specs.Reads.{StopHasText}
+use Rattle.store_stops.specs.Stops.{answered_of}
 use Rattle.core_state.proofs.Texts.{bad_offset_has_text, no_file_has_text, too_many_has_text, unknown_chunk_has_text, wrong_size_has_text, wrong_state_has_text}
 
 -- ---- the pieces that are named
@@ -110,9 +110,8 @@ refused_text (BadOffset place expected) is fits = bad_offset_has_text place expe
 refused_text (WrongSize place found) is fits = wrong_size_has_text place found fits.0 fits.1
 refused_text _ is fits = cc
 
-pub stop_text : (old new : Session) (number : ℕ) (entries : List (Digest32 × ℕ)) (told : Result (Unit {0}) Refusal) (r : Refusal) (result : Result (Unit {0}) Stop) → told ≡ Err r
-    → Tells (λ u. u) settled old new (rows.append old.writer number entries) told → FitsRefusal r → IsErrAnd result (λ x. x ≡ stops.Refused r) → IfErr result StopHasText
-stop_text old new number entries told r (Ok u) was tells fits is = absurd is
-stop_text old new number entries told r (Err x) was tells fits is =
-    let refuses : (rows.append old.writer number entries ≡ Err r) × (new ≡ old) = subst (Tells (λ u. u) settled old new (rows.append old.writer number entries)) was tells in
-    subst StopHasText (sym is) (refused_text r (append_refuses old.writer number entries r refuses.0) fits)
+pub stop_text : (old new : Session) (number : ℕ) (entries : List (Digest32 × ℕ)) (told : Result (Unit {0}) Refusal)
+    → Does (λ u. u) settled old new told (rows.append old.writer number entries) → IfErr told FitsRefusal → IfErr (answered_of told) StopHasText
+stop_text old new number entries (Ok u) does fits = tt
+stop_text old new number entries (Err refusals.NoMemory) does fits = tt
+stop_text old new number entries (Err r) does fits = refused_text r (append_refuses old.writer number entries r does.0) fits

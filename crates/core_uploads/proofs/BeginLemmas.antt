@@ -1,11 +1,12 @@
 -- NEW_DYNAMIC and NEW_FIXED in a session: the refusals of the session's call, and the writer with one more open archive.
-use Rattle.std.proofs.Common.{◌≡◌, ℕ, ◌<◌, ◌≤◌, ◌^◌, Bool, true, false, List, [], ◌∷◌, None, pos, Result, Ok, Err, IfErr, IsErrOf, IsErrAnd, MatchResult, refl, sym, ap, ap₂, subst, ◌∙◌, arith}
+use Rattle.std.proofs.Common.{◌≡◌, ℕ, ◌<◌, ◌≤◌, ◌^◌, Bool, true, false, List, [], ◌∷◌, None, pos, Result, Ok, Err, IfErr, IsErrOf, IsErrAnd, refl, sym, ap, ap₂, subst, ◌∙◌, arith}
 use Rattle.std.proofs.lemmas.Bool.{or_parts}
 use Rattle.std.specs.Int.{w64}
 use Rattle.std.specs.List.{AllByRecursion}
 use Rattle.std.specs.Prelude.{FitsSigned}
 use Rattle.store_types.specs.declared.refusal.Refusal.{Refusal}
 use Rattle.store_types.specs.declared.refusal.Refusal.TheVariants.{BadName, Exists, TooMany, WrongSize}
+use Rattle.store_types.specs.declared.refusal.Refusal.TheVariants as refusals
 use Rattle.store_types.specs.Chain.Refusing.{◌>>=◌, unless}
 use Rattle.store_types.specs.FileNames.{is_file_name, is_index_name, is_blob_name}
 use Rattle.store_files.specs.Cells.{entry_limit}
@@ -16,7 +17,9 @@ use Rattle.wire_commands.specs.declared.reply.Reply.TheVariants.{Number, Refused
 use Rattle.wire_commands.specs.HasText.{ReplyHasText}
 use Rattle.store_model.specs.Store.{Begun, Store, Outcome, Writer}
 use Rattle.store_model.specs.Steps.{outcome}
-use Rattle.backup_session.specs.Answers.{Does, LeavesShown, Tells, TellsPlainly}
+use Rattle.backup_session.specs.Answers.{LeavesShown}
+use Rattle.backup_session.specs.Answers as backups
+use Rattle.core_uploads.specs.Does.{Does, TellsPlainly}
 use Rattle.backup_session.specs.Session as sessions
 use Rattle.backup_session.specs.Session.{settled}
 use Rattle.backup_session.specs.Shown.{IsOpen, Shows, shown}
@@ -28,10 +31,11 @@ use Rattle.core_state.specs.Shown.{shown_writer, shown_files}
 use Rattle.core_state.specs.Holds.{IsBegun, IsWriter}
 use Rattle.core_state.specs.Named.{is_named}
 use Rattle.core_state.specs.Replies.{refuses_index, refuses_fixed}
-use Rattle.core_state.specs.Stops.{StopHasText}
-use Rattle.core_state.specs.declared.stop.Stop.{Stop}
-use Rattle.core_state.specs.declared.stop.Stop.TheVariants as stops
-use Rattle.core_state.specs.declared.stop.Stop.TheVariants.{DiskFailed}
+use Rattle.snapshot_files.specs.Reads.{StopHasText}
+use Rattle.store_stops.specs.Stops.{answered_of}
+use Rattle.store_stops.specs.declared.stop.Stop.{Stop}
+use Rattle.store_stops.specs.declared.stop.Stop.TheVariants as stops
+use Rattle.store_stops.specs.declared.stop.Stop.TheVariants.{DiskFailed}
 use Rattle.core_state.proofs.NamedLemmas.{writer_named, writer_stays_named}
 use Rattle.core_state.proofs.Sessions.{writer_found}
 use Rattle.core_state.proofs.Texts.{bad_name_has_text, exists_has_text, number_has_text, too_many_has_text, wrong_size_has_text}
@@ -39,7 +43,7 @@ use Rattle.core_uploads.specs.declared.archives.NewIndex.{NewIndex}
 use Rattle.core_uploads.specs.declared.archives.NewIndex.TheVariants.{Dynamic, Fixed}
 use Rattle.core_uploads.specs.NewIndexes.{answers_new, new_command, new_plain, new_rows}
 use Rattle.core_uploads.specs.Names.{IsNoName}
-use Rattle.core_uploads.specs.Stepped.{StepsQuietly, answer_of}
+use Rattle.core_uploads.specs.Stepped.{StepsQuietly}
 use Rattle.core_uploads.proofs.ArchiveLemmas.{bad_name, refused, begins, IsNew, is_new, uuid_length, is_writer_begun, has_uploads_begun}
 
 -- a moment of the order fits an index's field
@@ -126,12 +130,11 @@ index_text kind w name moment r fits is = index_by HasText kind w name moment r 
         (bad_name_has_text, exists_has_text, too_many_has_text 64 (omega arith), too_many_has_text 16 (omega arith), wrong_size_has_text 0 cut (omega arith) fits, too_many_has_text entry_limit (omega arith))
 
 -- so has the stop that it becomes
-pub stop_text : (kind : NewIndex) (old new : sessions.Session) (name : List ℕ) (moment : ℕ) (told : Result ℕ Refusal) (r : Refusal) (result : Result ℕ Stop) → FitsCut kind → told ≡ Err r
-    → Tells (λ n. n) settled old new (new_rows kind old.writer name moment) told → IsErrAnd result (λ x. x ≡ stops.Refused r) → IfErr result StopHasText
-stop_text kind old new name moment told r (Ok n) fits was tells is = absurd is
-stop_text kind old new name moment told r (Err x) fits was tells is =
-    let refuses : (new_rows kind old.writer name moment ≡ Err r) × (new ≡ old) = subst (Tells (λ n. n) settled old new (new_rows kind old.writer name moment)) was tells in
-    subst StopHasText (sym is) (index_text kind old.writer name moment r fits refuses.0)
+pub stop_text : (kind : NewIndex) (old new : sessions.Session) (name : List ℕ) (moment : ℕ) (told : Result ℕ Refusal) → FitsCut kind
+    → backups.Does (λ n. n) settled old new told (new_rows kind old.writer name moment) → IfErr (answered_of told) StopHasText
+stop_text kind old new name moment (Ok n) fits does = tt
+stop_text kind old new name moment (Err refusals.NoMemory) fits does = tt
+stop_text kind old new name moment (Err r) fits does = index_text kind old.writer name moment r fits does.0
 
 -- ---- the session stays named
 
@@ -147,12 +150,13 @@ unfolding rows.new_dynamic rows.new_fixed
 key_of Dynamic w after name moment n is = ap (λ x. x.key) (made_is (rows.want_dynamic name w) (rows.begin_dynamic w name moment) after _ n is)
 key_of (Fixed size cut) w after name moment n is = ap (λ x. x.key) (made_is (rows.want_fixed name size cut w) (rows.begin_fixed w name size cut moment) after _ n is)
 
-key_stays : {E : Type 0} (kind : NewIndex) (old new : sessions.Session) (name : List ℕ) (moment : ℕ) (result : Result (Result ℕ Refusal) E) → Does (λ n. n) settled old new result (new_rows kind old.writer name moment) → (new.writer).key ≡ (old.writer).key
-key_stays kind old new name moment (Ok (Ok n)) h = ap (λ x. (x.writer).key) h.left ∙ key_of kind old.writer h.after name moment n h.stepped
-key_stays kind old new name moment (Ok (Err r)) h = ap (λ x. (x.writer).key) h.1
-key_stays kind old new name moment (Err e) h = ap (λ x. (x.writer).key) h
+key_stays : (kind : NewIndex) (old new : sessions.Session) (name : List ℕ) (moment : ℕ) (result : Result ℕ Stop) → Does (λ n. n) settled old new result (new_rows kind old.writer name moment) → (new.writer).key ≡ (old.writer).key
+key_stays kind old new name moment (Ok n) h = ap (λ x. (x.writer).key) h.left ∙ key_of kind old.writer h.after name moment n h.stepped
+key_stays kind old new name moment (Err (stops.Refused r)) h = ap (λ x. (x.writer).key) h.1
+key_stays kind old new name moment (Err stops.NoMemory) h = ap (λ x. (x.writer).key) h
+key_stays kind old new name moment (Err stops.DiskFailed) h = ap (λ x. (x.writer).key) h
 
-pub named_begun : {E : Type 0} (kind : NewIndex) (found : Session) (w : Writing) (new : sessions.Session) (name : List ℕ) (moment : ℕ) (result : Result (Result ℕ Refusal) E) → is_named found ≡ true → found ≡ kept.Writer w
+pub named_begun : (kind : NewIndex) (found : Session) (w : Writing) (new : sessions.Session) (name : List ℕ) (moment : ℕ) (result : Result ℕ Stop) → is_named found ≡ true → found ≡ kept.Writer w
     → Does (λ n. n) settled w.session new result (new_rows kind (w.session).writer name moment) → new.pending ≡ None → is_named (kept.Writer (record w { session = new })) ≡ true
 named_begun kind found w new name moment result named is does none =
     writer_stays_named (record w { session = new }) (subst IsKey (sym (key_stays kind w.session new name moment result does)) (writer_named w (sym (ap is_named is) ∙ named)).0) none
@@ -204,19 +208,19 @@ module _ (moment : ℕ) (kind : NewIndex) (name : List ℕ) (found : Session) (w
       by_stop stops.DiskFailed bad = absurd bad
 
   module _ (new : sessions.Session) (result : Result ℕ Stop) (called : List ℕ) (called_is : called ≡ name)
-      (does_so : Does (λ n. n) settled w.session new (answer_of result) (new_rows kind (w.session).writer called moment)) (none : new.pending ≡ None)
-      (plain_so : (v : Writer) → Shows (w.session).writer v → MatchResult (answer_of result) (TellsPlainly (λ n. n) settled new (new_plain kind v called moment)) (λ _. Unit {0})) where
-    does : Does (λ n. n) settled w.session new (answer_of result) (new_rows kind (w.session).writer name moment)
-    does = subst (λ x. Does (λ n. n) settled w.session new (answer_of result) (new_rows kind (w.session).writer x moment)) called_is does_so
+      (does_so : Does (λ n. n) settled w.session new result (new_rows kind (w.session).writer called moment)) (none : new.pending ≡ None)
+      (plain_so : (v : Writer) → Shows (w.session).writer v → TellsPlainly (λ n. n) settled new (new_plain kind v called moment) result) where
+    does : Does (λ n. n) settled w.session new result (new_rows kind (w.session).writer name moment)
+    does = subst (λ x. Does (λ n. n) settled w.session new result (new_rows kind (w.session).writer x moment)) called_is does_so
 
-    plain : (v : Writer) → Shows (w.session).writer v → MatchResult (answer_of result) (TellsPlainly (λ n. n) settled new (new_plain kind v name moment)) (λ _. Unit {0})
-    plain v shows = subst (λ x. MatchResult (answer_of result) (TellsPlainly (λ n. n) settled new (new_plain kind v x moment)) (λ _. Unit {0})) called_is (plain_so v shows)
+    plain : (v : Writer) → Shows (w.session).writer v → TellsPlainly (λ n. n) settled new (new_plain kind v name moment) result
+    plain v shows = subst (λ x. TellsPlainly (λ n. n) settled new (new_plain kind v x moment) result) called_is (plain_so v shows)
 
     abbrev left : Session
     left = kept.Writer (record w { session = new })
 
     left_named : is_named left ≡ true
-    left_named = named_begun kind found w new name moment (answer_of result) named is does none
+    left_named = named_begun kind found w new name moment result named is does none
 
     pub begin_stopped : (stop : Stop) (ended : Result Reply Stop) → IsErrAnd ended (λ x. x ≡ stop) → result ≡ Err stop → StopHasText stop → (IsErrOf result DiskFailed → ⊥) → Quietly left ended
     begin_stopped stop ended stopped was text uncalled = stops_at left ended stop stopped (by_stop stop was text)
@@ -224,7 +228,7 @@ module _ (moment : ℕ) (kind : NewIndex) (name : List ℕ) (found : Session) (w
         by_stop : (stop : Stop) → result ≡ Err stop → StopHasText stop → Quietly left (Err stop)
         by_stop (stops.Refused r) was text =
             let refuses : (new_rows kind (w.session).writer name moment ≡ Err r) × (new ≡ w.session) =
-            subst (λ x. Does (λ n. n) settled w.session new (answer_of x) (new_rows kind (w.session).writer name moment)) was does in
+            subst (λ x. Does (λ n. n) settled w.session new x (new_rows kind (w.session).writer name moment)) was does in
             record {
               text = text;
               answers = answers_refused kind r (index_refusal kind (w.session).writer name moment r refuses.0);
@@ -235,11 +239,11 @@ module _ (moment : ℕ) (kind : NewIndex) (name : List ℕ) (found : Session) (w
               step = λ s lane sound at.
                   let f = writer_found s lane found w at is in
                   refused s lane moment kind name f.0 r f.1
-                  (subst (λ x. MatchResult (answer_of x) (TellsPlainly (λ n. n) settled new (new_plain kind f.0 name moment)) (λ _. Unit {0})) was
+                  (subst (λ x. TellsPlainly (λ n. n) settled new (new_plain kind f.0 name moment) x) was
                   (plain f.0 (shows_writer s w f.0 f.2 (sound.writers lane f.0 f.1))));
             }
         by_stop stops.NoMemory was text =
-            let same : new ≡ w.session = subst (λ x. Does (λ n. n) settled w.session new (answer_of x) (new_rows kind (w.session).writer name moment)) was does in
+            let same : new ≡ w.session = subst (λ x. Does (λ n. n) settled w.session new x (new_rows kind (w.session).writer name moment)) was does in
             record { text = tt; answers = tt; plain = tt; named = left_named; writes = refl; same = ap (λ x. let y : Writing = record w { session = x } in kept.Writer y) same ∙ sym is; step = tt }
         by_stop stops.DiskFailed was text = absurd (uncalled was)
 
@@ -255,7 +259,7 @@ module _ (moment : ℕ) (kind : NewIndex) (name : List ℕ) (found : Session) (w
           let f = writer_found s lane found w at is in
           let is_writer = sound.writers lane f.0 f.1 in
           let t : LeavesShown settled new (new_plain kind f.0 name moment) n =
-          subst (λ x. MatchResult (answer_of x) (TellsPlainly (λ k. k) settled new (new_plain kind f.0 name moment)) (λ _. Unit {0})) was (plain f.0 (shows_writer s w f.0 f.2 is_writer)) in
+          subst (λ x. TellsPlainly (λ k. k) settled new (new_plain kind f.0 name moment) x) was (plain f.0 (shows_writer s w f.0 f.2 is_writer)) in
           let begun : IsNew kind name moment f.0 t.plain = is_new kind name moment n f.0 t.plain t.stepped in
           let key : (t.plain).key ≡ (f.0).key = ap (λ x. x.key) begun.same in
           record {

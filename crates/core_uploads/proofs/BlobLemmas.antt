@@ -22,7 +22,8 @@ use Rattle.store_model.specs.Stands.{FitsContent}
 use Rattle.store_model.specs.WriterCalls as calls
 use Rattle.store_model.specs.WriterSteps.{checked_blob}
 use Rattle.chunk_store.proofs.Blobs.{data_are_bytes}
-use Rattle.backup_session.specs.Answers.{Does, DoesPlainly, Leaves, LeavesShown, takes_blob}
+use Rattle.backup_session.specs.Answers.{Leaves, LeavesShown, takes_blob}
+use Rattle.core_uploads.specs.Does.{Does, DoesPlainly}
 use Rattle.backup_session.specs.Session as rows_of
 use Rattle.backup_session.specs.Session.{Writing, held}
 use Rattle.backup_session.specs.Shown.{Shows}
@@ -31,8 +32,8 @@ use Rattle.core_state.specs.declared.kept.StoredFile.{StoredFile}
 use Rattle.core_state.specs.declared.kept.Session.TheVariants as sessions
 use Rattle.core_state.specs.declared.kept.Writing.{Writing as Kept}
 use Rattle.core_state.specs.declared.kept.Session.{Session}
-use Rattle.core_state.specs.declared.stop.Stop.{Stop}
-use Rattle.core_state.specs.declared.stop.Stop.TheVariants as stops
+use Rattle.store_stops.specs.declared.stop.Stop.{Stop}
+use Rattle.store_stops.specs.declared.stop.Stop.TheVariants as stops
 use Rattle.core_state.specs.Changes.{blob_put, file_put}
 use Rattle.core_state.specs.Replies.{answers_blob, refuses_blob}
 use Rattle.core_state.proofs.Sessions.{writer_found}
@@ -41,7 +42,6 @@ use Rattle.core_state.specs.Holds.{IsWriter, IsSound}
 use Rattle.core_state.proofs.Texts.{bad_name_has_text, exists_has_text, too_many_has_text}
 use Rattle.core_uploads.specs.Names.{IsNoName}
 use Rattle.core_uploads.specs.Pending.{MakesPending, MayAdd}
-use Rattle.core_uploads.specs.Stepped.{answer_of}
 use Rattle.core_uploads.specs.declared.files.NewFile.{NewFile}
 use Rattle.core_uploads.proofs.BlobStep.{IsTaken, HasRoom, bad_name, has_room, refused, taken as taken_as, unchecked, done}
 use Rattle.core_uploads.proofs.KeepLemmas.{held_same, shows_found}
@@ -202,8 +202,8 @@ module _ (name : List ℕ) (checked : Result (List ℕ) Refusal) (found : Sessio
       })
 
       module _ (new : rows_of.Session) (taken : Result (Unit {0}) Stop) (text : List ℕ) (was : checked ≡ Ok text) (checked_is : IsChecked checked) (are : AreBytes text) (asked : Ok tt ≡ rows.want_blob called (w.session).writer)
-          (does : Does (λ u. u) (held (w.session).writer) w.session new (answer_of taken) (rows.blob (w.session).writer called text))
-          (plain : (contents : List ℕ) → text ≡ blobs.blob contents → DoesPlainly (λ u. u) (held (w.session).writer) w.session new (answer_of taken) (λ v. calls.put_data v called contents)) where
+          (does : Does (λ u. u) (held (w.session).writer) w.session new taken (rows.blob (w.session).writer called text))
+          (plain : (contents : List ℕ) → text ≡ blobs.blob contents → DoesPlainly (λ u. u) (held (w.session).writer) w.session new taken (λ v. calls.put_data v called contents)) where
         abbrev left : Session
         left = sessions.Writer (record w { session = new })
 
@@ -213,17 +213,17 @@ module _ (name : List ℕ) (checked : Result (List ℕ) Refusal) (found : Sessio
             by_stop : (stop : Stop) → taken ≡ Err stop → Makes left (Err stop)
             by_stop (stops.Refused r) at =
                 let refuses : (rows.blob (w.session).writer called text ≡ Err r) × (new ≡ w.session) =
-                subst (λ t. Does (λ u. u) (held (w.session).writer) w.session new (answer_of t) (rows.blob (w.session).writer called text)) at does in
+                subst (λ t. Does (λ u. u) (held (w.session).writer) w.session new t (rows.blob (w.session).writer called text)) at does in
                 absurd (not_refused called text (w.session).writer tt r (sym asked) refuses.0)
             by_stop stops.NoMemory at =
-                let same : new ≡ w.session = subst (λ t. Does (λ u. u) (held (w.session).writer) w.session new (answer_of t) (rows.blob (w.session).writer called text)) at does in
+                let same : new ≡ w.session = subst (λ t. Does (λ u. u) (held (w.session).writer) w.session new t (rows.blob (w.session).writer called text)) at does in
                 record { text = tt; answers = tt; same = ap (λ x. let y : Kept = record w { session = x } in sessions.Writer y) same ∙ sym is; change = tt; pending = tt }
             by_stop stops.DiskFailed at = absurd (uncalled at)
 
         pub blob_done : (u : Unit {0}) (file : StoredFile) → taken ≡ Ok u → file.name ≡ called → file.path ≡ file_path ((w.session).writer).key called → Makes left (Ok (record { file = file; text = text }))
         blob_done u file at file_is path =
             let leaves : Leaves (held (w.session).writer) new (rows.blob (w.session).writer called text) tt =
-            subst (λ t. Does (λ u. u) (held (w.session).writer) w.session new (answer_of t) (rows.blob (w.session).writer called text)) at does in
+            subst (λ t. Does (λ u. u) (held (w.session).writer) w.session new t (rows.blob (w.session).writer called text)) at does in
             let (p, spelled) = blob_of text (subst IsChecked was checked_is) are in
             record {
               text = tt;
@@ -240,7 +240,7 @@ module _ (name : List ℕ) (checked : Result (List ℕ) Refusal) (found : Sessio
                 adds = λ s lane sound here.
                     let f = writer_found s lane found w here is in
                     let shown : LeavesShown (held (w.session).writer) new (calls.put_data f.0 called p) tt =
-                    subst (λ t. DoesPlainly (λ u. u) (held (w.session).writer) w.session new (answer_of t) (λ v. calls.put_data v called p)) at (plain p spelled.text_is) f.0 (shows_found s lane f.0 w sound f.1 f.2) in
+                    subst (λ t. DoesPlainly (λ u. u) (held (w.session).writer) w.session new t (λ v. calls.put_data v called p)) at (plain p spelled.text_is) f.0 (shows_found s lane f.0 w sound f.1 f.2) in
                     let after = taken_as called p f.0 shown.plain shown.stepped in
                     record {
                       before = f.0;

@@ -11,6 +11,7 @@ use Rattle.store_types.specs.declared.refusal.CloseFault.{CloseFault}
 use Rattle.store_types.specs.declared.refusal.CloseFault.TheVariants.{Count, Size, Csum, Rest}
 use Rattle.store_types.specs.declared.refusal.Refusal.{Refusal}
 use Rattle.store_types.specs.declared.refusal.Refusal.TheVariants.{WrongState, NoFile, BadClose}
+use Rattle.store_types.specs.declared.refusal.Refusal.TheVariants as refusals
 use Rattle.store_types.specs.Chain.Refusing.{◌>>=◌, unless, or_else}
 use Rattle.store_files.specs.Archive.{Layout, dynamic, fixed, Archive, archive, File, archive_text, file_text, content_of, csum_by}
 use Rattle.wire_commands.specs.declared.command.Command.TheVariants.{CloseIndex}
@@ -25,7 +26,9 @@ use Rattle.store_files.specs.Folder.{file_path}
 use Rattle.store_model.specs.WriterCalls as calls
 use Rattle.store_model.specs.WriterSteps.{goes_on}
 use Rattle.wire_commands.specs.HasText.{FitsRefusal, ReplyHasText}
-use Rattle.backup_session.specs.Answers.{Does, DoesPlainly, Leaves, LeavesShown, Tells}
+use Rattle.backup_session.specs.Answers.{Leaves, LeavesShown}
+use Rattle.backup_session.specs.Answers as backups
+use Rattle.core_uploads.specs.Does.{Does, DoesPlainly}
 use Rattle.backup_session.specs.Indexes.{layout_of, count_of, end_of, csum_of, text_of as text_of_index}
 use Rattle.backup_session.specs.Session as sessions
 use Rattle.backup_session.specs.Session.{held}
@@ -35,19 +38,19 @@ use Rattle.core_state.specs.declared.kept.Session.{Session}
 use Rattle.core_state.specs.declared.kept.Session.TheVariants as states
 use Rattle.core_state.specs.declared.kept.StoredFile.{StoredFile}
 use Rattle.core_state.specs.declared.kept.Writing.{Writing}
-use Rattle.core_state.specs.declared.stop.Stop.{Stop}
-use Rattle.core_state.specs.declared.stop.Stop.TheVariants as stops
+use Rattle.store_stops.specs.Stops.{answered_of}
+use Rattle.store_stops.specs.declared.stop.Stop.{Stop}
+use Rattle.store_stops.specs.declared.stop.Stop.TheVariants as stops
 use Rattle.core_state.specs.Changes.{file_put, index_put}
 use Rattle.core_state.specs.Holds.{IsBegun, has_named, names_differ, IsWriter}
 use Rattle.core_state.specs.Named.{is_named}
 use Rattle.core_state.specs.Replies.{answers_closing, refuses_closing}
-use Rattle.core_state.specs.Stops.{StopHasText}
+use Rattle.snapshot_files.specs.Reads.{StopHasText}
 use Rattle.core_state.proofs.Sessions.{writer_found}
 use Rattle.core_state.proofs.Texts.{bad_close_has_text, no_file_has_text, wrong_state_has_text}
 use Rattle.core_state.specs.Shown.{shown_writer}
 use Rattle.core_uploads.proofs.ArchiveFits.{fits_closed}
 use Rattle.core_uploads.specs.Pending.{MakesPending, MayAdd, grown}
-use Rattle.core_uploads.specs.Stepped.{answer_of}
 use Rattle.core_uploads.specs.declared.files.NewFile.{NewFile}
 use Rattle.core_uploads.proofs.GrownLemmas.{has_named-insert, unlike, none_named}
 use Rattle.core_uploads.proofs.KeepLemmas.{held_same, shows_found}
@@ -319,12 +322,11 @@ refused_text (BadClose fault) is fits = bad_close_has_text fault fits
 refused_text _ is fits = cc
 
 -- a stop by the call has a spelling
-pub stop_text : (number count size : ℕ) (csum : Digest32) {A : Type 0} (show : A → List ℕ) (old new : sessions.Session) (told : Result A Refusal) (r : Refusal) (result : Result A Stop) → told ≡ Err r
-    → Tells show (held old.writer) old new (rows.close_index old.writer number count size csum) told → FitsRefusal r → IsErrAnd result (λ x. x ≡ stops.Refused r) → IfErr result StopHasText
-stop_text number count size csum show old new told r (Ok x) was tells fits is = absurd is
-stop_text number count size csum show old new told r (Err x) was tells fits is =
-    let refuses : (rows.close_index old.writer number count size csum ≡ Err r) × (new ≡ old) = subst (Tells show (held old.writer) old new (rows.close_index old.writer number count size csum)) was tells in
-    subst StopHasText (sym is) (refused_text r (closing_refuses number count size csum old.writer r refuses.0) fits)
+pub stop_text : (number count size : ℕ) (csum : Digest32) {A : Type 0} (show : A → List ℕ) (old new : sessions.Session) (told : Result A Refusal)
+    → backups.Does show (held old.writer) old new told (rows.close_index old.writer number count size csum) → IfErr told FitsRefusal → IfErr (answered_of told) StopHasText
+stop_text number count size csum show old new (Ok x) does fits = tt
+stop_text number count size csum show old new (Err refusals.NoMemory) does fits = tt
+stop_text number count size csum show old new (Err r) does fits = refused_text r (closing_refuses number count size csum old.writer r does.0) fits
 
 module _ (moment number count size : ℕ) (csum : Digest32) (found : Session) (w : Writing) (named : is_named found ≡ true) (is : found ≡ states.Writer w) where
   abbrev Makes : Session → Result NewFile Stop → Type 0
@@ -349,8 +351,8 @@ module _ (moment number count size : ℕ) (csum : Digest32) (found : Session) (w
   }))
 
   module _ {A : Type 0} (show : A → List ℕ) (new : sessions.Session) (closed : Result A Stop)
-      (does : Does show (held (w.session).writer) w.session new (answer_of closed) (rows.close_index (w.session).writer number count size csum))
-      (plain : DoesPlainly show (held (w.session).writer) w.session new (answer_of closed) (λ v. calls.close_index v number count size csum)) where
+      (does : Does show (held (w.session).writer) w.session new closed (rows.close_index (w.session).writer number count size csum))
+      (plain : DoesPlainly show (held (w.session).writer) w.session new closed (λ v. calls.close_index v number count size csum)) where
     abbrev left : Session
     left = states.Writer (record w { session = new })
 
@@ -363,7 +365,7 @@ module _ (moment number count size : ℕ) (csum : Digest32) (found : Session) (w
         by_stop : (stop : Stop) → closed ≡ Err stop → StopHasText stop → Makes left (Err stop)
         by_stop (stops.Refused r) was text =
             let refuses : (rows.close_index (w.session).writer number count size csum ≡ Err r) × (new ≡ w.session) =
-            subst (λ t. Does show (held (w.session).writer) w.session new (answer_of t) (rows.close_index (w.session).writer number count size csum)) was does in
+            subst (λ t. Does show (held (w.session).writer) w.session new t (rows.close_index (w.session).writer number count size csum)) was does in
             record {
               text = text;
               answers = closing_refuses number count size csum (w.session).writer r refuses.0;
@@ -372,10 +374,10 @@ module _ (moment number count size : ℕ) (csum : Digest32) (found : Session) (w
               pending = λ s lane sound at.
                   let f = writer_found s lane found w at is in
                   refused s lane moment number count size csum f.0 r f.1
-                  (subst (λ t. DoesPlainly show (held (w.session).writer) w.session new (answer_of t) (λ v. calls.close_index v number count size csum)) was plain f.0 (shows_found s lane f.0 w sound f.1 f.2));
+                  (subst (λ t. DoesPlainly show (held (w.session).writer) w.session new t (λ v. calls.close_index v number count size csum)) was plain f.0 (shows_found s lane f.0 w sound f.1 f.2));
             }
         by_stop stops.NoMemory was text =
-            let same : new ≡ w.session = subst (λ t. Does show (held (w.session).writer) w.session new (answer_of t) (rows.close_index (w.session).writer number count size csum)) was does in
+            let same : new ≡ w.session = subst (λ t. Does show (held (w.session).writer) w.session new t (rows.close_index (w.session).writer number count size csum)) was does in
             record { text = tt; answers = tt; same = as_found same; change = tt; pending = tt }
         by_stop stops.DiskFailed was text = absurd (uncalled was)
 
@@ -405,7 +407,7 @@ module _ (moment number count size : ℕ) (csum : Digest32) (found : Session) (w
         → file.path ≡ file_path ((w.session).writer).key file.name → Makes left (Ok (record { file = file; text = text }))
     index_done a file text was text_is name path =
         let leaves : Leaves (held (w.session).writer) new (rows.close_index (w.session).writer number count size csum) (show a) =
-        subst (λ t. Does show (held (w.session).writer) w.session new (answer_of t) (rows.close_index (w.session).writer number count size csum)) was does in
+        subst (λ t. Does show (held (w.session).writer) w.session new t (rows.close_index (w.session).writer number count size csum)) was does in
         record {
           text = tt;
           answers = tt;
@@ -422,7 +424,7 @@ module _ (moment number count size : ℕ) (csum : Digest32) (found : Session) (w
             adds = λ s lane sound at.
                 let f = writer_found s lane found w at is in
                 let shown : LeavesShown (held (w.session).writer) new (calls.close_index f.0 number count size csum) (show a) =
-                subst (λ t. DoesPlainly show (held (w.session).writer) w.session new (answer_of t) (λ v. calls.close_index v number count size csum)) was plain f.0 (shows_found s lane f.0 w sound f.1 f.2) in
+                subst (λ t. DoesPlainly show (held (w.session).writer) w.session new t (λ v. calls.close_index v number count size csum)) was plain f.0 (shows_found s lane f.0 w sound f.1 f.2) in
                 let closed_is = is_closed number count size csum f.0 shown.plain (show a) shown.stepped in
                 record {
                   before = f.0;

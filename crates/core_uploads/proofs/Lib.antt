@@ -1,3 +1,4 @@
+pub mod Answered
 pub mod UploadLemmas
 pub mod BlobLemmas
 pub mod BlobStep

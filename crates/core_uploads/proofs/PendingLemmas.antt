@@ -24,8 +24,8 @@ use Rattle.core_state.specs.declared.kept.Session.TheVariants.{Idle, Writer}
 use Rattle.core_state.specs.declared.kept.StoredFile.{StoredFile}
 use Rattle.core_state.specs.declared.kept.Writing.{Writing}
 use Rattle.core_state.specs.declared.parts.Parts.{Parts}
-use Rattle.core_state.specs.declared.stop.Stop.{Stop}
-use Rattle.core_state.specs.declared.stop.Stop.TheVariants.{Refused, NoMemory, DiskFailed}
+use Rattle.store_stops.specs.declared.stop.Stop.{Stop}
+use Rattle.store_stops.specs.declared.stop.Stop.TheVariants.{Refused, NoMemory, DiskFailed}
 use Rattle.core_state.specs.Catalogue.{listed_by}
 use Rattle.core_state.specs.Changes.{Change, IsFirm, LeavesChange, after, by_writer, file_put, stays, installs}
 use Rattle.core_state.specs.Closing.{closes, is_writer}
@@ -35,7 +35,7 @@ use Rattle.core_state.specs.Holds.{Holds, IsOnDisk, Shows}
 use Rattle.core_state.specs.Named.{is_named}
 use Rattle.core_state.specs.Replies.{may_answer}
 use Rattle.core_state.specs.Shown.{shown_writer}
-use Rattle.core_state.specs.Stops.{stop_of}
+use Rattle.store_stops.specs.Stops.{stop_of}
 use Rattle.core_state.specs.Unchanged.{SameKept}
 use Rattle.core_state.specs.Wanted.{session_at}
 use Rattle.core_state.proofs.Commanding.{act_does, failed_does, failed_leaves, refused_does, refused_leaves, short_does, short_leaves, writes_does, writes_leaves, writes_set}

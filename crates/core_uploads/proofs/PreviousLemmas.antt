@@ -28,10 +28,9 @@ use Rattle.store_model.specs.Steps.{outcome}
 use Rattle.store_model.specs.WriterSteps.{previous, base_of, goes_on, with_pool, part_of}
 use Rattle.dynamic_index.specs.Writing.{Known}
 use Rattle.dynamic_index.specs.Writing as indexes
+use Rattle.snapshot_files.specs.Reads.{StopHasText}
 use Rattle.snapshot_files.specs.Parts.{part_at, part_from, IsPart, RefusesPart}
-use Rattle.snapshot_files.specs.Reads as reads
-use Rattle.snapshot_files.specs.declared.read_error.ReadError.{ReadError}
-use Rattle.snapshot_files.specs.declared.read_error.ReadError.TheVariants as errors
+use Rattle.store_stops.specs.declared.stop.Stop.{Stop}
 use Rattle.snapshot_files.specs.Indexes.{index_at, is_fixed_layout, lengths_from, shown_index, Indexed}
 use Rattle.snapshot_files.proofs.Archives.{archive_at, lengths_of_pieces}
 use Rattle.backup_session.specs.Session as backups
@@ -50,10 +49,10 @@ use Rattle.core_state.specs.Found.{kept_named, path_named, path_of_kept, path_in
 use Rattle.core_state.specs.Holds.{IsOnDisk, Holds, Shows}
 use Rattle.core_state.specs.Commands.{IsNoRefusal}
 use Rattle.core_state.specs.Settles.{kind_by, reply_by}
-use Rattle.core_state.specs.Stops.{told, stop_by_read, IfRefused}
+use Rattle.core_state.specs.Stops.{told}
+use Rattle.store_stops.specs.Stops.{IfRefused, Gives}
 use Rattle.core_state.specs.Wanted as wants
-use Rattle.core_state.specs.declared.stop.Stop.{Stop}
-use Rattle.core_state.specs.declared.stop.Stop.TheVariants.{Refused, NoMemory, DiskFailed}
+use Rattle.store_stops.specs.declared.stop.Stop.TheVariants.{Refused, NoMemory, DiskFailed}
 use Rattle.disk_trait.specs.Effects.{OnlyReads}
 use Rattle.disk_trait.specs.declared.disk.DiskError.TheVariants as disks
 use Rattle.core_state.specs.Named.{has_text, is_named}
@@ -444,20 +443,15 @@ refusal_answers path _ h = absurd h
 -- ---- what stops it
 
 -- of a stop by a read
-pub stop_as : (P Q : Refusal → Type 0) (e : ReadError) → ((r : Refusal) → P r → Q r) → reads.IfRefused P e → IfRefused Q (stop_by_read e)
-stop_as P Q (errors.Refused r) so p = so r p
-stop_as P Q errors.NoMemory so p = tt
-stop_as P Q errors.Failed so p = tt
+pub stop_as : (P Q : Refusal → Type 0) (e : Stop) → ((r : Refusal) → P r → Q r) → IfRefused P e → IfRefused Q e
+stop_as P Q (Refused r) so p = so r p
+stop_as P Q NoMemory so p = tt
+stop_as P Q DiskFailed so p = tt
 
-pub stop_gives : {A B : Type 0} (f : A → B) (wanted : Result B Refusal) (Q : Refusal → Type 0) (e : ReadError) → ((r : Refusal) → wanted ≡ Err r → Q r) → reads.Gives f (Err e) wanted → IfRefused Q (stop_by_read e)
-stop_gives f wanted Q (errors.Refused r) so g = so r g
-stop_gives f wanted Q errors.NoMemory so g = tt
-stop_gives f wanted Q errors.Failed so g = tt
-
-pub read_failed : {A : Type 0} (e : ReadError) → IsErrOf {T = A} (Err (stop_by_read e)) DiskFailed → e ≡ errors.Failed
-read_failed (errors.Refused r) is = cc
-read_failed errors.NoMemory is = cc
-read_failed errors.Failed is = refl
+pub stop_gives : {A B : Type 0} (f : A → B) (wanted : Result B Refusal) (Q : Refusal → Type 0) (e : Stop) → ((r : Refusal) → wanted ≡ Err r → Q r) → Gives f (Err e) wanted → IfRefused Q e
+stop_gives f wanted Q (Refused r) so g = so r g
+stop_gives f wanted Q NoMemory so g = tt
+stop_gives f wanted Q DiskFailed so g = tt
 
 reads_as : {D : Type 0} (d : Ghosts D) (old new : D) (failed by : Type 0) → (by → failed) → OnlyReads d old new failed → OnlyReads d old new by
 reads_as d old new failed by why x = record {
@@ -514,14 +508,14 @@ module _ {D : Type 0} (d : Ghosts D) (disk : D) (name : List ℕ) (offset : ℕ)
     asked_is : asks ≡ Some a
     asked_is = asked_writer name offset found w catalogue (Ok path) at good there
 
-    pub tells_unread : (e : ReadError) (result : Result Reply Stop) → IsErrAnd result (λ x. x ≡ stop_by_read e) → reads.IfRefused (RefusesPart path) e
-        → (d.honest disk → reads.Gives shown_given (Err e) (previous_by (whole_by name) (d.content disk) path offset)) → TellsSo d disk asks result
-    tells_unread e result is kind exact = by_stop d disk asks result (stop_by_read e) is (by_error e kind exact)
+    pub tells_unread : (e : Stop) (result : Result Reply Stop) → IsErrAnd result (λ x. x ≡ e) → IfRefused (RefusesPart path) e
+        → (d.honest disk → Gives shown_given (Err e) (previous_by (whole_by name) (d.content disk) path offset)) → TellsSo d disk asks result
+    tells_unread e result is kind exact = by_stop d disk asks result e is (by_error e kind exact)
       where
-        by_error : (e : ReadError) → reads.IfRefused (RefusesPart path) e → (d.honest disk → reads.Gives shown_given (Err e) (previous_by (whole_by name) (d.content disk) path offset)) → TellsSo d disk asks (Err (stop_by_read e))
-        by_error (errors.Refused r) kind exact = tells_read d disk asks a (Err r) asked_is kind (λ honest. refusal_is (d.content disk) path (whole_by name) offset r (exact honest))
-        by_error errors.NoMemory kind exact = tells_failed d disk asks disks.NoMemory
-        by_error errors.Failed kind exact = tells_failed d disk asks disks.Failed
+        by_error : (e : Stop) → IfRefused (RefusesPart path) e → (d.honest disk → Gives shown_given (Err e) (previous_by (whole_by name) (d.content disk) path offset)) → TellsSo d disk asks (Err e)
+        by_error (Refused r) kind exact = tells_read d disk asks a (Err r) asked_is kind (λ honest. refusal_is (d.content disk) path (whole_by name) offset r (exact honest))
+        by_error NoMemory kind exact = tells_failed d disk asks disks.NoMemory
+        by_error DiskFailed kind exact = tells_failed d disk asks disks.Failed
 
     pub tells_given : (g : Given) → IsPart g.part → (d.honest disk → previous_by (whole_by name) (d.content disk) path offset ≡ Ok (shown_given g)) → TellsSo d disk asks (Ok g.part)
     tells_given g kind exact = tells_read d disk asks a (Ok g.part) asked_is kind (λ honest. part_is (d.content disk) path (whole_by name) offset (shown_given g) (exact honest))
@@ -572,32 +566,32 @@ whole_read m path name offset fixed_is P index is h = subst (λ o. P (previous_b
 plain_is : (m : Files) (path name : List ℕ) (offset : ℕ) → is_index_name name ≡ false → previous_by (whole_by name) m path offset ≡ (part_at m path offset >>= λ part. Ok (record { part = part; pieces = [] }))
 plain_is m path name offset plain = ap (λ o. previous_by o m path offset) (sym (whole_none name plain))
 
-pub plain_read : (m : Files) (path name : List ℕ) (offset : ℕ) (g : Given) (part : Reply) → is_index_name name ≡ false → part_at m path offset ≡ Ok part → g.part ≡ part → g.pieces.items ≡ [] → reads.Gives shown_given (Ok g) (previous_by (whole_by name) m path offset)
+pub plain_read : (m : Files) (path name : List ℕ) (offset : ℕ) (g : Given) (part : Reply) → is_index_name name ≡ false → part_at m path offset ≡ Ok part → g.part ≡ part → g.pieces.items ≡ [] → Gives shown_given (Ok g) (previous_by (whole_by name) m path offset)
 plain_read m path name offset g part plain is same none =
     plain_is m path name offset plain ∙ ap (λ q. q >>= λ x. let p : Result Previous Refusal = Ok (record { part = x; pieces = [] }) in p) is
     ∙ ap (λ x. let p : Result Previous Refusal = Ok (record { part = x; pieces = [] }) in p) (sym same)
     ∙ ap (λ xs. let p : Result Previous Refusal = Ok (record { part = g.part; pieces = map indexes.known_of xs }) in p) (sym none)
 
-pub plain_unread : (m : Files) (path name : List ℕ) (offset : ℕ) (e : ReadError) (result : Result Given ReadError) → IsErrAnd result (λ x. x ≡ e) → is_index_name name ≡ false → reads.Gives {A = Reply} (λ part. part) (Err e) (part_at m path offset)
-    → reads.Gives shown_given result (previous_by (whole_by name) m path offset)
+pub plain_unread : (m : Files) (path name : List ℕ) (offset : ℕ) (e : Stop) (result : Result Given Stop) → IsErrAnd result (λ x. x ≡ e) → is_index_name name ≡ false → Gives {A = Reply} (λ part. part) (Err e) (part_at m path offset)
+    → Gives shown_given result (previous_by (whole_by name) m path offset)
 plain_unread m path name offset e (Ok g) is plain gives = absurd is
-plain_unread m path name offset e (Err x) is plain gives = subst (λ y. reads.Gives shown_given (Err y) (previous_by (whole_by name) m path offset)) (sym is) (by_error e gives)
+plain_unread m path name offset e (Err x) is plain gives = subst (λ y. Gives shown_given (Err y) (previous_by (whole_by name) m path offset)) (sym is) (by_error e gives)
   where
-    by_error : (e : ReadError) → reads.Gives {A = Reply} (λ part. part) (Err e) (part_at m path offset) → reads.Gives shown_given (Err e) (previous_by (whole_by name) m path offset)
-    by_error (errors.Refused r) is = plain_is m path name offset plain ∙ ap (λ q. q >>= λ x. let p : Result Previous Refusal = Ok (record { part = x; pieces = [] }) in p) is
-    by_error errors.NoMemory is = tt
-    by_error errors.Failed is = tt
+    by_error : (e : Stop) → Gives {A = Reply} (λ part. part) (Err e) (part_at m path offset) → Gives shown_given (Err e) (previous_by (whole_by name) m path offset)
+    by_error (Refused r) is = plain_is m path name offset plain ∙ ap (λ q. q >>= λ x. let p : Result Previous Refusal = Ok (record { part = x; pieces = [] }) in p) is
+    by_error NoMemory is = tt
+    by_error DiskFailed is = tt
 
 -- an index
-pub index_unread : (m : Files) (path : List ℕ) (is_fixed : Bool) (offset : ℕ) (e : ReadError) (result : Result Given ReadError) → IsErrAnd result (λ x. x ≡ e) → reads.Gives shown_index (Err e) (index_at m path is_fixed offset)
-    → reads.Gives shown_given result (previous_by (Some is_fixed) m path offset)
+pub index_unread : (m : Files) (path : List ℕ) (is_fixed : Bool) (offset : ℕ) (e : Stop) (result : Result Given Stop) → IsErrAnd result (λ x. x ≡ e) → Gives shown_index (Err e) (index_at m path is_fixed offset)
+    → Gives shown_given result (previous_by (Some is_fixed) m path offset)
 index_unread m path is_fixed offset e (Ok g) is gives = absurd is
-index_unread m path is_fixed offset e (Err x) is gives = subst (λ y. reads.Gives shown_given (Err y) (previous_by (Some is_fixed) m path offset)) (sym is) (by_error e gives)
+index_unread m path is_fixed offset e (Err x) is gives = subst (λ y. Gives shown_given (Err y) (previous_by (Some is_fixed) m path offset)) (sym is) (by_error e gives)
   where
-    by_error : (e : ReadError) → reads.Gives shown_index (Err e) (index_at m path is_fixed offset) → reads.Gives shown_given (Err e) (previous_by (Some is_fixed) m path offset)
-    by_error (errors.Refused r) is = ap (λ q. q >>= λ x. let p : Result Previous Refusal = Ok (record { part = x.part; pieces = lengths_from 0 x.entries }) in p) is
-    by_error errors.NoMemory is = tt
-    by_error errors.Failed is = tt
+    by_error : (e : Stop) → Gives shown_index (Err e) (index_at m path is_fixed offset) → Gives shown_given (Err e) (previous_by (Some is_fixed) m path offset)
+    by_error (Refused r) is = ap (λ q. q >>= λ x. let p : Result Previous Refusal = Ok (record { part = x.part; pieces = lengths_from 0 x.entries }) in p) is
+    by_error NoMemory is = tt
+    by_error DiskFailed is = tt
 
 -- ---- the exits
 
@@ -640,9 +634,9 @@ module _ {D : Type 0} (d : Ghosts D) (parts : Parts D) (at : Place) (name : List
     pub unnoted_leaves : (result : Result Reply Stop) → IsErrAnd result (λ x. x ≡ NoMemory) → SameKept parts new → ActLeaves d parts new at act result
     unnoted_leaves result is kept = stopped_leaves d parts new at act NoMemory result failed is read kept refl tt (λ closing. false_true closing)
 
-    pub unread_leaves : (path : List ℕ) (e : ReadError) (result : Result Reply Stop) → IsErrAnd result (λ x. x ≡ stop_by_read e) → SameKept parts new → reads.IfRefused (RefusesPart path) e → ActLeaves d parts new at act result
+    pub unread_leaves : (path : List ℕ) (e : Stop) (result : Result Reply Stop) → IsErrAnd result (λ x. x ≡ e) → SameKept parts new → IfRefused (RefusesPart path) e → ActLeaves d parts new at act result
     unread_leaves path e result is kept kind =
-        stopped_leaves d parts new at act (stop_by_read e) result failed is read kept refl
+        stopped_leaves d parts new at act e result failed is read kept refl
         (stop_as (RefusesPart path) (λ r. is_uncalled r ≡ true → new.disk ≡ parts.disk) e (λ r k t. absurd (false_true (sym (refusal_called path r k) ∙ t))) kind) (λ closing. false_true closing)
 
     pub given_leaves : (g : Given) → IsPart g.part → new.catalogue.listed ≡ parts.catalogue.listed → ActLeaves d parts new at act (Ok g.part)
@@ -654,11 +648,11 @@ module _ {D : Type 0} (d : Ghosts D) (parts : Parts D) (at : Place) (name : List
       based s v h v_is = has_base s at.lane name offset parts.catalogue.listed v path (h.shows).catalogue (ap (λ b. base_file b name parts.catalogue.listed) (base_of_shown v w v_is) ∙ there)
 
       -- it is not read
-      pub unread_does : (e : ReadError) (result : Result Reply Stop) → IsErrAnd result (λ x. x ≡ stop_by_read e) → (IsErrOf {T = Given} (Err (stop_by_read e)) DiskFailed → failed) → SameKept parts new → reads.ErrorHasText e → reads.IfRefused (RefusesPart path) e
-          → (d.honest parts.disk → reads.Gives shown_given (Err e) (previous_by (whole_by name) (d.content parts.disk) path offset)) → ActDoes d parts new at act result
+      pub unread_does : (e : Stop) (result : Result Reply Stop) → IsErrAnd result (λ x. x ≡ e) → (IsErrOf {T = Given} (Err e) DiskFailed → failed) → SameKept parts new → StopHasText e → IfRefused (RefusesPart path) e
+          → (d.honest parts.disk → Gives shown_given (Err e) (previous_by (whole_by name) (d.content parts.disk) path offset)) → ActDoes d parts new at act result
       unread_does e result is why kept text kind exact =
-          stopped_does d {A = Given} parts new at act (Err (stop_by_read e)) (stop_by_read e) result is refl (reads_as d parts.disk new.disk failed _ why read) kept
-          (stop_as (λ r. ReplyHasText (replies.Refused r)) (λ r. ReplyHasText (replies.Refused r)) e (λ r t. t) text) (stop_as (RefusesPart path) (λ r. refuses_previous r ≡ true) e (λ r k. refusal_answers path r k) kind)
+          stopped_does d {A = Given} parts new at act (Err e) e result is refl (reads_as d parts.disk new.disk failed _ why read) kept
+          text (stop_as (RefusesPart path) (λ r. refuses_previous r ≡ true) e (λ r k. refusal_answers path r k) kind)
           (λ s h.
           let (v, v_at, v_is) = writer_shown parts s at.lane w h.shows lt writes in
           stop_gives shown_given (previous_by (whole_by name) (d.content parts.disk) path offset) (λ r. outcome s at.lane at.moment (PreviousCommand name offset) ≡ Err r) e

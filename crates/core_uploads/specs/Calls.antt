@@ -12,54 +12,54 @@ use Rattle.store_model.specs.Steps.{outcome}
 use Rattle.store_model.specs.WriterCalls as calls
 use Rattle.store_model.specs.WriterSteps.{checked_blob}
 use Rattle.store_history.specs.History.{data_in}
-use Rattle.backup_session.specs.Answers.{Does, DoesPlainly}
 use Rattle.backup_session.specs.Session.{held, settled}
 use Rattle.backup_session.specs.Session as backups
 use Rattle.backup_session.specs.Steps as rows
 use Rattle.backup_session.specs.Steps.{begun_at}
 use Rattle.core_state.specs.declared.kept.Session.{Session}
 use Rattle.core_state.specs.declared.kept.Writing.{Writing}
-use Rattle.core_state.specs.declared.stop.Stop.{Stop}
+use Rattle.store_stops.specs.declared.stop.Stop.{Stop}
 use Rattle.core_state.specs.Changes.{blob_put, index_put}
 use Rattle.core_state.specs.Replies.{answers_append, answers_blob, answers_closing}
 use Rattle.core_uploads.specs.declared.archives.NewIndex.{NewIndex}
 use Rattle.core_uploads.specs.declared.files.NewFile.{NewFile}
+use Rattle.core_uploads.specs.Does.{Does, DoesPlainly}
 use Rattle.core_uploads.specs.NewIndexes.{answers_new, new_command, new_plain, new_rows}
 use Rattle.core_uploads.specs.Pending.{MakesPending}
-use Rattle.core_uploads.specs.Stepped.{StepsQuietly, answer_of}
+use Rattle.core_uploads.specs.Stepped.{StepsQuietly}
 
 -- ---- the backup's writer: the step as it is kept, and of each plain writer that is shown
 
 abbrev pub BeginsIndex : backups.Session → backups.Session → NewIndex → List ℕ → ℕ → Result ℕ Stop → Type 0
-BeginsIndex old new index name moment result = Does (λ n. n) settled old new (answer_of result) (new_rows index old.writer name moment)
+BeginsIndex old new index name moment result = Does (λ n. n) settled old new result (new_rows index old.writer name moment)
 
 abbrev pub BeginsPlainly : backups.Session → backups.Session → NewIndex → List ℕ → ℕ → Result ℕ Stop → Type 0
-BeginsPlainly old new index name moment result = DoesPlainly (λ n. n) settled old new (answer_of result) (λ w. new_plain index w name moment)
+BeginsPlainly old new index name moment result = DoesPlainly (λ n. n) settled old new result (λ w. new_plain index w name moment)
 
 abbrev pub AppendsEntries : backups.Session → backups.Session → ℕ → List AppendEntry → Result (Unit {0}) Stop → Type 0
 AppendsEntries old new number entries result =
-    Does (λ u. u) settled old new (answer_of result) (rows.append old.writer number (map named_entry entries))
+    Does (λ u. u) settled old new result (rows.append old.writer number (map named_entry entries))
 
 abbrev pub AppendsPlainly : backups.Session → backups.Session → ℕ → List AppendEntry → Result (Unit {0}) Stop → Type 0
 AppendsPlainly old new number entries result =
-    DoesPlainly (λ u. u) settled old new (answer_of result) (λ w. calls.append w number (map named_entry entries))
+    DoesPlainly (λ u. u) settled old new result (λ w. calls.append w number (map named_entry entries))
 
 abbrev pub ClosesIndex : backups.Session → backups.Session → ℕ → ℕ → ℕ → Digest32 → Result (Vec ℕ Global) Stop → Type 0
 ClosesIndex old new number count size csum result =
-    Does (λ (text : Vec ℕ Global). text.items) (held old.writer) old new (answer_of result) (rows.close_index old.writer number count size csum)
+    Does (λ (text : Vec ℕ Global). text.items) (held old.writer) old new result (rows.close_index old.writer number count size csum)
 
 abbrev pub ClosesPlainly : backups.Session → backups.Session → ℕ → ℕ → ℕ → Digest32 → Result (Vec ℕ Global) Stop → Type 0
 ClosesPlainly old new number count size csum result =
-    DoesPlainly (λ (text : Vec ℕ Global). text.items) (held old.writer) old new (answer_of result) (λ w. calls.close_index w number count size csum)
+    DoesPlainly (λ (text : Vec ℕ Global). text.items) (held old.writer) old new result (λ w. calls.close_index w number count size csum)
 
 abbrev pub TakesBlob : backups.Session → backups.Session → List ℕ → List ℕ → Result (Unit {0}) Stop → Type 0
 TakesBlob old new name text result =
-    Does (λ u. u) (held old.writer) old new (answer_of result) (rows.blob old.writer name text)
+    Does (λ u. u) (held old.writer) old new result (rows.blob old.writer name text)
 
 abbrev pub TakesPlainly : backups.Session → backups.Session → List ℕ → List ℕ → Result (Unit {0}) Stop → Type 0
 TakesPlainly old new name text result =
     (contents : List ℕ) → text ≡ blob_text contents
-    → DoesPlainly (λ u. u) (held old.writer) old new (answer_of result) (λ w. calls.put_data w name contents)
+    → DoesPlainly (λ u. u) (held old.writer) old new result (λ w. calls.put_data w name contents)
 
 -- ---- the lane's session: the plain store's step
 

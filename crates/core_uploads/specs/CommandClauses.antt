@@ -6,7 +6,7 @@ use Rattle.wire_commands.specs.declared.command.Command.TheVariants.{CloseIndex,
 use Rattle.wire_commands.specs.declared.reply.Reply.{Reply}
 use Rattle.core_state.specs.declared.entering.Place.{Place}
 use Rattle.core_state.specs.declared.parts.Parts.{Parts}
-use Rattle.core_state.specs.declared.stop.Stop.{Stop}
+use Rattle.store_stops.specs.declared.stop.Stop.{Stop}
 use Rattle.core_state.specs.Commands.{PlainDoes, PlainLeaves}
 
 -- ---- the two of a NEW_FIXED

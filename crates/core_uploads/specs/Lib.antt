@@ -2,6 +2,7 @@ pub mod Uploaded
 pub mod Pending
 pub mod Names
 pub mod Noted
+pub mod Does
 pub mod Stepped
 pub mod Previous
 pub mod NewIndexes

@@ -2,8 +2,8 @@
 use Rattle.std.specs.Prelude.{◌≡◌, ℕ, false, List}
 use Rattle.store_types.specs.FileNames.{is_file_name}
 use Rattle.store_types.specs.declared.refusal.Refusal.TheVariants.{BadName}
-use Rattle.core_state.specs.declared.stop.Stop.{Stop}
-use Rattle.core_state.specs.declared.stop.Stop.TheVariants.{Refused, NoMemory, DiskFailed}
+use Rattle.store_stops.specs.declared.stop.Stop.{Stop}
+use Rattle.store_stops.specs.declared.stop.Stop.TheVariants.{Refused, NoMemory, DiskFailed}
 
 -- the text is no file's name, or memory was wanting
 abbrev pub IsNoName : List ℕ → Stop → Type 0

@@ -15,12 +15,13 @@ use Rattle.core_state.specs.declared.kept.StoredFile.{StoredFile}
 use Rattle.core_state.specs.declared.kept.Session.{Session}
 use Rattle.core_state.specs.declared.kept.Session.TheVariants as states
 use Rattle.core_state.specs.declared.kept.Writing.{Writing}
-use Rattle.core_state.specs.declared.stop.Stop.{Stop}
-use Rattle.core_state.specs.declared.stop.Stop.TheVariants.{Refused, NoMemory, DiskFailed}
+use Rattle.store_stops.specs.declared.stop.Stop.{Stop}
+use Rattle.store_stops.specs.declared.stop.Stop.TheVariants.{Refused, NoMemory, DiskFailed}
 use Rattle.core_state.specs.Changes.{Change, file_put}
 use Rattle.core_state.specs.Holds.{IsBegun, has_named, names_differ, IsSound}
 use Rattle.core_state.specs.Shown.{shown_session, shown_writer}
-use Rattle.core_state.specs.Stops.{IfRefused, StopHasText}
+use Rattle.snapshot_files.specs.Reads.{StopHasText}
+use Rattle.store_stops.specs.Stops.{IfRefused}
 use Rattle.core_uploads.specs.declared.files.NewFile.{NewFile}
 use Rattle.core_uploads.specs.Uploaded.{insert_stored}
 

@@ -12,8 +12,8 @@ use Rattle.store_types.specs.FileNames.{is_file_name}
 use Rattle.wire_commands.specs.declared.reply.Reply.{Reply}
 use Rattle.dynamic_index.specs.Writing.{Known, known_of}
 use Rattle.snapshot_files.specs.Indexes.{index_at, lengths_from}
-use Rattle.snapshot_files.specs.Reads.{Gives}
-use Rattle.snapshot_files.specs.declared.read_error.ReadError.{ReadError}
+use Rattle.store_stops.specs.Stops.{Gives}
+use Rattle.store_stops.specs.declared.stop.Stop.{Stop}
 use Rattle.backup_session.specs.Session.{settled}
 use Rattle.backup_session.specs.Steps as rows
 use Rattle.core_state.specs.declared.kept.Kept.{Kept}
@@ -67,7 +67,7 @@ abbrev pub shown_given : Given → Previous
 shown_given g = record { part = g.part; pieces = map known_of g.pieces.items }
 
 -- an honest disk gives it, or the refusal is told
-abbrev pub GivesPrevious : {D : Type 0} → Ghosts D → D → List ℕ → Option Bool → ℕ → Result Given ReadError → Type 0
+abbrev pub GivesPrevious : {D : Type 0} → Ghosts D → D → List ℕ → Option Bool → ℕ → Result Given Stop → Type 0
 GivesPrevious d disk path whole offset result =
     d.honest disk → Gives shown_given result (previous_by whole (d.content disk) path offset)
 

@@ -1,16 +1,13 @@
 -- What a command that makes no call of the disk does to its lane's session.
 use Rattle.std.specs.Prelude.{◌≡◌, ℕ, Bool, true, Result, Ok, Err, IfOk, OnErr, IsTrue}
 use Rattle.disk_trait.specs.Files.{Files}
-use Rattle.disk_trait.specs.declared.disk.DiskError.{DiskError}
-use Rattle.disk_trait.specs.declared.disk.DiskError.TheVariants as disks
-use Rattle.store_types.specs.declared.refusal.Refusal.{Refusal as Cause}
 use Rattle.wire_commands.specs.HasText.{ReplyHasText}
 use Rattle.wire_commands.specs.declared.reply.Reply.{Reply}
 use Rattle.store_model.specs.Store.{Store, Writer, Outcome, writer, session, with_session}
 use Rattle.core_state.specs.declared.kept.Session.{Session}
 use Rattle.core_state.specs.declared.kept.Session.TheVariants as kept
-use Rattle.core_state.specs.declared.stop.Stop.{Stop}
-use Rattle.core_state.specs.declared.stop.Stop.TheVariants.{Refused, NoMemory, DiskFailed}
+use Rattle.store_stops.specs.declared.stop.Stop.{Stop}
+use Rattle.store_stops.specs.declared.stop.Stop.TheVariants.{Refused, NoMemory, DiskFailed}
 use Rattle.core_state.specs.Closing.{is_writer as is_writers}
 use Rattle.core_state.specs.Commands.{IsNoRefusal}
 use Rattle.core_state.specs.Holds.{IsSound, IsWriter, HasUploads}
@@ -48,10 +45,3 @@ pub record StepsQuietly (old new : Session) (outcome_at : Store → ℕ → Outc
   pub writes : is_writers new ≡ true
   pub same : OnErr result (new ≡ old)
   pub step : IsStepOf old new outcome_at result
-
--- what a call of the backup's session answered, by what came of it
-abbrev pub answer_of : {A : Type 0} → Result A Stop → Result (Result A Cause) DiskError
-answer_of (Ok x) = Ok (Ok x)
-answer_of (Err (Refused refusal)) = Ok (Err refusal)
-answer_of (Err NoMemory) = Err disks.NoMemory
-answer_of (Err DiskFailed) = Err disks.Failed

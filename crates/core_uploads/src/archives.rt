@@ -8,18 +8,18 @@ ghost use Rattle.backup_session.specs.Answers.{IsPendingAt};
 ghost use Rattle.core_state.specs.Closing.{is_writer};
 ghost use Rattle.core_state.specs.Commands.{PlainDoes, PlainLeaves};
 ghost use Rattle.core_state.specs.Named.{is_named};
-ghost use Rattle.core_state.specs.Stops.{StopHasText};
-ghost use Rattle.core_state.specs.declared.stop.Stop.TheVariants.{DiskFailed};
+ghost use Rattle.snapshot_files.specs.Reads.{StopHasText};
+ghost use Rattle.store_stops.specs.declared.stop.Stop.TheVariants.{DiskFailed};
 ghost use Rattle.core_uploads.specs.Calls.{AppendsEntries, AppendsPlainly, AppendsQuietly, BeginsIndex, BeginsPlainly, BeginsQuietly, ClosesIndex, ClosesPending, ClosesPlainly};
 ghost use Rattle.core_uploads.specs.CommandClauses.{ClosingDoes, ClosingLeaves, FixedDoes, FixedLeaves};
-ghost use Rattle.core_uploads.specs.Stepped.{answer_of};
 
 use crate::files::{NewFile, keep_pending, stored_file};
 use crate::names::file_name;
 use backup_session::Writer;
-use core_state::{Parts, Place, Session, Stop};
+use core_state::{Parts, Place, Session};
 use disk_trait::Disk;
 use std::alloc::{AllocError, Global};
+use store_stops::{Stop, answered};
 use store_types::{AppendEntry, Bytes, Digest32, FileName, Refusal};
 use wire_commands::Reply;
 
@@ -49,9 +49,9 @@ fn begin(
     ensures uncalled { IsErrOf result DiskFailed → ⊥ }
 {
     match index {
-        NewIndex::Dynamic => Ok(session.new_dynamic(alloc, name, moment)??),
+        NewIndex::Dynamic => answered(session.new_dynamic(alloc, name, moment)),
         NewIndex::Fixed { size, chunk_size } => {
-            Ok(session.new_fixed(alloc, name, moment, size, chunk_size)??)
+            answered(session.new_fixed(alloc, name, moment, size, chunk_size))
         }
     }
 }
@@ -151,7 +151,7 @@ fn grow(
     ensures uncalled { IsErrOf result DiskFailed → ⊥ }
 {
     let pairs = pairs_of(alloc, entries)?;
-    Ok(session.append(alloc, number, &pairs)??)
+    answered(session.append(alloc, number, &pairs))
 }
 
 /// The session's writer appends chunks, as in `append`. Where it is refused, and where memory is wanting, the session is as
@@ -209,12 +209,12 @@ fn close(
 ) -> Result<Vec<u8>, Stop>
     requires { session.old.pending ≡ None }
     ensures does { ClosesIndex session.old session.new number count size csum.now result }
-    ensures pending { IsPendingAt session.new (answer_of result) }
+    ensures pending { IsPendingAt session.new result }
     ensures plain { ClosesPlainly session.old session.new number count size csum.now result }
     ensures text { IfErr result StopHasText }
     ensures uncalled { IsErrOf result DiskFailed → ⊥ }
 {
-    Ok(session.close_index(alloc, number, count, size, csum)??)
+    answered(session.close_index(alloc, number, count, size, csum))
 }
 
 /// An index of the session's writer becomes a file, which is pending then. Where it is refused, and where memory is

@@ -16,9 +16,10 @@ use crate::uploads::bad_blob;
 use backup_session::Writer;
 use blob_codec::HEADER_SIZE;
 use chunk_store::insert_blob;
-use core_state::{Parts, Place, Session, Stop};
+use core_state::{Parts, Place, Session};
 use disk_trait::{Disk, DiskError};
 use std::alloc::Global;
+use store_stops::Stop;
 use store_types::{Bytes, Digest32, Refusal};
 use wire_commands::Reply;
 

@@ -4,8 +4,8 @@ ghost use Rattle.std.specs.Prelude.{◌≡◌, true, IfOk, IfErr};
 ghost use Rattle.store_types.specs.FileNames.{is_file_name};
 ghost use Rattle.core_uploads.specs.Names.{IsNoName};
 
-use core_state::Stop;
 use std::alloc::Global;
+use store_stops::Stop;
 use store_types::{FileName, Refusal};
 
 /// The text as the name of a snapshot's file.

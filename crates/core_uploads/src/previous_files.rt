@@ -7,7 +7,8 @@ ghost use Rattle.wire_commands.specs.HasText.{ReplyHasText};
 ghost use Rattle.wire_commands.specs.declared.command.Command.TheVariants.{Previous};
 ghost use Rattle.wire_commands.specs.declared.reply.Reply.TheVariants.{Refused};
 ghost use Rattle.snapshot_files.specs.Parts.{IsPart, RefusesPart};
-ghost use Rattle.snapshot_files.specs.Reads.{ErrorHasText, IfRefused};
+ghost use Rattle.snapshot_files.specs.Reads.{StopHasText};
+ghost use Rattle.store_stops.specs.Stops.{IfRefused};
 ghost use Rattle.core_state.specs.Commands.{PlainDoes, PlainLeaves};
 ghost use Rattle.core_state.specs.Found.{lent_key};
 ghost use Rattle.core_state.specs.Replies.{refuses_previous};
@@ -15,10 +16,11 @@ ghost use Rattle.core_state.specs.Unreadables.{ActUnreadable, whole_by};
 ghost use Rattle.core_uploads.specs.Previous.{ArePieces, GivesPrevious, LendsPath, MayKnow, asked_of_base, with_known};
 
 use crate::names::file_name;
-use core_state::{Catalogue, Parts, Place, Session, Stop, path_named};
+use core_state::{Catalogue, Parts, Place, Session, path_named};
 use disk_trait::Disk;
-use snapshot_files::{FilePath, IndexPart, ReadError, lengths_of, read_index, read_part};
+use snapshot_files::{FilePath, IndexPart, lengths_of, read_index, read_part};
 use std::alloc::{AllocError, Global};
+use store_stops::Stop;
 use store_types::{Digest32, FileName, Refusal, SnapshotKey};
 use wire_commands::Reply;
 
@@ -52,11 +54,11 @@ fn read_whole<D: Disk>(
     path: &FilePath,
     is_fixed: bool,
     offset: u64,
-) -> Result<Given, ReadError>
-    ensures reads { OnlyReads D.Disk disk.old disk.new (IsErrOf result ReadError.Failed) }
+) -> Result<Given, Stop>
+    ensures reads { OnlyReads D.Disk disk.old disk.new (IsErrOf result Stop.DiskFailed) }
     ensures exact { GivesPrevious D.Disk disk.old path.now (Some is_fixed) offset result }
     ensures kind { MatchResult result (λ g. IsPart g.part) (IfRefused (RefusesPart path.now)) }
-    ensures text { MatchResult result (λ g. ReplyHasText g.part) ErrorHasText }
+    ensures text { MatchResult result (λ g. ReplyHasText g.part) StopHasText }
     ensures pieces { IfOk result (λ g. ArePieces (map known_of g.pieces.items)) }
 {
     let index = read_index(disk, alloc, path.as_str(), is_fixed, offset)?;
@@ -72,11 +74,11 @@ fn read_file<D: Disk>(
     path: &FilePath,
     name: &FileName,
     offset: u64,
-) -> Result<Given, ReadError>
-    ensures reads { OnlyReads D.Disk disk.old disk.new (IsErrOf result ReadError.Failed) }
+) -> Result<Given, Stop>
+    ensures reads { OnlyReads D.Disk disk.old disk.new (IsErrOf result Stop.DiskFailed) }
     ensures exact { GivesPrevious D.Disk disk.old path.now (whole_by name.now) offset result }
     ensures kind { MatchResult result (λ g. IsPart g.part) (IfRefused (RefusesPart path.now)) }
-    ensures text { MatchResult result (λ g. ReplyHasText g.part) ErrorHasText }
+    ensures text { MatchResult result (λ g. ReplyHasText g.part) StopHasText }
     ensures pieces { IfOk result (λ g. ArePieces (map known_of g.pieces.items)) }
 {
     if name.is_index() {

@@ -14,16 +14,16 @@ ghost use Rattle.core_state.specs.Closing.{is_writer};
 ghost use Rattle.core_state.specs.Commands.{ActDoes, ActLeaves};
 ghost use Rattle.core_state.specs.Named.{is_named};
 ghost use Rattle.core_state.specs.Replies.{refuses_blob};
-ghost use Rattle.core_state.specs.declared.stop.Stop.TheVariants.{DiskFailed};
+ghost use Rattle.store_stops.specs.declared.stop.Stop.TheVariants.{DiskFailed};
 ghost use Rattle.core_uploads.specs.Calls.{TakesBlob, TakesPending, TakesPlainly};
-ghost use Rattle.core_uploads.specs.Stepped.{answer_of};
 
 use crate::files::{NewFile, keep_pending, stored_file};
 use crate::names::file_name;
 use backup_session::Writer;
-use core_state::{Parts, Place, Session, Stop};
+use core_state::{Parts, Place, Session};
 use disk_trait::Disk;
 use std::alloc::Global;
+use store_stops::{Stop, answered};
 use store_types::{BadBlob, Bytes, FileName, Refusal};
 use wire_commands::Reply;
 
@@ -66,12 +66,12 @@ fn take(session: &mut Writer, alloc: Global, name: FileName, text: &Bytes) -> Re
     requires blob { IsOk (data_of text.now) }
     ensures bytes { AreBytes text.now }
     ensures does { TakesBlob session.old session.new name text.now result }
-    ensures pending { IsPendingAt session.new (answer_of result) }
+    ensures pending { IsPendingAt session.new result }
     ensures plain { TakesPlainly session.old session.new name text.now result }
     ensures uncalled { IsErrOf result DiskFailed → ⊥ }
 {
     let bytes = text.as_slice();
-    Ok(session.blob(alloc, name, bytes)??)
+    answered(session.blob(alloc, name, bytes))
 }
 
 /// The session's writer takes a blob's file, which is pending then. Where it is refused, and where memory is wanting, the

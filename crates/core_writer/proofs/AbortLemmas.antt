@@ -34,8 +34,8 @@ use Rattle.core_state.specs.declared.entering.Place.{Place}
 use Rattle.core_state.specs.declared.kept.Session.{Session}
 use Rattle.core_state.specs.declared.kept.Session.TheVariants.{Idle, Writer as Writes, Reader}
 use Rattle.core_state.specs.declared.parts.Parts.{Parts}
-use Rattle.core_state.specs.declared.stop.Stop.{Stop}
-use Rattle.core_state.specs.declared.stop.Stop.TheVariants.{DiskFailed}
+use Rattle.store_stops.specs.declared.stop.Stop.{Stop}
+use Rattle.store_stops.specs.declared.stop.Stop.TheVariants.{DiskFailed}
 use Rattle.core_state.specs.Changes.{Change, drops, IsFirm, LeavesChange, after, by_writer, put_paths}
 use Rattle.core_state.specs.Chunks.{AddsChunks}
 use Rattle.core_state.specs.Commands.{ActDoes, ActLeaves}

@@ -11,7 +11,7 @@ use Rattle.disk_trait.specs.Laws.{placed_same, placed_other, differs}
 use Rattle.file_install.specs.Install.{temporary, installed}
 use Rattle.store_types.specs.declared.names.SnapshotKey.{SnapshotKey}
 use Rattle.store_types.specs.declared.refusal.Refusal.{Refusal}
-use Rattle.store_types.specs.declared.refusal.Refusal.TheVariants.{NoFile, OpenIndexes, WrongState, BadManifest, ManifestMismatch}
+use Rattle.store_types.specs.declared.refusal.Refusal.TheVariants.{NoFile, NoMemory, OpenIndexes, WrongState, BadManifest, ManifestMismatch}
 use Rattle.store_types.specs.Chain.Refusing.{◌>>=◌, unless, or_else, if_none}
 use Rattle.store_types.specs.FileNames.{manifest_name, is_dynamic_name, is_fixed_name}
 use Rattle.store_types.specs.Names.{key_lt, key_text, same_group, group_of_key}
@@ -58,9 +58,10 @@ use Rattle.core_state.proofs.Commanding.{session_shown}
 use Rattle.core_state.proofs.Completing.{HasManifest, has_manifest, listed, no_listing, no_manifest}
 use Rattle.core_state.proofs.NamedLemmas.{list_all-at, writer_named}
 use Rattle.core_state.specs.declared.entering.Place.{Place}
-use Rattle.core_state.specs.declared.stop.Stop.{Stop}
-use Rattle.core_state.specs.declared.stop.Stop.TheVariants as Stopped
-use Rattle.core_state.specs.Stops.{IfRefused}
+use Rattle.store_stops.specs.declared.stop.Stop.{Stop}
+use Rattle.store_stops.specs.declared.stop.Stop.TheVariants as Stopped
+use Rattle.store_stops.specs.Outcomes.{IfAnswered}
+use Rattle.store_stops.specs.Stops.{IfRefused, answered_of}
 use Rattle.std.proofs.lemmas.List.{get_or_default}
 use Rattle.core_state.specs.Wanted.{session_at, want_writer}
 use Rattle.core_state.specs.Chunks.{AddsChunks}
@@ -145,13 +146,24 @@ finish_has_text (BadManifest cause) is fits = bad_manifest_has_text cause fits.0
 finish_has_text (ManifestMismatch file field) is fits = mismatch_has_text file field fits
 finish_has_text _ is fits = cc
 
--- what the check tells of a writer that the session shows
-pub told_err : {A : Type 0} (step : Result Manifest Refusal) (told : Result A Refusal) (view : A → Manifest) (r : Refusal) → MatchResult told (λ m. step ≡ Ok (view m)) (λ r. step ≡ Err r) → told ≡ Err r → step ≡ Err r
-told_err step told view r h is = subst (λ t. MatchResult t (λ m. step ≡ Ok (view m)) (λ r. step ≡ Err r)) is h
+-- where the check of what the session keeps stops the command
+pub check_stops : {A : Type 0} (w : rows.Writing) (view : A → Manifest) (told : Result A Refusal) (stop : Stop) (result : Result (Unit {0}) Stop) → answered_of told ≡ Err stop
+    → IfAnswered told (λ t. MatchResult t (λ m. checks.finish_check w ≡ Ok (view m)) (λ r. checks.finish_check w ≡ Err r)) → IfErr told FitsRefusal
+    → IsErrAnd result (λ x. x ≡ stop) → IfErr result (StopsBy refuses_finish)
+check_stops w view told stop (Ok u) was gives fits is = absurd is
+check_stops w view (Ok m) stop (Err x) was gives fits is = cc
+check_stops w view (Err NoMemory) stop (Err x) was gives fits is = let same : Stopped.NoMemory ≡ x = cc in subst (StopsBy refuses_finish) same tt
+check_stops w view (Err r) stop (Err x) was gives fits is =
+    let same : Stopped.Refused r ≡ x = cc in
+    subst (StopsBy refuses_finish) same (let kind = check_refuses w r gives in (kind, finish_has_text r kind fits))
 
-pub check_stops : (w : rows.Writing) (refusal : Refusal) (result : Result (Unit {0}) Stop) → IsErrAnd result (λ x. x ≡ Stopped.Refused refusal) → checks.finish_check w ≡ Err refusal → FitsRefusal refusal → IfErr result (StopsBy refuses_finish)
-check_stops w refusal (Ok u) is refuses fits = absurd is
-check_stops w refusal (Err x) is refuses fits = subst (StopsBy refuses_finish) (sym is) (let kind = check_refuses w refusal refuses in (kind, finish_has_text refusal kind fits))
+-- and what it then tells of a writer that the session shows
+pub check_tells : {A : Type 0} (tested : Result Manifest Refusal) (view : A → Manifest) (told : Result A Refusal) (stop : Stop) (result : Result (Unit {0}) Stop) → answered_of told ≡ Err stop
+    → IfAnswered told (λ t. MatchResult t (λ m. tested ≡ Ok (view m)) (λ r. tested ≡ Err r)) → IsErrAnd result (λ x. x ≡ stop) → TestedBy tested result
+check_tells tested view told stop (Ok u) was gives is = absurd is
+check_tells tested view (Ok m) stop (Err x) was gives is = cc
+check_tells tested view (Err NoMemory) stop (Err x) was gives is = let same : Stopped.NoMemory ≡ x = cc in subst (λ y. TestedBy tested (Err y)) same tt
+check_tells tested view (Err r) stop (Err x) was gives is = let same : Stopped.Refused r ≡ x = cc in subst (λ y. TestedBy tested (Err y)) same gives
 
 pub shows_found : (s : Store) (w : Writing) (v : Writer) → shown_writer v ≡ w → IsWriter s.snapshots v → Shows (w.session).writer v
 shows_found s w v is h = record { same = sym (ap (λ x. (x.session).writer) is); begun = all_open v.pool v.begun h.begun }

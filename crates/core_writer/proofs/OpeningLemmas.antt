@@ -39,9 +39,9 @@ use Rattle.core_state.proofs.Commanding.{idle_shown}
 use Rattle.core_writer.specs.Opened.{base_in, base_kept, new_writing}
 use Rattle.core_state.specs.Wanted.{want_idle}
 use Rattle.core_writer.specs.Opened.{TellsBase}
-use Rattle.core_state.specs.Stops.{IfRefused}
-use Rattle.core_state.specs.declared.stop.Stop.{Stop}
-use Rattle.core_state.specs.declared.stop.Stop.TheVariants as Stopped
+use Rattle.store_stops.specs.Stops.{IfRefused}
+use Rattle.store_stops.specs.declared.stop.Stop.{Stop}
+use Rattle.store_stops.specs.declared.stop.Stop.TheVariants as Stopped
 use Rattle.core_writer.proofs.OpenedLemmas.{latest_shown, latest_whole-shown, count_shown, may_open}
 
 -- ---- the store's tests

@@ -12,12 +12,13 @@ use Rattle.core_state.specs.declared.entering.Place.{Place}
 use Rattle.core_state.specs.declared.kept.Session.{Session}
 use Rattle.core_state.specs.declared.kept.Session.TheVariants.{Idle}
 use Rattle.core_state.specs.declared.parts.Parts.{Parts}
-use Rattle.core_state.specs.declared.stop.Stop.{Stop}
-use Rattle.core_state.specs.declared.stop.Stop.TheVariants.{Refused, NoMemory, DiskFailed}
+use Rattle.store_stops.specs.declared.stop.Stop.{Stop}
+use Rattle.store_stops.specs.declared.stop.Stop.TheVariants.{Refused, NoMemory, DiskFailed}
 use Rattle.core_state.specs.Commands.{ActDoes}
 use Rattle.core_state.specs.Holds.{Holds}
 use Rattle.core_state.specs.Replies.{may_answer}
-use Rattle.core_state.specs.Stops.{IfRefused, StopHasText}
+use Rattle.snapshot_files.specs.Reads.{StopHasText}
+use Rattle.store_stops.specs.Stops.{IfRefused}
 use Rattle.core_state.specs.Unchanged.{SameKept}
 use Rattle.core_state.specs.Wanted.{session_at}
 use Rattle.core_state.proofs.Commanding.{act_does, reads_none, stopped_does}

@@ -18,7 +18,7 @@ use Rattle.core_state.specs.declared.kept.Listed.{Listed}
 use Rattle.core_state.specs.declared.kept.Session.{Session}
 use Rattle.core_state.specs.declared.parts.Parts.{Parts}
 use Rattle.core_state.specs.declared.state.Core.{Core}
-use Rattle.core_state.specs.declared.stop.Stop.{Stop}
+use Rattle.store_stops.specs.declared.stop.Stop.{Stop}
 use Rattle.core_state.specs.FromState.{ActTells, CoreTells}
 use Rattle.core_state.specs.Wanted.{want_idle}
 use Rattle.core_writer.specs.Opened.{base_for}

@@ -14,8 +14,8 @@ use Rattle.backup_session.specs.Steps as rows
 use Rattle.core_state.specs.declared.kept.Kept.{Kept}
 use Rattle.core_state.specs.declared.kept.Listed.{Listed}
 use Rattle.core_state.specs.declared.kept.Writing.{Writing}
-use Rattle.core_state.specs.declared.stop.Stop.{Stop}
-use Rattle.core_state.specs.declared.stop.Stop.TheVariants.{Refused, NoMemory, DiskFailed}
+use Rattle.store_stops.specs.declared.stop.Stop.{Stop}
+use Rattle.store_stops.specs.declared.stop.Stop.TheVariants.{Refused, NoMemory, DiskFailed}
 use Rattle.core_state.specs.Found.{kept_in, latest_kept, latest_whole, lent_key}
 use Rattle.core_writer.specs.declared.opening.Beginning.{Beginning}
 

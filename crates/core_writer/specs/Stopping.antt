@@ -3,8 +3,8 @@ use Rattle.std.specs.Prelude.{Bool, IsTrue}
 use Rattle.store_types.specs.declared.refusal.Refusal.{Refusal}
 use Rattle.wire_commands.specs.declared.reply.Reply.TheVariants as replies
 use Rattle.wire_commands.specs.HasText.{ReplyHasText}
-use Rattle.core_state.specs.declared.stop.Stop.{Stop}
-use Rattle.core_state.specs.declared.stop.Stop.TheVariants.{Refused, NoMemory, DiskFailed}
+use Rattle.store_stops.specs.declared.stop.Stop.{Stop}
+use Rattle.store_stops.specs.declared.stop.Stop.TheVariants.{Refused, NoMemory, DiskFailed}
 
 -- the refusal is one of these, and has a spelling
 abbrev pub RefusesBy : (Refusal → Bool) → Refusal → Type 0

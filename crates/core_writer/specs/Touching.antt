@@ -9,7 +9,7 @@ use Rattle.store_history.specs.declared.act.Act.{Act}
 use Rattle.store_history.specs.declared.act.Act.TheVariants.{Plain}
 use Rattle.store_history.specs.LastTouches.{SameTouches, is_one_of, touched_by}
 use Rattle.core_state.specs.declared.entering.Place.{Place}
-use Rattle.core_state.specs.declared.stop.Stop.{Stop}
+use Rattle.store_stops.specs.declared.stop.Stop.{Stop}
 use Rattle.core_state.specs.declared.upkeep.Upkeep.{Upkeep}
 use Rattle.core_state.specs.Settles.{reply_by}
 use Rattle.core_state.specs.Stops.{told}

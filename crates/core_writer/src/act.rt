@@ -17,13 +17,14 @@ use crate::finishing::finish;
 use crate::opening::open_writer;
 use crate::touching::{append_touched, chunk_touched};
 use core_state::{
-    Act, Admitted, Answer, Core, Family, Parts, Place, Stop, Upkeep, begin, end_session, enter,
+    Act, Admitted, Answer, Core, Family, Parts, Place, Upkeep, begin, end_session, enter,
     next_place, settle,
 };
 use core_uploads::{blob, close_index, new_dynamic, new_fixed, previous};
 use disk_trait::Disk;
 use port_traits::Clock;
 use std::alloc::Global;
+use store_stops::Stop;
 use store_types::END_KIND;
 use wire_commands::{Command, Reply};
 

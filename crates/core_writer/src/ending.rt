@@ -9,9 +9,10 @@ ghost use Rattle.core_state.specs.Stops.{ended_as};
 ghost use Rattle.core_state.specs.Wanted.{session_at};
 ghost use Rattle.core_writer.specs.Ended.{files_in};
 
-use core_state::{Parts, Place, Session, Stop, StoredFile, end_session};
+use core_state::{Parts, Place, Session, StoredFile, end_session};
 use disk_trait::{Disk, Failed};
 use snapshot_files::remove_files;
+use store_stops::Stop;
 use wire_commands::Reply;
 
 /// The files of the session's writer, the manifest among them.

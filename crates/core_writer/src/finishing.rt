@@ -13,11 +13,12 @@ ghost use Rattle.core_state.specs.Replies.{refuses_finish};
 ghost use Rattle.core_writer.specs.Finished.{ChecksPlainly, lent_file, manifest_among, manifest_in};
 ghost use Rattle.core_writer.specs.Stopping.{StopsBy};
 
-use core_state::{Catalogue, Kept, Listed, Parts, Place, Session, Stop, StoredFile, Writing};
+use core_state::{Catalogue, Kept, Listed, Parts, Place, Session, StoredFile, Writing};
 use disk_trait::Disk;
 use snapshot_files::FilePath;
 use std::alloc::Global;
 use std::mem;
+use store_stops::{Stop, answered};
 use store_types::Refusal;
 use wire_commands::Reply;
 
@@ -27,7 +28,7 @@ fn check(w: &Writing, alloc: Global) -> Result<(), Stop>
     ensures stop { IfErr result (StopsBy refuses_finish) }
     ensures plain { ChecksPlainly w.now.session.writer result }
 {
-    w.session.finish_check(alloc)??;
+    answered(w.session.finish_check(alloc))?;
     Ok(())
 }
 

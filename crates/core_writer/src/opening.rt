@@ -17,10 +17,11 @@ ghost use Rattle.core_writer.specs.Opened.{LendsBase, TakesBase, TellsBase, base
 ghost use Rattle.core_writer.specs.Stopping.{RefusesBy, StopsBy};
 
 use crate::testing::{want_newer, want_room};
-use core_state::{Catalogue, Parts, Place, Session, Stop, Writing};
+use core_state::{Catalogue, Parts, Place, Session, Writing};
 use disk_trait::Disk;
 use lock_book::LockBook;
 use std::alloc::{AllocError, Global};
+use store_stops::Stop;
 use store_types::{Bytes, GroupKey, Refusal, Rows, SnapshotKey};
 use wire_commands::Reply;
 

@@ -8,10 +8,11 @@ ghost use Rattle.core_state.specs.Commands.{ActDoes, ActLeaves, PlainDoes, Plain
 ghost use Rattle.core_writer.specs.Touching.{ActTouches, EndsEntry, MakesEntry, PlainTouches, TouchesNamed};
 
 use atime_book::Book;
-use core_state::{Parts, Place, Stop, Upkeep};
+use core_state::{Parts, Place, Upkeep};
 use core_uploads::{append, chunk};
 use disk_trait::Disk;
 use std::alloc::{AllocError, Global};
+use store_stops::Stop;
 use store_types::{AppendEntry, Bytes, Digest32, Refusal};
 use wire_commands::Reply;
 

@@ -1,10 +1,10 @@
 //! One disk a folder, or several that only read it.
 
 use crate::asserts::{same, same_at};
-use crate::maps::{CHANGES, Change, folder_at, make, read, try_list};
-use disk_trait::{Disk, DiskError, Failed};
+use crate::maps::{ALL_FAIL, folder_at};
+use crate::sessions::play;
 use file_disk::{AtOnce, FileDisk};
-use std::alloc::{AllocError, Global};
+use std::alloc::AllocError;
 use std::fs;
 use std::process::Abort;
 use std::test::Fail;
@@ -20,94 +20,78 @@ fn shared_at<'a, R: Threads + Sync>(
     FileDisk::shared(rt, AtOnce::new(rt, threads), rt.alloc(), root)
 }
 
-// Each change fails.
-fn try_changes<D: Disk>(rt: &impl Abort, alloc: Global, disk: &mut D, changes: &[Change]) {
-    for (row, change) in changes.iter().enumerate() {
-        let outcome = make(rt, alloc, disk, *change);
-        same_at(rt, row, outcome, Err(DiskError::Failed));
-    }
+// Each call of another disk fails.
+fn try_others<R: Threads + Sync + Abort>(rt: HostRuntime, threads: &R) -> Result<(), Fail> {
+    let mut second = folder_at(rt, threads, ROOT)?;
+    play(threads, rt.alloc(), &mut second, ALL_FAIL)?;
+    let mut third = shared_at(rt, threads, ROOT)?;
+    play(threads, rt.alloc(), &mut third, ALL_FAIL)
 }
 
-// Each call fails.
-fn try_all_fail<D: Disk>(rt: &impl Abort, alloc: Global, disk: &mut D) {
-    try_changes(rt, alloc, disk, &CHANGES);
-    same(rt, disk.size("a"), Err(Failed));
-    same(rt, disk.read_part("a", 0, &mut []), Err(Failed));
-    same(rt, read(alloc, disk, "a").is_err(), true);
-    same(rt, disk.list(alloc, "").is_err(), true);
-    same(rt, disk.faults(), disk.calls());
-}
+const BEHIND: &str = "\
+list '' = a
+put b two = done
+sync = done
+faults = 0";
 
-// The first has the folder, so each call of the others fails.
-fn try_beside<A: Disk, B: Disk, C: Disk>(
-    rt: &impl Abort,
-    alloc: Global,
-    first: &mut A,
-    second: &mut B,
-    third: &mut C,
-) -> Result<(), Fail> {
-    first.put(alloc, "a", b"one")?;
-    try_all_fail(rt, alloc, second);
-    try_all_fail(rt, alloc, third);
-    try_list(rt, alloc, first, "", "a")?;
-    first.put(alloc, "b", b"two")?;
-    first.sync()?;
-    same(rt, first.faults(), 0);
-    Ok(())
-}
-
+// The first has the folder from its first call on.
 fn try_alone<R: Threads + Sync + Abort>(rt: HostRuntime, threads: &R) -> Result<(), Fail> {
     let mut first = folder_at(rt, threads, ROOT)?;
-    let mut second = folder_at(rt, threads, ROOT)?;
-    let mut third = shared_at(rt, threads, ROOT)?;
-    try_beside(threads, rt.alloc(), &mut first, &mut second, &mut third)
+    play(threads, rt.alloc(), &mut first, "put a one = done")?;
+    try_others(rt, threads)?;
+    play(threads, rt.alloc(), &mut first, BEHIND)
 }
 
 // When it has gone, the next has it.
 fn try_next<R: Threads + Sync + Abort>(rt: HostRuntime, threads: &R) -> Result<(), Fail> {
     let mut next = folder_at(rt, threads, ROOT)?;
-    try_list(threads, rt.alloc(), &mut next, "", "a b")
+    play(threads, rt.alloc(), &mut next, "list '' = a b")
 }
 
-// Two read the folder, so each call of one that would have it fails.
-fn try_readers<A: Disk, B: Disk, C: Disk>(
-    rt: &impl Abort,
-    alloc: Global,
-    first: &mut A,
-    second: &mut B,
-    alone: &mut C,
-) -> Result<(), Fail> {
-    first.sync()?;
-    same(rt, first.size("a")?, Some(3));
-    try_list(rt, alloc, second, "", "a b")?;
-    try_all_fail(rt, alloc, alone);
-    // (its sync changes nothing)
-    try_changes(rt, alloc, second, &CHANGES[..3]);
-    try_list(rt, alloc, first, "", "a b")
+fn try_kept_out<R: Threads + Sync + Abort>(rt: HostRuntime, threads: &R) -> Result<(), Fail> {
+    let mut alone = folder_at(rt, threads, ROOT)?;
+    play(threads, rt.alloc(), &mut alone, ALL_FAIL)
 }
 
+// Its sync changes nothing.
+const NO_CHANGE: &str = "\
+put a one = failed
+rename a b = failed
+remove a = failed";
+
+// A second that reads the folder. Each call of one that would have it fails, and each change of its own.
+fn try_second<R: Threads + Sync + Abort>(rt: HostRuntime, threads: &R) -> Result<(), Fail> {
+    let mut second = shared_at(rt, threads, ROOT)?;
+    play(threads, rt.alloc(), &mut second, "list '' = a b")?;
+    try_kept_out(rt, threads)?;
+    play(threads, rt.alloc(), &mut second, NO_CHANGE)
+}
+
+// Two read the folder.
 fn try_shared<R: Threads + Sync + Abort>(rt: HostRuntime, threads: &R) -> Result<(), Fail> {
     let mut first = shared_at(rt, threads, ROOT)?;
-    let mut second = shared_at(rt, threads, ROOT)?;
-    let mut alone = folder_at(rt, threads, ROOT)?;
-    try_readers(threads, rt.alloc(), &mut first, &mut second, &mut alone)
+    play(threads, rt.alloc(), &mut first, "sync = done\nsize a = 3")?;
+    try_second(rt, threads)?;
+    play(threads, rt.alloc(), &mut first, "list '' = a b")
 }
 
-// Each change of one whose folder is no more there fails, and it finds no file.
-fn try_moved<D: Disk>(rt: &impl Abort, alloc: Global, disk: &mut D) {
-    try_changes(rt, alloc, disk, &CHANGES);
-    same(rt, disk.size("a"), Err(Failed));
-}
+// Each call of one whose folder is no more there fails, and it finds no file.
+const MOVED: &str = "\
+put a one = failed
+rename a b = failed
+remove a = failed
+sync = failed
+size a = failed";
 
 // The folder at the root is another than was locked.
 fn try_other<R: Threads + Sync + Abort>(rt: HostRuntime, threads: &R) -> Result<(), Fail> {
     let mut disk = folder_at(rt, threads, ROOT)?;
-    disk.sync()?;
+    play(threads, rt.alloc(), &mut disk, "sync = done")?;
     fs::rename(&rt, ROOT, "disk_tests_moved")?;
     fs::create_dir(&rt, ROOT)?;
-    try_moved(threads, rt.alloc(), &mut disk);
-    let moved = fs::read(&rt, "disk_tests_moved/a")?;
-    same(threads, moved.as_slice(), b"one");
+    play(threads, rt.alloc(), &mut disk, MOVED)?;
+    let moved = fs::read_to_string(&rt, "disk_tests_moved/a")?;
+    same_at(threads, ROOT, moved.as_str(), "one");
     same(threads, fs::read_dir(&rt, ROOT)?.count(), 0);
     fs::remove_dir_all(&rt, "disk_tests_moved")?;
     Ok(())

@@ -16,4 +16,6 @@ mod maps;
 #[cfg(test)]
 mod refused;
 #[cfg(test)]
+mod sessions;
+#[cfg(test)]
 mod watched;

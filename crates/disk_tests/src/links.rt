@@ -1,9 +1,8 @@
 //! Links, and folders in the place of files: each call that meets one fails, and nothing is changed behind it.
 
 use crate::asserts::same_at;
-use crate::maps::{Change, folder_at, listed, make, read, try_list};
-use disk_trait::{Disk, DiskError, Failed};
-use std::alloc::Global;
+use crate::maps::folder_at;
+use crate::sessions::{parted, play, play_at};
 use std::fs;
 use std::os::unix::fs::symlink;
 use std::process::Abort;
@@ -14,41 +13,34 @@ const ROOT: &str = "disk_tests_linked";
 
 const OUTSIDE: &str = "disk_tests_outside";
 
-// Where a link stands below the root, what it leads to from there, and a name that it is met at.
-static LINKS: [(&str, &str, &str); 6] = [
-    // in the place of a folder, the outermost and the innermost
-    ("host", "../disk_tests_outside/host", "host/a/m"),
-    ("host/a", "../../disk_tests_outside/host/a", "host/a/m"),
-    // of a file: to one, to nothing, and to a folder
-    ("host/m", "../../disk_tests_outside/host/a/m", "host/m"),
-    ("book.tmp", "../disk_tests_outside/none", "book.tmp"),
-    ("host/f", "a", "host/f"),
-    // in a circle
-    ("c", "c", "c"),
-];
+// Where a link stands below the root, what it leads to from there, and a name that it is met at: in the place of a folder, the
+// outermost and the innermost; of a file: to one, to nothing, and to a folder; in a circle.
+const LINKS: &str = "\
+host ../disk_tests_outside/host host/a/m
+host/a ../../disk_tests_outside/host/a host/a/m
+host/m ../../disk_tests_outside/host/a/m host/m
+book.tmp ../disk_tests_outside/none book.tmp
+host/f a host/f
+c c c";
 
-// Each call that meets a name fails.
-fn try_name<D: Disk>(
-    rt: &impl Abort,
-    alloc: Global,
-    disk: &mut D,
-    name: &'static str,
-) -> Result<(), Fail> {
-    same_at(rt, name, disk.size(name), Err(Failed));
-    same_at(rt, name, disk.read_part(name, 0, &mut [0]), Err(Failed));
-    same_at(rt, name, read(alloc, disk, name).is_err(), true);
-    let changes = [
-        Change::Put(name, b"new"),
-        Change::Rename(name, "new"),
-        Change::Rename("old", name),
-        Change::Remove(name),
-    ];
-    for change in changes {
-        let outcome = make(rt, alloc, disk, change);
-        same_at(rt, name, outcome, Err(DiskError::Failed));
-    }
-    Ok(())
-}
+// Each call that meets a name.
+const MET: &str = "\
+size NAME = failed
+part NAME 0 1 = failed
+read NAME = failed
+put NAME new = failed
+rename NAME new = failed
+rename old NAME = failed
+remove NAME = failed";
+
+// A link is met by a listing that it is below, and by the walk of the first sync.
+const MET_BELOW: &str = "\
+list '' = failed
+list NAME = failed
+sync = failed
+size old = 3
+calls = 11
+faults = 10";
 
 // A root with a file `old`, a folder `host/a` and a link, which leads to a folder beside it.
 fn make_linked(rt: HostRuntime, link: &str, to: &str) -> Result<(), Fail> {
@@ -69,41 +61,29 @@ fn make_linked(rt: HostRuntime, link: &str, to: &str) -> Result<(), Fail> {
     Ok(())
 }
 
-// A link is met by a listing that it is below, and by the walk of the first sync. Outside nothing has changed.
-fn try_met<A: Disk, B: Disk>(
-    rt: &impl Abort,
-    alloc: Global,
-    disk: &mut A,
-    outside: &mut B,
-    name: &'static str,
-) -> Result<(), Fail> {
-    try_name(rt, alloc, disk, name)?;
-    same_at(rt, name, disk.list(alloc, "").is_err(), true);
-    same_at(rt, name, disk.list(alloc, name).is_err(), true);
-    same_at(rt, name, disk.sync(), Err(Failed));
-    same_at(rt, name, disk.size("old")?, Some(3));
-    same_at(rt, name, disk.faults(), disk.calls().saturating_sub(1));
-    same_at(rt, name, listed(alloc, outside, "")?.as_str(), "host/a/m");
-    Ok(())
-}
-
+// Outside nothing has changed.
 fn try_link<R: Threads + Sync + Abort>(
     rt: HostRuntime,
     threads: &R,
-    name: &'static str,
+    name: &str,
 ) -> Result<(), Fail> {
+    let alloc = rt.alloc();
     let mut disk = folder_at(rt, threads, ROOT)?;
+    play_at(threads, alloc, &mut disk, name, MET)?;
+    play_at(threads, alloc, &mut disk, name, MET_BELOW)?;
     let mut outside = folder_at(rt, threads, OUTSIDE)?;
-    try_met(threads, rt.alloc(), &mut disk, &mut outside, name)
+    play(threads, alloc, &mut outside, "list '' = host/a/m")
 }
 
 #[test]
 fn no_link_is_followed(rt: HostRuntime) -> Result<(), Fail> {
-    for (link, to, name) in &LINKS {
+    for line in LINKS.lines() {
+        let (link, rest) = parted(line);
+        let (to, name) = parted(rest);
         make_linked(rt, link, to)?;
         try_link(rt, &rt, name)?;
-        let kept = fs::read(&rt, "disk_tests_outside/host/a/m")?;
-        same_at(&rt, *name, kept.as_slice(), b"kept");
+        let kept = fs::read_to_string(&rt, "disk_tests_outside/host/a/m")?;
+        same_at(&rt, line, kept.as_str(), "kept");
     }
     fs::remove_dir_all(&rt, ROOT)?;
     fs::remove_dir_all(&rt, OUTSIDE)?;
@@ -111,10 +91,15 @@ fn no_link_is_followed(rt: HostRuntime) -> Result<(), Fail> {
 }
 
 // A folder stands where a file should be. It may be listed.
-fn try_folder_as_file<D: Disk>(rt: &impl Abort, alloc: Global, disk: &mut D) -> Result<(), Fail> {
-    disk.sync()?;
-    try_name(rt, alloc, disk, "m")?;
-    try_list(rt, alloc, disk, "", "old")
+fn try_folder_as_file<R: Threads + Sync + Abort>(
+    rt: HostRuntime,
+    threads: &R,
+    root: &str,
+) -> Result<(), Fail> {
+    let mut disk = folder_at(rt, threads, root)?;
+    play(threads, rt.alloc(), &mut disk, "sync = done")?;
+    play_at(threads, rt.alloc(), &mut disk, "m", MET)?;
+    play(threads, rt.alloc(), &mut disk, "list '' = old")
 }
 
 #[test]
@@ -123,7 +108,7 @@ fn a_folder_is_no_file(rt: HostRuntime) -> Result<(), Fail> {
     let _ = fs::remove_dir_all(&rt, root);
     fs::create_dir_all(&rt, "disk_tests_as_file/m")?;
     fs::write(&rt, "disk_tests_as_file/old", b"old")?;
-    try_folder_as_file(&rt, rt.alloc(), &mut folder_at(rt, &rt, root)?)?;
+    try_folder_as_file(rt, &rt, root)?;
     fs::remove_dir_all(&rt, root)?;
     Ok(())
 }

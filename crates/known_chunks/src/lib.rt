@@ -95,7 +95,7 @@ impl Known {
         let _ = self.lengths.remove(digest);
     }
 
-    /// The chunk's length, or `None` exactly where the chunk was never added. It takes no memory.
+    /// The chunk's length, or `None` exactly where the chunk is not there. It takes no memory.
     pub fn find(&self, digest: &Digest32) -> Option<u32>
         ensures { result ≡ get self.now digest.now.0 }
     {

@@ -1,19 +1,23 @@
-//! The tests of the plain store and of jobs: snapshots that are read, also beside an opening of the core; lanes that are woven,
-//! pulls among them; and prunes and verifies step by step.
+//! The tests of the plain store and of jobs: snapshots that are read; lanes that are woven, collections and jobs among them; and prunes
+//! and verifies step by step.
 #![tactic(auto)]
 
 #[cfg(test)]
 mod asserts;
 #[cfg(test)]
-mod jobs;
+mod folders;
 #[cfg(test)]
 mod loading;
+#[cfg(test)]
+mod order;
 #[cfg(test)]
 mod prunes;
 #[cfg(test)]
 mod pulls;
 #[cfg(test)]
 mod reading;
+#[cfg(test)]
+mod steps;
 #[cfg(test)]
 mod verifies;
 #[cfg(test)]

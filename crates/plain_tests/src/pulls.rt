@@ -1,20 +1,43 @@
-//! SYNCs in a replay, with what is told in bytes: the order of a session beside a remote gives the replies of that session.
+//! Collections and jobs in a replay: the order of a session, beside a remote where there is one, gives the replies of that session.
 
-use crate::asserts::same;
-use crate::weaving::asked;
-use disk_trait::{Disk, MemoryDisk};
-use plain_store::{Misfit, Plain, Woven};
-use std::alloc::{AllocError, Global};
-use std::process::Abort;
+use crate::folders::File;
+use crate::weaving::{ONE, Talk, try_talks};
 use std::test::Fail;
-use store_model::Ending;
-use store_types::{Bytes, Entry};
 
-/// Files of a datastore: their names, and what they have behind zeros up to 4,096 bytes, where a front stands before those.
-type Files = &'static [(&'static str, &'static [u8], &'static [u8])];
+/// GC, VERIFY of the snapshot and SYNC of the group, each with BYE behind it: a collector opens, acts twice, and closes; a reader is opened,
+/// the files are told, the manifest is read, and the reader is closed; the remote's snapshots are read, a writer is opened, and the manifest
+/// and FINISH are sent.
+static JOBS: [Talk; 3] = [
+    Talk {
+        here: ONE,
+        there: None,
+        order: b"31146",
+        sent: b"\x01\0\0\0$\x01\0\0\0?",
+        told: b")\0\0\0\0\0\0\0\0\0\0\0\0\0\0\0\0\0\0\0\0\0\0\0\0\0\0\0\0\0\0\0\0\0\0\0\0\0\0\0\0\0\0\0\0\x01\0\0\0\0",
+    },
+    Talk {
+        here: ONE,
+        there: None,
+        order: b"00006",
+        sent: b"\x1d\0\0\0\"\x1bhost/a/2020-01-15T06:30:03Z\x01\0\0\0?",
+        told: b"\x13\0\0\0\0\x01\0\0\0\0\0\0\0\0\0\0\0\0\0\0\0\0\0\x01\0\0\0\0",
+    },
+    Talk {
+        here: &[],
+        there: Some(ONE),
+        order: b"1001006",
+        sent: b"\x08\0\0\0#\x06host/a\x01\0\0\0?",
+        told: b"\x1f\0\0\0\0\x01\0\x1bhost/a/2020-01-15T06:30:03Z\x01\0\0\0\0",
+    },
+];
+
+#[test]
+fn jobs_are_done(rt: HostRuntime) -> Result<(), Fail> {
+    try_talks(&rt, rt.alloc(), &JOBS)
+}
 
 /// A snapshot of a blob and an archive, with its chunks.
-static WHOLE: Files = &[
+const WHOLE: &[File] = &[
     (
         "host/a/2020-01-15T06:30:03Z/index.json.blob",
         b"",
@@ -43,275 +66,120 @@ static WHOLE: Files = &[
 ];
 
 /// Snapshots without files but their manifests, at ten and eleven o'clock.
-static AT_TEN: Files = &[(
+const AT_TEN: File = (
     "host/a/2020-01-15T10:00:00Z/index.json.blob",
     b"",
     b"B\xab8\x07\xbe\x83p\xa1\x17\xe6\x08\xca{\"backup-id\":\"a\",\"backup-time\":1579082400,\"backup-type\":\"host\",\"files\":[]}",
-)];
+);
 
-static AT_ELEVEN: Files = &[(
+const AT_ELEVEN: File = (
     "host/a/2020-01-15T11:00:00Z/index.json.blob",
     b"",
     b"B\xab8\x07\xbe\x83p\xa1?\xe8\x0b\x9c{\"backup-id\":\"a\",\"backup-time\":1579086000,\"backup-type\":\"host\",\"files\":[]}",
-)];
+);
 
-/// A snapshot whose manifest lists itself, and one whose manifest is another's.
-static LISTS_ITSELF: Files = &[(
+const TEN: &[File] = &[AT_TEN];
+
+const BOTH: &[File] = &[AT_TEN, AT_ELEVEN];
+
+/// A snapshot whose manifest lists itself.
+const LISTS_ITSELF: &[File] = &[(
     "host/a/2020-01-15T10:00:00Z/index.json.blob",
     b"",
     b"B\xab8\x07\xbe\x83p\xa1$Av\xb5{\"backup-id\":\"a\",\"backup-time\":1579082400,\"backup-type\":\"host\",\"files\":[{\"crypt-mode\":\"none\",\"csum\":\"0000000000000000000000000000000000000000000000000000000000000000\",\"filename\":\"index.json.blob\",\"size\":1}]}",
 )];
-
-/// The store of the datastore with these files.
-fn store_of(alloc: Global, parts: &[Files]) -> Result<Plain, Fail> {
-    let mut disk = MemoryDisk::new(alloc);
-    for files in parts {
-        put_files(alloc, &mut disk, files)?;
-    }
-    Ok(Plain::load(alloc, &mut disk)?)
-}
-
-fn put_files(alloc: Global, disk: &mut MemoryDisk, files: Files) -> Result<(), Fail> {
-    for (name, front, rest) in files {
-        let mut file = front.to_vec(alloc)?;
-        if !file.is_empty() {
-            file.resize(4096, 0)?;
-        }
-        file.extend_from_slice(rest)?;
-        if name.len() <= 255 {
-            disk.put(alloc, name, &file)?;
-        }
-    }
-    Ok(())
-}
-
-/// A step or a command, a read of the remote, one that fails, a want of memory, a fault of the disk, and the lane's end.
-const STEP: Entry = Entry {
-    lane: 0,
-    moment: 1_600_000_000,
-    kind: 0,
-};
-
-const READ: Entry = Entry { kind: 1, ..STEP };
-
-const READ_FAILS: Entry = Entry { kind: 7, ..STEP };
-
-const SHORT: Entry = Entry { kind: 2, ..STEP };
-
-const FAULT: Entry = Entry { kind: 5, ..STEP };
-
-const END: Entry = Entry { kind: 6, ..STEP };
-
-/// What is told to the lane.
-fn same_told(rt: &impl Abort, woven: Result<Woven, Misfit>, wanted: &[u8]) -> Result<(), Fail> {
-    let woven = woven.ok().ok_or("a misfit")?;
-    let told = woven.replies.as_slice().first().ok_or("no lane")?;
-    same(rt, told.as_slice(), wanted);
-    Ok(())
-}
 
 /// SYNC of the group, and GROUP of it; the same behind a SYNC before.
 const SYNC: &[u8] = b"\x08\0\0\0#\x06host/a\x08\0\0\0(\x06host/a";
 
 const TWICE: &[u8] = b"\x08\0\0\0#\x06host/a\x08\0\0\0#\x06host/a\x08\0\0\0(\x06host/a";
 
-/// Without a remote a SYNC is refused, behind the test of its group.
-static WITHOUT: [(&[u8], &[u8]); 2] = [
-    (b"\x08\0\0\0#\x06host/a", b"\x01\0\0\0\x1d"),
-    (b"\x06\0\0\0#\x04host", b"\x01\0\0\0\x04"),
+/// Without a remote a SYNC is refused, behind the test of its group. One is here, and one more on the remote: it is pulled, and then none.
+/// A blob and an archive are pulled.
+static PULLED: [Talk; 4] = [
+    Talk {
+        here: &[],
+        there: None,
+        order: b"06",
+        sent: b"\x08\0\0\0#\x06host/a",
+        told: b"\x01\0\0\0\x1d",
+    },
+    Talk {
+        here: &[],
+        there: None,
+        order: b"06",
+        sent: b"\x06\0\0\0#\x04host",
+        told: b"\x01\0\0\0\x04",
+    },
+    Talk {
+        here: TEN,
+        there: Some(BOTH),
+        order: b"1001001006",
+        sent: TWICE,
+        told: b"\x1f\0\0\0\0\x01\0\x1bhost/a/2020-01-15T11:00:00Z\x03\0\0\0\0\0\0;\0\0\0\0\x02\0\x1bhost/a/2020-01-15T10:00:00Z\x1bhost/a/2020-01-15T11:00:00Z",
+    },
+    Talk {
+        here: &[],
+        there: Some(WHOLE),
+        order: b"100110101010000006",
+        sent: SYNC,
+        told: b"\x1f\0\0\0\0\x01\0\x1bhost/a/2020-01-15T06:30:03Z\x1f\0\0\0\0\x01\0\x1bhost/a/2020-01-15T06:30:03Z",
+    },
 ];
 
 #[test]
-fn a_pull_wants_a_remote(rt: HostRuntime) -> Result<(), Fail> {
-    let alloc = rt.alloc();
-    let store = store_of(alloc, &[])?;
-    for (input, told) in &WITHOUT {
-        same_told(&rt, asked(alloc, &store, input)?, told)?;
-    }
-    Ok(())
-}
-
-/// One is here, and one more on the remote: it is pulled, and then none.
-#[tactic(auto, unfolding(store_files::specs::Order::keeps_rules))]
-fn later(
-    alloc: Global,
-    store: &Plain,
-    remote: &Plain,
-) -> Result<Result<Woven, Misfit>, AllocError> {
-    let input = Bytes::from_slice(alloc, TWICE)?;
-    store.weave(
-        alloc,
-        Some(remote),
-        &[READ, STEP, STEP, READ, STEP, STEP, READ, STEP, STEP, END],
-        &[input],
-        &[Ending::Clean],
-    )
-}
-
-#[test]
 fn the_later_is_pulled(rt: HostRuntime) -> Result<(), Fail> {
-    let alloc = rt.alloc();
-    let store = store_of(alloc, &[AT_TEN])?;
-    let remote = store_of(alloc, &[AT_TEN, AT_ELEVEN])?;
-    let woven = later(alloc, &store, &remote)?;
-    same_told(
-        &rt,
-        woven,
-        b"\x1f\0\0\0\0\x01\0\x1bhost/a/2020-01-15T11:00:00Z\x03\0\0\0\0\0\0;\0\0\0\0\x02\0\x1bhost/a/2020-01-15T10:00:00Z\x1bhost/a/2020-01-15T11:00:00Z",
-    )
+    try_talks(&rt, rt.alloc(), &PULLED)
 }
 
-/// The steps of a snapshot of a blob and an archive.
-#[tactic(auto, unfolding(store_files::specs::Order::keeps_rules))]
-fn pulled_whole(
-    alloc: Global,
-    store: &Plain,
-    remote: &Plain,
-) -> Result<Result<Woven, Misfit>, AllocError> {
-    let input = Bytes::from_slice(alloc, SYNC)?;
-    store.weave(
-        alloc,
-        Some(remote),
-        &[
-            READ, STEP, STEP, READ, READ, STEP, READ, STEP, READ, STEP, READ, STEP, STEP, STEP,
-            STEP, STEP, STEP, END,
-        ],
-        &[input],
-        &[Ending::Clean],
-    )
-}
-
-#[test]
-fn a_snapshot_is_pulled_whole(rt: HostRuntime) -> Result<(), Fail> {
-    let alloc = rt.alloc();
-    let store = store_of(alloc, &[])?;
-    let remote = store_of(alloc, &[WHOLE])?;
-    let woven = pulled_whole(alloc, &store, &remote)?;
-    same_told(
-        &rt,
-        woven,
-        b"\x1f\0\0\0\0\x01\0\x1bhost/a/2020-01-15T06:30:03Z\x1f\0\0\0\0\x01\0\x1bhost/a/2020-01-15T06:30:03Z",
-    )
-}
-
-/// A list, or the read of the second snapshot's manifest, fails; memory is wanting as it is begun; the disk fails at its FINISH.
-#[tactic(auto, unfolding(store_files::specs::Order::keeps_rules))]
-fn list_fails(
-    alloc: Global,
-    store: &Plain,
-    remote: &Plain,
-) -> Result<Result<Woven, Misfit>, AllocError> {
-    let input = Bytes::from_slice(alloc, SYNC)?;
-    store.weave(
-        alloc,
-        Some(remote),
-        &[READ_FAILS, STEP, END],
-        &[input],
-        &[Ending::Clean],
-    )
-}
-
-#[tactic(auto, unfolding(store_files::specs::Order::keeps_rules))]
-fn read_fails(
-    alloc: Global,
-    store: &Plain,
-    remote: &Plain,
-) -> Result<Result<Woven, Misfit>, AllocError> {
-    let input = Bytes::from_slice(alloc, SYNC)?;
-    store.weave(
-        alloc,
-        Some(remote),
-        &[
-            READ, STEP, STEP, READ, STEP, STEP, STEP, READ_FAILS, STEP, STEP, END,
-        ],
-        &[input],
-        &[Ending::Clean],
-    )
-}
-
-#[tactic(auto, unfolding(store_files::specs::Order::keeps_rules))]
-fn lacks_memory(
-    alloc: Global,
-    store: &Plain,
-    remote: &Plain,
-) -> Result<Result<Woven, Misfit>, AllocError> {
-    let input = Bytes::from_slice(alloc, SYNC)?;
-    store.weave(
-        alloc,
-        Some(remote),
-        &[
-            READ, STEP, STEP, READ, STEP, STEP, STEP, READ, SHORT, STEP, STEP, END,
-        ],
-        &[input],
-        &[Ending::Clean],
-    )
-}
-
-#[tactic(auto, unfolding(store_files::specs::Order::keeps_rules))]
-fn finish_fails(
-    alloc: Global,
-    store: &Plain,
-    remote: &Plain,
-) -> Result<Result<Woven, Misfit>, AllocError> {
-    let input = Bytes::from_slice(alloc, SYNC)?;
-    store.weave(
-        alloc,
-        Some(remote),
-        &[READ, STEP, STEP, READ, STEP, FAULT, FAULT, END],
-        &[input],
-        &[Ending::Clean],
-    )
-}
+/// A list, or the read of the second snapshot's manifest, fails; memory is wanting as it is begun; the disk fails at its FINISH. What was
+/// pulled before stays.
+static FAILED: [Talk; 4] = [
+    Talk {
+        here: &[],
+        there: Some(BOTH),
+        order: b"706",
+        sent: SYNC,
+        told: b"\x01\0\0\0\x1e\x03\0\0\0\0\0\0",
+    },
+    Talk {
+        here: &[],
+        there: Some(BOTH),
+        order: b"10010007006",
+        sent: SYNC,
+        told: b"\x01\0\0\0\x1e\x1f\0\0\0\0\x01\0\x1bhost/a/2020-01-15T10:00:00Z",
+    },
+    Talk {
+        here: &[],
+        there: Some(BOTH),
+        order: b"100100012006",
+        sent: SYNC,
+        told: b"\x01\0\0\0\x1c\x1f\0\0\0\0\x01\0\x1bhost/a/2020-01-15T10:00:00Z",
+    },
+    Talk {
+        here: &[],
+        there: Some(BOTH),
+        order: b"10010556",
+        sent: SYNC,
+        told: b"\x01\0\0\0\x1a\x09\0\0\0\x1b\x05\0\0\0\0\0\0\0",
+    },
+];
 
 #[test]
 fn what_was_pulled_before_stays(rt: HostRuntime) -> Result<(), Fail> {
-    let alloc = rt.alloc();
-    let store = store_of(alloc, &[])?;
-    let remote = store_of(alloc, &[AT_TEN, AT_ELEVEN])?;
-    let woven = list_fails(alloc, &store, &remote)?;
-    same_told(&rt, woven, b"\x01\0\0\0\x1e\x03\0\0\0\0\0\0")?;
-    let woven = read_fails(alloc, &store, &remote)?;
-    same_told(
-        &rt,
-        woven,
-        b"\x01\0\0\0\x1e\x1f\0\0\0\0\x01\0\x1bhost/a/2020-01-15T10:00:00Z",
-    )?;
-    let woven = lacks_memory(alloc, &store, &remote)?;
-    same_told(
-        &rt,
-        woven,
-        b"\x01\0\0\0\x1c\x1f\0\0\0\0\x01\0\x1bhost/a/2020-01-15T10:00:00Z",
-    )?;
-    let woven = finish_fails(alloc, &store, &remote)?;
-    same_told(
-        &rt,
-        woven,
-        b"\x01\0\0\0\x1a\x09\0\0\0\x1b\x05\0\0\0\0\0\0\0",
-    )
+    try_talks(&rt, rt.alloc(), &FAILED)
 }
 
-/// The manifest lists itself: it is sent as one of its files, and refused where it is sent as the manifest.
-#[tactic(auto, unfolding(store_files::specs::Order::keeps_rules))]
-fn listed_twice(
-    alloc: Global,
-    store: &Plain,
-    remote: &Plain,
-) -> Result<Result<Woven, Misfit>, AllocError> {
-    let input = Bytes::from_slice(alloc, SYNC)?;
-    store.weave(
-        alloc,
-        Some(remote),
-        &[READ, STEP, STEP, READ, READ, STEP, STEP, STEP, STEP, END],
-        &[input],
-        &[Ending::Clean],
-    )
-}
+/// A manifest that lists itself is sent as one of its files, and refused where it is sent as the manifest.
+static REFUSED: [Talk; 1] = [Talk {
+    here: &[],
+    there: Some(LISTS_ITSELF),
+    order: b"1001100006",
+    sent: SYNC,
+    told: b"\x01\0\0\0\x0a\x03\0\0\0\0\0\0",
+}];
 
 #[test]
 fn a_manifest_is_no_file_of_its_own(rt: HostRuntime) -> Result<(), Fail> {
-    let alloc = rt.alloc();
-    let store = store_of(alloc, &[])?;
-    let remote = store_of(alloc, &[LISTS_ITSELF])?;
-    let woven = listed_twice(alloc, &store, &remote)?;
-    same_told(&rt, woven, b"\x01\0\0\0\x0a\x03\0\0\0\0\0\0")
+    try_talks(&rt, rt.alloc(), &REFUSED)
 }

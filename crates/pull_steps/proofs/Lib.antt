@@ -7,4 +7,3 @@ pub mod Placed
 pub mod Entered
 pub mod Parts
 pub mod Steps
-pub mod Replies

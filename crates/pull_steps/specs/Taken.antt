@@ -1,5 +1,5 @@
 -- What a SYNC takes of the replies.
-use Rattle.std.specs.Prelude.{◌≡◌, ℕ, Bool, true, false, List, [], ◌∷◌, length, ⊤}
+use Rattle.std.specs.Prelude.{◌≡◌, ℕ, Bool, true, false, length}
 use Rattle.store_types.specs.declared.names.Digest32.{Digest32}
 use Rattle.store_types.specs.declared.refusal.ChunkFault.TheVariants.{Other}
 use Rattle.store_types.specs.declared.refusal.Refusal.TheVariants.{Damaged, RemoteFault, NoMemory}
@@ -8,7 +8,7 @@ use Rattle.wire_commands.specs.declared.reply.Reply.TheVariants.{Part, Data, Ref
 use Rattle.wire_commands.specs.HasText.{ReplyHasText}
 use Rattle.store_model.specs.JobReplies.{IsWithinGroup}
 use Rattle.store_history.specs.Pulling as model
-use Rattle.store_history.specs.Pulling.{SyncJob, reports, asks, take_more}
+use Rattle.store_history.specs.Pulling.{SyncJob, reports, asks}
 use Rattle.pull_steps.specs.Asked.{IsAsking}
 
 -- ---- the reads, whose replies are taken only where there is memory
@@ -35,10 +35,6 @@ IsReadOf job reply = ⊥
 abbrev pub IsReplyTo : SyncJob → Reply → Type 0
 IsReplyTo (asks (model.seeking group)) reply = IsWithinGroup reply × ReplyHasText reply
 IsReplyTo job reply = IsAsking job × ReplyHasText reply
-
-abbrev pub AreReplies : SyncJob → List Reply → Type 0
-AreReplies job [] = ⊤
-AreReplies job (r ∷ rs) = IsReplyTo job r × AreReplies (take_more job r) rs
 
 -- ---- the ends
 

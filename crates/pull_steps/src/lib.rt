@@ -19,4 +19,4 @@ mod stages;
 mod starting;
 
 pub use ask::Ask;
-pub use pull::{Pull, replay};
+pub use pull::Pull;

@@ -1,11 +1,11 @@
 //! A SYNC from its command to its report.
 
-ghost use Rattle.std.specs.Prelude.{◌≡◌, fold, Some, IfErr, IfOk, MatchResult, OnErr, OnOk};
+ghost use Rattle.std.specs.Prelude.{◌≡◌, Some, IfErr, IfOk, MatchResult, OnErr, OnOk};
 ghost use Rattle.wire_commands.specs.HasText.{ReplyHasText};
 ghost use Rattle.store_history.specs.Pulling.{asks, seeking, take_more};
 ghost use Rattle.pull_steps.specs.Asked.{AsksNext, IsAsking, IsOver, MayWant, report_of};
 ghost use Rattle.pull_steps.specs.States.{EndsInText, pull_in};
-ghost use Rattle.pull_steps.specs.Taken.{AreReplies, IsReadOf, IsReplyTo};
+ghost use Rattle.pull_steps.specs.Taken.{IsReadOf, IsReplyTo};
 
 use crate::ask::Ask;
 use crate::course::{Comparing, Course, Seeking};
@@ -14,7 +14,7 @@ use crate::stages::{AtEntry, FileRead, HasBlob, HasChunk, HasFiles, ManifestRead
 use std::alloc::{AllocError, Global};
 use std::marker::Model;
 use std::mem;
-use store_types::{Bytes, Refusal, Rows};
+use store_types::{Bytes, Refusal};
 use wire_commands::{Command, Reply};
 
 /// A SYNC of a lane.
@@ -192,25 +192,4 @@ impl State {
             State::Aborting(first) => Ok(aborted(first, &reply)),
         }
     }
-}
-
-/// Takes replies, one after another.
-fn take_all(alloc: Global, job: &mut Pull, replies: Vec<Reply>) -> Result<(), AllocError>
-    requires { AreReplies job.old replies.items }
-    ensures { OnOk result (job.new ≡ fold take_more job.old replies.items) }
-{
-    for reply in replies {
-        job.take(alloc, reply)?;
-    }
-    Ok(())
-}
-
-/// The SYNC of a group after these replies to what it asked.
-pub fn replay(alloc: Global, group: &[u8], replies: Rows<Reply>) -> Result<Pull, AllocError>
-    requires { AreReplies (asks (seeking group.now)) replies }
-    ensures { IfOk result (λ job. job ≡ fold take_more (asks (seeking group.now)) replies) }
-{
-    let mut job = Pull::start(alloc, group)?;
-    take_all(alloc, &mut job, replies.into_vec())?;
-    Ok(job)
 }

@@ -7,9 +7,11 @@ use Rattle.std.proofs.lemmas.List.{length-append}
 use Rattle.std.proofs.lemmas.Slice.Eq.{bytes_eq-Decides}
 use Rattle.sha2.specs.Sha256.{sha256}
 use Rattle.store_types.specs.declared.names.Digest32.{Digest32}
+use Rattle.store_stops.specs.Outcomes.{IfAnswered}
 use Rattle.store_types.specs.declared.refusal.Refusal.{Refusal}
 use Rattle.store_types.specs.declared.refusal.Refusal.TheVariants.{NotAllowed}
 use Rattle.store_types.specs.Chain.Refusing.{◌>>=◌, unless, or_else}
+use Rattle.store_stops.proofs.OutcomeLemmas.{weaker_cause}
 use Rattle.store_files.specs.Archive.{Archive, Content, archive, File, piece_with, pieces_of, ends_from}
 use Rattle.store_files.specs.DynamicIndex.{Ended}
 use Rattle.store_model.specs.Store.{Reader}
@@ -195,8 +197,11 @@ noted_also files a r s new name entries made shows is ends =
         (ap (λ x. map (shown_noted files) r.noted ++ x ∷ []) same ∙ sym (map_push (shown_noted files) r.noted name))
 
 -- the same under want of memory
-pub plan_told : {A E : Type 0} (show : A → List Part) (s : Reading) (name : List ℕ) (offset len : ℕ) (result : Result (Result A Refusal) E)
-    → IfOk result (Tells show (range_plan s name offset len)) → IfOk result (λ told. IfOk told (λ a. ReadsNoted (show a) (noted_as s name) offset len))
-    → IfOk result (λ told. (files : List File) → (r : Reader) → Shows s files r → TellsPlainly show (pieces_at files name) (range_of files r name offset len) told)
-plan_told show s name offset len (Ok told) does bytes = λ files r shows. plan_plainly show files r s name offset len told shows does bytes
-plan_told show s name offset len (Err e) does bytes = tt
+pub plan_told : {A : Type 0} (show : A → List Part) (s : Reading) (name : List ℕ) (offset len : ℕ) (result : Result A Refusal)
+    → IfAnswered result (Tells show (range_plan s name offset len)) → IfOk result (λ a. ReadsNoted (show a) (noted_as s name) offset len)
+    → IfAnswered result (λ told. (files : List File) → (r : Reader) → Shows s files r → TellsPlainly show (pieces_at files name) (range_of files r name offset len) told)
+plan_told show s name offset len (Ok a) does bytes = λ files r shows. plan_plainly show files r s name offset len (Ok a) shows does bytes
+plan_told show s name offset len (Err stop) does bytes =
+    weaker_cause (λ refusal. range_plan s name offset len ≡ Err refusal)
+    (λ refusal. (files : List File) → (r : Reader) → Shows s files r → TellsPlainly show (pieces_at files name) (range_of files r name offset len) (Err refusal)) stop
+    (λ refusal told. λ files r shows. plan_plainly show files r s name offset len (Err refusal) shows told tt) does

@@ -1,7 +1,8 @@
 -- What a plan answers.
-use Rattle.std.specs.Prelude.{◌≡◌, ◌<◌, ◌≤◌, ◌-◌, ◌^◌, ℕ, List, take, drop, Option, Some, Result, Ok, Err, IfOk, MatchResult, Vec}
+use Rattle.std.specs.Prelude.{◌≡◌, ◌<◌, ◌≤◌, ◌-◌, ◌^◌, ℕ, List, take, drop, Option, Some, Result, Ok, Err, MatchResult, Vec}
 use Rattle.std.specs.declared.alloc.Global.{Global}
 use Rattle.std.specs.List.{concat}
+use Rattle.store_stops.specs.Outcomes.{IfAnswered}
 use Rattle.store_types.specs.declared.refusal.Refusal.{Refusal}
 use Rattle.store_types.specs.declared.refusal.Refusal.TheVariants.{NotAllowed, TooMany, BadRange}
 use Rattle.store_files.specs.Archive.{ends_from, File}
@@ -44,13 +45,17 @@ TellsPlainly show pieces step told =
 
 -- ---- the plan of a range
 
+-- the answer is the step's parts or its refusal
+abbrev pub PlanDoes : Result (List Part) Refusal → Result (Vec Part Global) Refusal → Type 0
+PlanDoes step result = IfAnswered result (TellsParts step)
+
 -- the parts are the range of the archive of the name
-abbrev pub PlanReads : Reading → List ℕ → ℕ → ℕ → Result (Vec Part Global) Refusal → Type 0
-PlanReads r name offset len told = IfOk told (λ parts. ReadsNoted parts.items (noted_as r name) offset len)
+abbrev pub PlanReads : Reading → List ℕ → ℕ → ℕ → Vec Part Global → Type 0
+PlanReads r name offset len parts = ReadsNoted parts.items (noted_as r name) offset len
 
 -- they have no more bytes than the range, and that no more than a range may have
-abbrev pub PlanFits : ℕ → Result (Vec Part Global) Refusal → Type 0
-PlanFits len told = IfOk told (λ parts. (total_of parts.items ≤ len) × (len ≤ 4_194_304))
+abbrev pub PlanFits : ℕ → Vec Part Global → Type 0
+PlanFits len parts = (total_of parts.items ≤ len) × (len ≤ 4_194_304)
 
 -- of each plain reader that the reading stands for, they have the bytes that it answers
 abbrev pub PlanPlainly : Reading → List ℕ → ℕ → ℕ → Result (Vec Part Global) Refusal → Type 0

@@ -1,11 +1,12 @@
 //! A reader's calls.
 
-ghost use Rattle.std.specs.Prelude.{◌≡◌, List, [], option_map, IfOk, IfErr, OnOk, OnErr};
+ghost use Rattle.std.specs.Prelude.{◌≡◌, List, [], option_map, IfOk, OnOk, OnErr};
 ghost use Rattle.std.specs.List.{list_any, find};
 ghost use Rattle.std.specs.Str.{bytes_eq};
+ghost use Rattle.store_stops.specs.Outcomes.{IfAnswered, IfCause};
 ghost use Rattle.store_files.specs.Archive.{File};
 ghost use Rattle.store_files.specs.Entries.{ends_of, FitsIndex};
-ghost use Rattle.restore_reader.specs.Answers.{PlanFits, PlanPlainly, PlanReads, RefusesRange, TellsParts};
+ghost use Rattle.restore_reader.specs.Answers.{PlanDoes, PlanFits, PlanPlainly, PlanReads, RefusesRange};
 ghost use Rattle.restore_reader.specs.Shown.{Shows, ForShown, ShowsNoted};
 ghost use Rattle.restore_reader.specs.Shown as plain;
 ghost use Rattle.restore_reader.specs.Steps as steps;
@@ -125,13 +126,13 @@ impl Reader {
         name: &FileName,
         offset: u64,
         length: u32,
-    ) -> Result<Result<Vec<Part>, Refusal>, AllocError>
-        ensures does { IfOk result (TellsParts (steps.range_plan self.now name.now offset length)) }
+    ) -> Result<Vec<Part>, Refusal>
+        ensures does { PlanDoes (steps.range_plan self.now name.now offset length) result }
         // whatever pieces have these digests and lengths, the parts are the range of what they make
         ensures bytes { IfOk result (PlanReads self.now name.now offset length) }
         ensures total { IfOk result (PlanFits length) }
-        ensures plain { IfOk result (PlanPlainly self.now name.now offset length) }
-        ensures refusal { IfOk result (λ told. IfErr told RefusesRange) }
+        ensures plain { IfAnswered result (PlanPlainly self.now name.now offset length) }
+        ensures refusal { IfCause result RefusesRange }
     {
         self.plan(alloc, name, offset, length)
     }
@@ -143,19 +144,17 @@ impl Reader {
         name: &FileName,
         offset: u64,
         length: u32,
-    ) -> Result<Result<Vec<Part>, Refusal>, AllocError>
-        ensures does { IfOk result (TellsParts (steps.range_plan self.now name.now offset length)) }
+    ) -> Result<Vec<Part>, Refusal>
+        ensures does { PlanDoes (steps.range_plan self.now name.now offset length) result }
         ensures bytes { IfOk result (PlanReads self.now name.now offset length) }
         ensures total { IfOk result (PlanFits length) }
-        ensures refusal { IfOk result (λ told. IfErr told RefusesRange) }
+        ensures refusal { IfCause result RefusesRange }
     {
         let Some(index) = index_named(&self.indexes, name) else {
-            return Ok(Err(Refusal::NotAllowed));
+            return Err(Refusal::NotAllowed);
         };
-        if let Err(refusal) = want_range(index.size(), offset, length) {
-            return Ok(Err(refusal));
-        }
+        want_range(index.size(), offset, length)?;
         let parts = index.parts(alloc, offset, offset + length as u64)?;
-        Ok(Ok(parts))
+        Ok(parts)
     }
 }

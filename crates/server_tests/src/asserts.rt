@@ -1,10 +1,16 @@
-//! Assertions as calls. An `assert_eq!` is proved anew at each place where it is written out; a call costs next to nothing.
+//! Two assertions, of bytes and of numbers. An `assert_eq!` is proved anew at each place where it is written out, and a generic call at each
+//! type; these cost next to nothing.
 
-use std::fmt::Debug;
 use std::process::Abort;
 
 /// A failure shows both as one value: each that is formatted is proved by itself.
-pub(crate) fn same<T: PartialEq + Debug + Drop>(rt: &impl Abort, found: T, want: T) {
+pub(crate) fn same(rt: &impl Abort, found: &[u8], want: &[u8]) {
+    let is_same = found == want;
+    let shown = (found, want);
+    assert!(rt; is_same, "{shown:?}");
+}
+
+pub(crate) fn same_numbers(rt: &impl Abort, found: &[u64], want: &[u64]) {
     let is_same = found == want;
     let shown = (found, want);
     assert!(rt; is_same, "{shown:?}");

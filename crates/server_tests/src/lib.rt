@@ -4,8 +4,6 @@
 #[cfg(test)]
 mod asserts;
 #[cfg(test)]
-mod books;
-#[cfg(test)]
 mod lanes;
 #[cfg(test)]
 mod serving;

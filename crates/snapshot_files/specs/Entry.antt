@@ -8,8 +8,8 @@ use Rattle.store_types.specs.Chain.Refusing.{◌>>=◌, or_else, unless}
 use Rattle.store_types.specs.declared.refusal.Refusal.{Refusal}
 use Rattle.store_types.specs.declared.refusal.Refusal.TheVariants.{BadRange, Unreadable}
 use Rattle.store_files.specs.Cells.{header_len, entry_limit}
-use Rattle.snapshot_files.specs.declared.read_error.ReadError.{ReadError}
-use Rattle.snapshot_files.specs.Reads.{Gives}
+use Rattle.store_stops.specs.declared.stop.Stop.{Stop}
+use Rattle.store_stops.specs.Stops.{Gives}
 
 -- how long an entry of a fixed index is, and of a dynamic one
 abbrev pub entry_len : Bool → ℕ
@@ -53,6 +53,6 @@ unfoldable pub entry_at : Files → List ℕ → Bool → ℕ → Result Digest3
 entry_at content path is_fixed place = or_else (Unreadable path) (get content path) >>= λ text. entry_in path is_fixed text place
 
 -- of an honest disk: the digest is that of the entry of the file at the path, or the refusal
-abbrev pub ReadsEntry : {D : Type 0} → Ghosts D → D → List ℕ → Bool → ℕ → Result Digest32 ReadError → Type 0
+abbrev pub ReadsEntry : {D : Type 0} → Ghosts D → D → List ℕ → Bool → ℕ → Result Digest32 Stop → Type 0
 ReadsEntry d disk path is_fixed place result =
     d.honest disk → Gives (λ (digest : Digest32). digest) result (entry_at (d.content disk) path is_fixed place)

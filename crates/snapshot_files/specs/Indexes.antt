@@ -15,9 +15,9 @@ use Rattle.store_files.specs.Archive.{Layout, dynamic, fixed}
 use Rattle.dynamic_index.specs.Writing.{Known}
 use Rattle.store_files.specs.Entries.{ends_of}
 use Rattle.snapshot_files.specs.declared.index.IndexPart.{IndexPart}
-use Rattle.snapshot_files.specs.declared.read_error.ReadError.{ReadError}
+use Rattle.store_stops.specs.declared.stop.Stop.{Stop}
 use Rattle.snapshot_files.specs.Parts.{part_from}
-use Rattle.snapshot_files.specs.Reads.{Gives}
+use Rattle.store_stops.specs.Stops.{Gives}
 
 -- ---- entries
 
@@ -65,7 +65,7 @@ abbrev pub shown_index : IndexPart → Indexed
 shown_index p = record { part = p.part; entries = ends_of p.entries.items }
 
 -- of an honest disk: the part and the entries are those of the index at the path, or the refusal
-abbrev pub ReadsIndex : {D : Type 0} → Ghosts D → D → List ℕ → Bool → ℕ → Result IndexPart ReadError → Type 0
+abbrev pub ReadsIndex : {D : Type 0} → Ghosts D → D → List ℕ → Bool → ℕ → Result IndexPart Stop → Type 0
 ReadsIndex d disk path is_fixed offset result = d.honest disk → Gives shown_index result (index_at (d.content disk) path is_fixed offset)
 
 -- ---- lengths

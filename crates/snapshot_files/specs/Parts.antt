@@ -9,8 +9,8 @@ use Rattle.store_types.specs.declared.refusal.Refusal.TheVariants.{BadRange, Unr
 use Rattle.wire_commands.specs.declared.reply.Reply.{Reply}
 use Rattle.wire_commands.specs.declared.reply.Reply.TheVariants.{Part}
 use Rattle.store_model.specs.WriterSteps.{part_of}
-use Rattle.snapshot_files.specs.declared.read_error.ReadError.{ReadError}
-use Rattle.snapshot_files.specs.Reads.{Gives}
+use Rattle.store_stops.specs.declared.stop.Stop.{Stop}
+use Rattle.store_stops.specs.Stops.{Gives}
 
 -- a part of a file's text from an offset, or the refusal of the offset
 abbrev pub part_from : List ℕ → ℕ → Result Reply Refusal
@@ -41,5 +41,5 @@ IsPartOf path (Ok reply) = IsPart reply
 IsPartOf path (Err refusal) = RefusesPart path refusal
 
 -- of an honest disk: the part is that of the file at the path, or the refusal
-abbrev pub ReadsPart : {D : Type 0} → Ghosts D → D → List ℕ → ℕ → Result Reply ReadError → Type 0
+abbrev pub ReadsPart : {D : Type 0} → Ghosts D → D → List ℕ → ℕ → Result Reply Stop → Type 0
 ReadsPart d disk path offset result = d.honest disk → Gives (λ (part : Reply). part) result (part_at (d.content disk) path offset)

@@ -1,5 +1,5 @@
 -- What a read of a file gives, and why it gives nothing.
-use Rattle.std.specs.Prelude.{◌≡◌, ℕ, List, length, map, Some, Result, Ok, Err, IfOk, IsErrOf, String, string_bytes, Vec}
+use Rattle.std.specs.Prelude.{◌≡◌, ℕ, List, length, map, Some, Result, IfOk, IsErrOf, String, string_bytes, Vec}
 use Rattle.std.specs.declared.alloc.Global.{Global}
 use Rattle.std.specs.FinMap.{get}
 use Rattle.disk_trait.specs.Disk.{one_up}
@@ -7,32 +7,14 @@ use Rattle.disk_trait.specs.declared.disk.Disk.{Ghosts}
 use Rattle.disk_trait.specs.declared.disk.DiskError.{DiskError}
 use Rattle.disk_trait.specs.declared.disk.DiskError.TheVariants as disks
 use Rattle.disk_trait.specs.Files.{Files}
-use Rattle.store_types.specs.declared.refusal.Refusal.{Refusal}
 use Rattle.wire_commands.specs.HasText.{ReplyHasText}
 use Rattle.wire_commands.specs.declared.reply.Reply.TheVariants as replies
-use Rattle.snapshot_files.specs.declared.read_error.ReadError.{ReadError}
-use Rattle.snapshot_files.specs.declared.read_error.ReadError.TheVariants.{Refused, NoMemory, Failed}
-
-abbrev pub error_of : DiskError → ReadError
-error_of disks.NoMemory = NoMemory
-error_of disks.Failed = Failed
-
--- The value, or the refusal. Where memory is wanting or the disk failed nothing is said.
-abbrev pub Gives : {A B : Type 0} → (A → B) → Result A ReadError → Result B Refusal → Type 0
-Gives f (Ok x) wanted = wanted ≡ Ok (f x)
-Gives f (Err (Refused refusal)) wanted = wanted ≡ Err refusal
-Gives f (Err NoMemory) wanted = Unit {0}
-Gives f (Err Failed) wanted = Unit {0}
-
--- a refusal has this
-abbrev pub IfRefused : (Refusal → Type 0) → ReadError → Type 0
-IfRefused P (Refused refusal) = P refusal
-IfRefused P NoMemory = Unit {0}
-IfRefused P Failed = Unit {0}
+use Rattle.store_stops.specs.declared.stop.Stop.{Stop}
+use Rattle.store_stops.specs.Stops.{IfRefused}
 
 -- a refusal has a spelling
-abbrev pub ErrorHasText : ReadError → Type 0
-ErrorHasText e = IfRefused (λ refusal. ReplyHasText (replies.Refused refusal)) e
+abbrev pub StopHasText : Stop → Type 0
+StopHasText e = IfRefused (λ refusal. ReplyHasText (replies.Refused refusal)) e
 
 -- ---- what an honest disk holds, where it is read
 

@@ -4,12 +4,13 @@ ghost use Rattle.std.specs.Prelude.{◌≡◌, ◌≤◌, ◌<◌, IfErr, IfSome
 ghost use Rattle.disk_trait.specs.Effects.{OnlyReads};
 ghost use Rattle.snapshot_files.specs.Entry.{ReadsEntry, digest_offset, entry_len, entry_count as count_in};
 ghost use Rattle.snapshot_files.specs.Parts.{RefusesPart};
-ghost use Rattle.snapshot_files.specs.Reads.{ErrorHasText, IfRefused};
+ghost use Rattle.snapshot_files.specs.Reads.{StopHasText};
+ghost use Rattle.store_stops.specs.Stops.{IfRefused};
 
 use crate::parts::unreadable;
-use crate::read_error::ReadError;
 use disk_trait::Disk;
 use std::alloc::Global;
+use store_stops::Stop;
 use store_types::{Digest32, ENTRY_LIMIT, Refusal};
 
 /// The length of an index's header.
@@ -64,25 +65,25 @@ pub fn read_entry<D: Disk>(
     path: &str,
     is_fixed: bool,
     place: u32,
-) -> Result<Digest32, ReadError>
+) -> Result<Digest32, Stop>
     requires { length path.now ≤ 255 }
-    ensures reads { OnlyReads D.Disk disk.old disk.new (IsErrOf result ReadError.Failed) }
+    ensures reads { OnlyReads D.Disk disk.old disk.new (IsErrOf result Stop.DiskFailed) }
     ensures exact { ReadsEntry D.Disk disk.old path.now is_fixed place result }
     ensures kind { IfErr result (IfRefused (RefusesPart path.now)) }
-    ensures text { IfErr result ErrorHasText }
+    ensures text { IfErr result StopHasText }
 {
     let Some(size) = disk.size(path)? else {
-        return Err(ReadError::Refused(unreadable(alloc, path)?));
+        return Err(Stop::Refused(unreadable(alloc, path)?));
     };
     let Some(count) = entry_count(is_fixed, size) else {
-        return Err(ReadError::Refused(unreadable(alloc, path)?));
+        return Err(Stop::Refused(unreadable(alloc, path)?));
     };
     if u64::from(place) >= count {
-        return Err(ReadError::Refused(Refusal::BadRange { size: count }));
+        return Err(Stop::Refused(Refusal::BadRange { size: count }));
     }
     let mut digest = [0u8; 32];
     match disk.read_part(path, digest_at(is_fixed, place), &mut digest)? {
         Some(32) => Ok(Digest32(digest)),
-        _ => Err(ReadError::Refused(unreadable(alloc, path)?)),
+        _ => Err(Stop::Refused(unreadable(alloc, path)?)),
     }
 }

@@ -8,17 +8,18 @@ ghost use Rattle.store_model.specs.WriterSteps.{part_of as part_of_text};
 ghost use Rattle.dynamic_index.specs.Writing.{known_of};
 ghost use Rattle.store_files.specs.Entries.{FitsIndex, ends_of};
 ghost use Rattle.snapshot_files.specs.Parts.{IsPart, RefusesPart};
-ghost use Rattle.snapshot_files.specs.Reads.{ErrorHasText, Gives, IfRefused, OneCallWhere};
+ghost use Rattle.snapshot_files.specs.Reads.{StopHasText, OneCallWhere};
+ghost use Rattle.store_stops.specs.Stops.{Gives, IfRefused};
 ghost use Rattle.snapshot_files.specs.Entry.{IsNoIndexBySize};
 ghost use Rattle.snapshot_files.specs.Indexes.{entries_in as entries_of_text, ends_read, fixed_ends, index_in as index_of_text, lengths_from, shown_index, ReadsIndex};
 
 use crate::entry::entry_count;
 use crate::parts::unreadable;
-use crate::read_error::ReadError;
 use disk_trait::Disk;
 use dynamic_index::DynamicView;
 use fixed_index::FixedView;
 use std::alloc::{AllocError, Global};
+use store_stops::Stop;
 use store_types::{Bytes, Digest32, PART_LIMIT, Refusal};
 use wire_commands::Reply;
 
@@ -92,17 +93,17 @@ fn index_in(
     text: &[u8],
     is_fixed: bool,
     offset: u64,
-) -> Result<IndexPart, ReadError>
+) -> Result<IndexPart, Stop>
     requires path { length path.now ≤ 255 }
     requires offset { offset ≤ length text.now }
     ensures value { Gives shown_index result (index_of_text path.now is_fixed text.now offset) }
     ensures kind { MatchResult result (λ i. IsPart i.part) (IfRefused (RefusesPart path.now)) }
-    ensures text { MatchResult result (λ index. ReplyHasText index.part) ErrorHasText }
+    ensures text { MatchResult result (λ index. ReplyHasText index.part) StopHasText }
     ensures entries { IfOk result (λ index. FitsIndex (ends_of index.entries.items)) }
-    ensures cause { IsErrOf result ReadError.Failed → ⊥ }
+    ensures cause { IsErrOf result Stop.DiskFailed → ⊥ }
 {
     let Some(entries) = entries_in(alloc, text, is_fixed)? else {
-        return Err(ReadError::Refused(unreadable(alloc, path)?));
+        return Err(Stop::Refused(unreadable(alloc, path)?));
     };
     let part = part_of(alloc, text, offset)?;
     Ok(IndexPart { part, entries })
@@ -120,27 +121,27 @@ pub fn read_index<D: Disk>(
     path: &str,
     is_fixed: bool,
     offset: u64,
-) -> Result<IndexPart, ReadError>
+) -> Result<IndexPart, Stop>
     requires { length path.now ≤ 255 }
-    ensures reads { OnlyReads D.Disk disk.old disk.new (IsErrOf result ReadError.Failed) }
+    ensures reads { OnlyReads D.Disk disk.old disk.new (IsErrOf result Stop.DiskFailed) }
     ensures exact { ReadsIndex D.Disk disk.old path.now is_fixed offset result }
     ensures calls { OneCallWhere D.Disk disk.old disk.new path.now (IsNoIndexBySize is_fixed) }
     ensures kind { MatchResult result (λ i. IsPart i.part) (IfRefused (RefusesPart path.now)) }
-    ensures text { MatchResult result (λ index. ReplyHasText index.part) ErrorHasText }
+    ensures text { MatchResult result (λ index. ReplyHasText index.part) StopHasText }
     ensures entries { IfOk result (λ index. FitsIndex (ends_of index.entries.items)) }
 {
     let Some(total) = disk.size(path)? else {
-        return Err(ReadError::Refused(unreadable(alloc, path)?));
+        return Err(Stop::Refused(unreadable(alloc, path)?));
     };
     if offset > total {
-        return Err(ReadError::Refused(Refusal::BadRange { size: total }));
+        return Err(Stop::Refused(Refusal::BadRange { size: total }));
     }
     if entry_count(is_fixed, total).is_none() {
-        return Err(ReadError::Refused(unreadable(alloc, path)?));
+        return Err(Stop::Refused(unreadable(alloc, path)?));
     }
     match disk.read(alloc, path)? {
         Some(text) if text.len() as u64 >= total => index_in(alloc, path, &text, is_fixed, offset),
-        _ => Err(ReadError::Refused(unreadable(alloc, path)?)),
+        _ => Err(Stop::Refused(unreadable(alloc, path)?)),
     }
 }
 

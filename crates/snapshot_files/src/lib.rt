@@ -12,7 +12,6 @@ pub mod laws;
 mod parts;
 mod path;
 mod putting;
-mod read_error;
 mod scanning;
 
 pub use entry::read_entry;
@@ -23,5 +22,4 @@ pub use index::{IndexPart, lengths_of, read_index};
 pub use parts::read_part;
 pub use path::{FilePath, Stored, manifest_path_of, path_of};
 pub use putting::{finish, put_file};
-pub use read_error::ReadError;
 pub use scanning::{scan, scan_named};

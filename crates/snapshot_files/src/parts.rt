@@ -6,11 +6,12 @@ ghost use Rattle.store_types.specs.declared.refusal.Refusal.TheVariants.{Unreada
 ghost use Rattle.wire_commands.specs.HasText.{ReplyHasText};
 ghost use Rattle.wire_commands.specs.declared.reply.Reply.TheVariants.{Refused};
 ghost use Rattle.snapshot_files.specs.Parts.{FillsPart, IsPart, ReadsPart, RefusesPart};
-ghost use Rattle.snapshot_files.specs.Reads.{ErrorHasText, IfRefused};
+ghost use Rattle.snapshot_files.specs.Reads.{StopHasText};
+ghost use Rattle.store_stops.specs.Stops.{IfRefused};
 
-use crate::read_error::ReadError;
 use disk_trait::Disk;
 use std::alloc::{AllocError, Global};
+use store_stops::Stop;
 use store_types::{Bytes, PART_LIMIT, Refusal};
 use wire_commands::Reply;
 
@@ -42,19 +43,19 @@ pub fn read_part<D: Disk>(
     alloc: Global,
     path: &str,
     offset: u64,
-) -> Result<Reply, ReadError>
+) -> Result<Reply, Stop>
     requires { length path.now ≤ 255 }
-    ensures reads { OnlyReads D.Disk disk.old disk.new (IsErrOf result ReadError.Failed) }
+    ensures reads { OnlyReads D.Disk disk.old disk.new (IsErrOf result Stop.DiskFailed) }
     ensures exact { ReadsPart D.Disk disk.old path.now offset result }
     ensures kind { MatchResult result IsPart (IfRefused (RefusesPart path.now)) }
     ensures filled { IfOk result (FillsPart offset) }
-    ensures text { MatchResult result ReplyHasText ErrorHasText }
+    ensures text { MatchResult result ReplyHasText StopHasText }
 {
     let Some(total) = disk.size(path)? else {
-        return Err(ReadError::Refused(unreadable(alloc, path)?));
+        return Err(Stop::Refused(unreadable(alloc, path)?));
     };
     if offset > total {
-        return Err(ReadError::Refused(Refusal::BadRange { size: total }));
+        return Err(Stop::Refused(Refusal::BadRange { size: total }));
     }
     let wanted = PART_LIMIT.min(total - offset) as usize;
     let mut bytes = zeros(alloc, wanted)?;
@@ -63,6 +64,6 @@ pub fn read_part<D: Disk>(
             total,
             bytes: Bytes::from_vec(bytes),
         }),
-        _ => Err(ReadError::Refused(unreadable(alloc, path)?)),
+        _ => Err(Stop::Refused(unreadable(alloc, path)?)),
     }
 }

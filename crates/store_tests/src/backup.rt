@@ -61,6 +61,14 @@ enum Call {
 /// where it tells nothing.
 type Told = Result<u64, Refusal>;
 
+/// The refusal, unless memory was wanting.
+fn refused(refusal: Refusal) -> Result<Told, Fail> {
+    match refusal {
+        Refusal::NoMemory => Err("no memory".into()),
+        refusal => Ok(Err(refusal)),
+    }
+}
+
 type Calls = &'static [(Call, Result<u64, Fault>)];
 
 fn expected_of(alloc: Global, expected: Result<u64, Fault>) -> Result<Told, Fail> {
@@ -75,9 +83,9 @@ fn begin(w: &mut Writer, alloc: Global, name: &str) -> Result<Told, Fail>
     ensures { w.new.pending ≡ None }
 {
     let name = named(alloc, name)?;
-    match w.new_dynamic(alloc, name, 1_579_069_803)? {
+    match w.new_dynamic(alloc, name, 1_579_069_803) {
         Ok(number) => Ok(Ok(number as u64)),
-        Err(refusal) => Ok(Err(refusal)),
+        Err(refusal) => refused(refusal),
     }
 }
 
@@ -92,9 +100,9 @@ fn begin_fixed(
     ensures { w.new.pending ≡ None }
 {
     let name = named(alloc, name)?;
-    match w.new_fixed(alloc, name, 1_579_069_803, size, chunk_size)? {
+    match w.new_fixed(alloc, name, 1_579_069_803, size, chunk_size) {
         Ok(number) => Ok(Ok(number as u64)),
-        Err(refusal) => Ok(Err(refusal)),
+        Err(refusal) => refused(refusal),
     }
 }
 
@@ -131,9 +139,9 @@ fn append(w: &mut Writer, alloc: Global, entries: &[(Digest32, u64)]) -> Result<
     requires { w.old.pending ≡ None }
     ensures { w.new.pending ≡ None }
 {
-    match w.append(alloc, 0, entries)? {
+    match w.append(alloc, 0, entries) {
         Ok(()) => Ok(Ok(0)),
-        Err(refusal) => Ok(Err(refusal)),
+        Err(refusal) => refused(refusal),
     }
 }
 
@@ -171,7 +179,7 @@ fn close(
     requires { w.old.pending ≡ None }
     ensures { OnOk result (w.new.pending ≡ None) }
 {
-    match w.close_index(alloc, 0, count, size, csum)? {
+    match w.close_index(alloc, 0, count, size, csum) {
         Ok(text) => {
             if kept {
                 w.keep()
@@ -180,7 +188,7 @@ fn close(
             }
             Ok(Ok(text.len() as u64))
         }
-        Err(refusal) => Ok(Err(refusal)),
+        Err(refusal) => refused(refusal),
     }
 }
 
@@ -196,7 +204,7 @@ fn take(
 {
     let text = encode(alloc, data)??;
     decode(&text)?;
-    match w.blob(alloc, name, &text)? {
+    match w.blob(alloc, name, &text) {
         Ok(()) => {
             if kept {
                 w.keep()
@@ -205,16 +213,16 @@ fn take(
             }
             Ok(Ok(0))
         }
-        Err(refusal) => Ok(Err(refusal)),
+        Err(refusal) => refused(refusal),
     }
 }
 
 fn finish(w: &Writer, alloc: Global) -> Result<Told, Fail>
     requires { w.now.pending ≡ None }
 {
-    match w.finish_check(alloc)? {
+    match w.finish_check(alloc) {
         Ok(manifest) => Ok(Ok(manifest.files.as_slice().len() as u64)),
-        Err(refusal) => Ok(Err(refusal)),
+        Err(refusal) => refused(refusal),
     }
 }
 

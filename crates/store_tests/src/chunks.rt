@@ -61,16 +61,18 @@ fn put_abc(rt: &impl Abort, alloc: Global, disk: &mut MemoryDisk) -> Result<(), 
     Ok(())
 }
 
+fn try_kept(rt: &impl Abort, alloc: Global, disk: &mut MemoryDisk) -> Result<(), Fail> {
+    put_abc(rt, alloc, disk)?;
+    put_abc(rt, alloc, disk)?;
+    try_abc(rt, alloc, disk)?;
+    same(rt, remove_abc(disk)?, true);
+    same(rt, remove_abc(disk)?, false);
+    Ok(())
+}
+
 #[test]
 fn pieces_are_kept(rt: HostRuntime) -> Result<(), Fail> {
-    let alloc = rt.alloc();
-    let mut disk = MemoryDisk::new(alloc);
-    put_abc(&rt, alloc, &mut disk)?;
-    put_abc(&rt, alloc, &mut disk)?;
-    try_abc(&rt, alloc, &mut disk)?;
-    same(&rt, remove_abc(&mut disk)?, true);
-    same(&rt, remove_abc(&mut disk)?, false);
-    Ok(())
+    try_kept(&rt, rt.alloc(), &mut MemoryDisk::new(rt.alloc()))
 }
 
 /// The blob of nothing.
@@ -129,18 +131,22 @@ fn damage_is_told(rt: HostRuntime) -> Result<(), Fail> {
 /// A file of one byte more than a blob has is damaged, and its size alone is asked.
 #[test]
 fn what_is_too_long_is_not_read(rt: HostRuntime) -> Result<(), Fail> {
-    let alloc = rt.alloc();
-    let mut disk = MemoryDisk::new(alloc);
-    let mut text = Vec::new(alloc);
-    text.resize(16_777_229, 0)?;
-    disk.put(alloc, ABC_CHUNK, &text)?;
-    let fault = load_from(&mut disk, alloc, &ABC).err();
+    let mut disk = MemoryDisk::new(rt.alloc());
+    put_long(&mut disk, rt.alloc())?;
+    let fault = load_from(&mut disk, rt.alloc(), &ABC).err();
     let damaged = LoadFault::Damaged {
         digest: ABC,
         found: ChunkFault::NotABlob,
     };
     same(&rt, fault, Some(damaged));
     same(&rt, disk.calls(), 2);
+    Ok(())
+}
+
+fn put_long(disk: &mut MemoryDisk, alloc: Global) -> Result<(), Fail> {
+    let mut text = Vec::new(alloc);
+    text.resize(16_777_229, 0)?;
+    disk.put(alloc, ABC_CHUNK, &text)?;
     Ok(())
 }
 
@@ -165,19 +171,26 @@ fn digests_on(disk: &mut MemoryDisk, alloc: Global) -> Result<Vec<Digest32>, Fai
     Ok(scan(disk, alloc)?)
 }
 
+fn put_three(disk: &mut MemoryDisk, alloc: Global) -> Result<(), Fail> {
+    put(alloc, disk, b"abc")?;
+    put(alloc, disk, b"abd")?;
+    disk.put(alloc, ChunkName::of(&NOTHING).as_str(), b"")?;
+    Ok(())
+}
+
+fn try_listed(rt: &impl Abort, alloc: Global, disk: &mut MemoryDisk) -> Result<(), Fail> {
+    put_names(disk, alloc)?;
+    same(rt, digests_on(disk, alloc)?.len(), 0);
+    put_three(disk, alloc)?;
+    let digests = digests_on(disk, alloc)?;
+    let wanted = [digest_of(b"abd"), ABC, NOTHING];
+    same(rt, digests.as_slice(), wanted.as_slice());
+    Ok(())
+}
+
 #[test]
 fn names_of_the_form_are_listed(rt: HostRuntime) -> Result<(), Fail> {
-    let alloc = rt.alloc();
-    let mut disk = MemoryDisk::new(alloc);
-    put_names(&mut disk, alloc)?;
-    same(&rt, digests_on(&mut disk, alloc)?.len(), 0);
-    put(alloc, &mut disk, b"abc")?;
-    put(alloc, &mut disk, b"abd")?;
-    disk.put(alloc, ChunkName::of(&NOTHING).as_str(), b"")?;
-    let digests = digests_on(&mut disk, alloc)?;
-    let wanted = [digest_of(b"abd"), ABC, NOTHING];
-    same(&rt, digests.as_slice(), wanted.as_slice());
-    Ok(())
+    try_listed(&rt, rt.alloc(), &mut MemoryDisk::new(rt.alloc()))
 }
 
 type Failing = FailingDisk<MemoryDisk>;

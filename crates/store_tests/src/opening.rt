@@ -98,33 +98,36 @@ fn open<D: Disk>(disk: &mut D, alloc: Global) -> Result<Inventory, DiskError> {
     open_files(disk, alloc)
 }
 
+fn open_and_tell(disk: &mut MemoryDisk, alloc: Global) -> Result<String, Fail> {
+    told(alloc, &open(disk, alloc)?)
+}
+
+/// All that stays is there, and nothing else.
+fn try_left(rt: &impl Abort, alloc: Global, disk: &mut MemoryDisk, k: u64) -> Result<(), Fail> {
+    let staying = names_staying();
+    same_at(rt, k, disk.list(alloc, "")?.len(), staying.len());
+    same_at(rt, k, count(disk, staying)?, staying.len());
+    Ok(())
+}
+
 #[test]
 fn a_folder_is_opened(rt: HostRuntime) -> Result<(), Fail> {
-    let alloc = rt.alloc();
-    let mut disk = folder(alloc)?;
+    let mut disk = folder(rt.alloc())?;
     let before = disk.calls();
-    let found = open(&mut disk, alloc)?;
-    same(&rt, disk.calls(), before.saturating_add(CALLS));
-    let text = told(alloc, &found)?;
+    let text = open_and_tell(&mut disk, rt.alloc())?;
     same(&rt, text.as_str(), TOLD);
-    same(&rt, disk.list(alloc, "")?.len(), names_staying().len());
-    same(
-        &rt,
-        count(&mut disk, names_staying())?,
-        names_staying().len(),
-    );
-    Ok(())
+    same(&rt, disk.calls(), before.saturating_add(CALLS));
+    try_left(&rt, rt.alloc(), &mut disk, CALLS)
 }
 
 #[test]
 fn an_empty_folder_is_opened(rt: HostRuntime) -> Result<(), Fail> {
-    let alloc = rt.alloc();
-    let found = open(&mut MemoryDisk::new(alloc), alloc)?;
-    same(&rt, told(alloc, &found)?.as_str(), "0");
+    let text = open_and_tell(&mut MemoryDisk::new(rt.alloc()), rt.alloc())?;
+    same(&rt, text.as_str(), "0");
     Ok(())
 }
 
-/// What a crash leaves is opened: all that stays is there, and nothing else.
+/// What a crash leaves is opened.
 fn open_left(
     rt: &impl Abort,
     alloc: Global,
@@ -133,14 +136,9 @@ fn open_left(
     choice: u8,
 ) -> Result<(), Fail> {
     let mut crashed = left.crashed(alloc, choice)?;
-    let found = open(&mut crashed, alloc)?;
-    let text = told(alloc, &found)?;
+    let text = open_and_tell(&mut crashed, alloc)?;
     same_at(rt, (k, choice), text.as_str(), TOLD);
-    let names = crashed.list(alloc, "")?;
-    same_at(rt, (k, choice), names.len(), names_staying().len());
-    let staying = count(&mut crashed, names_staying())?;
-    same_at(rt, (k, choice), staying, names_staying().len());
-    Ok(())
+    try_left(rt, alloc, &mut crashed, k)
 }
 
 /// The disk fails at its call k, from 0, alone or from there on. Files leave from the third call on.
@@ -150,18 +148,23 @@ fn try_opening(
     mut disk: FailingDisk<MemoryDisk>,
     k: u64,
 ) -> Result<(), Fail> {
-    let outcome = open(&mut disk, alloc);
-    let has_failed = matches!(&outcome, Err(DiskError::Failed));
+    let has_failed = matches!(open(&mut disk, alloc), Err(DiskError::Failed));
     same_at(rt, k, has_failed, k < CALLS);
     same_at(rt, k, disk.faults(), if k < CALLS { 1 } else { 0 });
     let mut left = disk.into_inner();
-    let staying = count(&mut left, names_staying())?;
-    same_at(rt, k, staying, names_staying().len());
-    let leaving = count(&mut left, names_leaving())?;
-    same_at(rt, k, leaving as u64, 9u64.saturating_sub(k.max(2)));
+    count_left(rt, &mut left, k)?;
     for choice in 0..3u8 {
         open_left(rt, alloc, &left, k, choice)?;
     }
+    Ok(())
+}
+
+/// So many of the names stand there when the call k has failed.
+fn count_left(rt: &impl Abort, left: &mut MemoryDisk, k: u64) -> Result<(), Fail> {
+    let staying = count(left, names_staying())?;
+    same_at(rt, k, staying, names_staying().len());
+    let leaving = count(left, names_leaving())?;
+    same_at(rt, k, leaving as u64, 9u64.saturating_sub(k.max(2)));
     Ok(())
 }
 

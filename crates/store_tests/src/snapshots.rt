@@ -39,15 +39,25 @@ fn calls_of(change: Change) -> u64 {
     }
 }
 
+type Outcome = Result<(), DiskError>;
+
+fn finish_it<D: Disk>(disk: &mut D, alloc: Global) -> Result<Outcome, Fail> {
+    let path = manifest_path_of(alloc, &key(alloc)?)?;
+    Ok(finish(disk, alloc, &path, b"manifest"))
+}
+
+fn forget_it<D: Disk>(disk: &mut D, alloc: Global) -> Result<Outcome, Fail> {
+    let key = key(alloc)?;
+    let files = [named(alloc, "set.blob")?, named(alloc, "root.didx")?];
+    Ok(forget(disk, alloc, &key, &files))
+}
+
 // `false` where the disk failed.
 fn make<D: Disk>(disk: &mut D, alloc: Global, change: Change) -> Result<bool, Fail> {
-    let key = key(alloc)?;
-    let set = named(alloc, "set.blob")?;
-    let root = named(alloc, "root.didx")?;
     let outcome = match change {
-        Change::PutFile => put_file(disk, alloc, &path_of(alloc, &key, &set)?, b"newest"),
-        Change::Finish => finish(disk, alloc, &manifest_path_of(alloc, &key)?, b"manifest"),
-        Change::Forget => forget(disk, alloc, &key, &[set, root]),
+        Change::PutFile => put_file(disk, alloc, &path(alloc, "set.blob")?, b"newest"),
+        Change::Finish => finish_it(disk, alloc)?,
+        Change::Forget => forget_it(disk, alloc)?,
     };
     if outcome == Err(DiskError::Failed) {
         return Ok(false);
@@ -257,14 +267,17 @@ fn row(alloc: Global, name: &str, is_put: bool) -> Result<MayBePut, Fail> {
     Ok(MayBePut { path, is_put })
 }
 
+fn remove_set(rt: &impl Abort, alloc: Global, disk: &mut MemoryDisk) -> Result<(), Fail> {
+    let files = [path(alloc, "set.blob")?, path(alloc, "b.blob")?];
+    same(rt, files[0].as_str(), SET);
+    remove(disk, &files)
+}
+
 #[test]
 fn files_are_removed(rt: HostRuntime) -> Result<(), Fail> {
-    let alloc = rt.alloc();
-    let mut disk = disk_before(alloc, Change::Forget)?;
-    let set = path(alloc, "set.blob")?;
-    same(&rt, set.as_str(), SET);
-    remove(&mut disk, &[set, path(alloc, "b.blob")?])?;
-    let reads = shown(alloc, &mut disk)?;
+    let mut disk = disk_before(rt.alloc(), Change::Forget)?;
+    remove_set(&rt, rt.alloc(), &mut disk)?;
+    let reads = shown(rt.alloc(), &mut disk)?;
     same(&rt, reads.as_str(), "manifest//root///other/");
     Ok(())
 }
@@ -274,15 +287,20 @@ fn files_are_removed(rt: HostRuntime) -> Result<(), Fail> {
 fn rows_with_a_file_are_removed(rt: HostRuntime) -> Result<(), Fail> {
     let alloc = rt.alloc();
     let mut disk = FailingDisk::stopping_after(disk_before(alloc, Change::Forget)?, 1);
+    try_rows(&rt, alloc, &mut disk)?;
+    let reads = shown(alloc, &mut disk.into_inner())?;
+    same(&rt, reads.as_str(), "manifest//root///other/");
+    Ok(())
+}
+
+fn try_rows<D: Disk>(rt: &impl Abort, alloc: Global, disk: &mut D) -> Result<(), Fail> {
     let rows = [
         row(alloc, "root.didx", false)?,
         row(alloc, "set.blob", true)?,
     ];
-    same(&rt, remove_files(&mut disk, &rows), Ok(()));
-    same(&rt, remove_files(&mut disk, &rows[..1]), Ok(()));
-    same(&rt, remove_files(&mut disk, &rows), Err(Failed));
-    let reads = shown(alloc, &mut disk.into_inner())?;
-    same(&rt, reads.as_str(), "manifest//root///other/");
+    same(rt, remove_files(disk, &rows), Ok(()));
+    same(rt, remove_files(disk, &rows[..1]), Ok(()));
+    same(rt, remove_files(disk, &rows), Err(Failed));
     Ok(())
 }
 
@@ -410,14 +428,23 @@ fn expected_of(alloc: Global, wanted: &str) -> Result<String, Fail> {
     )?)
 }
 
+fn try_found(
+    rt: &impl Abort,
+    alloc: Global,
+    disk: &mut MemoryDisk,
+    wanted: &str,
+) -> Result<(), Fail> {
+    let text = found_on(alloc, disk)?;
+    let expected = expected_of(alloc, wanted)?;
+    same(rt, text.as_str(), expected.as_str());
+    Ok(())
+}
+
 #[test]
 fn what_is_found(rt: HostRuntime) -> Result<(), Fail> {
-    let alloc = rt.alloc();
     for (further, has_set, has_root, wanted) in &FOUND {
-        let mut disk = listed(alloc, *further, *has_set, *has_root)?;
-        let text = found_on(alloc, &mut disk)?;
-        let expected = expected_of(alloc, wanted)?;
-        same(&rt, text.as_str(), expected.as_str());
+        let mut disk = listed(rt.alloc(), *further, *has_set, *has_root)?;
+        try_found(&rt, rt.alloc(), &mut disk, wanted)?;
     }
     Ok(())
 }
@@ -447,18 +474,18 @@ fn each_call_of_a_scan_fails(rt: HostRuntime) -> Result<(), Fail> {
 /// and the calls of the other three snapshots.
 #[test]
 fn a_manifest_that_is_too_long_is_none(rt: HostRuntime) -> Result<(), Fail> {
-    let alloc = rt.alloc();
-    let mut disk = datastore(alloc)?;
+    let mut disk = datastore(rt.alloc())?;
+    put_long(&mut disk, rt.alloc())?;
+    let before = disk.calls();
+    let wanted = "[Host a host/a/2020-01-15T06:30:03Z/index.json.blob]";
+    try_found(&rt, rt.alloc(), &mut disk, wanted)?;
+    same(&rt, disk.calls(), before.saturating_add(10));
+    Ok(())
+}
+
+fn put_long(disk: &mut MemoryDisk, alloc: Global) -> Result<(), Fail> {
     let mut text = Vec::new(alloc);
     text.resize(16_777_229, 0)?;
     disk.put(alloc, MANIFEST, &text)?;
-    let before = disk.calls();
-    let found = found_on(alloc, &mut disk)?;
-    same(&rt, disk.calls(), before.saturating_add(10));
-    let expected = expected_of(
-        alloc,
-        "[Host a host/a/2020-01-15T06:30:03Z/index.json.blob]",
-    )?;
-    same(&rt, found.as_str(), expected.as_str());
     Ok(())
 }

@@ -6,10 +6,11 @@ use crate::fixtures::{NINES, ROOT, SEVENS};
 use disk_trait::{Disk, FailingDisk, MemoryDisk};
 use dynamic_index::DynamicWriter;
 use fixed_index::FixedWriter;
-use snapshot_files::{IndexPart, ReadError, lengths_of, read_index, read_part};
+use snapshot_files::{IndexPart, lengths_of, read_index, read_part};
 use std::alloc::Global;
 use std::process::Abort;
 use std::test::Fail;
+use store_stops::Stop;
 use store_types::{Digest32, Refusal};
 use wire_commands::Reply;
 
@@ -57,12 +58,12 @@ enum Read {
 type Told = (u64, &'static [u8], &'static [(Digest32, u64)]);
 
 /// What is read, or the refusal.
-fn told<T: Drop>(read: Result<T, ReadError>) -> Result<Result<T, Refusal>, Fail> {
+fn told<T: Drop>(read: Result<T, Stop>) -> Result<Result<T, Refusal>, Fail> {
     match read {
         Ok(value) => Ok(Ok(value)),
-        Err(ReadError::Refused(refusal)) => Ok(Err(refusal)),
-        Err(ReadError::NoMemory) => Err("no memory".into()),
-        Err(ReadError::Failed) => Err("the disk failed".into()),
+        Err(Stop::Refused(refusal)) => Ok(Err(refusal)),
+        Err(Stop::NoMemory) => Err("no memory".into()),
+        Err(Stop::DiskFailed) => Err("the disk failed".into()),
     }
 }
 
@@ -194,7 +195,7 @@ fn parts_are_refused(rt: HostRuntime) -> Result<(), Fail> {
     Ok(())
 }
 
-fn read_root(disk: &mut FailingDisk<MemoryDisk>, alloc: Global) -> Result<IndexPart, ReadError> {
+fn read_root(disk: &mut FailingDisk<MemoryDisk>, alloc: Global) -> Result<IndexPart, Stop> {
     read_index(disk, alloc, ROOT, false, 4144)
 }
 
@@ -219,7 +220,7 @@ fn try_root(
 fn try_fault(rt: &impl Abort, alloc: Global, number: u64) -> Result<(), Fail> {
     let mut disk = failing_at(alloc, number)?;
     let failed = read_root(&mut disk, alloc).err();
-    same_at(rt, number, failed, Some(ReadError::Failed));
+    same_at(rt, number, failed, Some(Stop::DiskFailed));
     try_root(rt, alloc, &mut disk)
 }
 

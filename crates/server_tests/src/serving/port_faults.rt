@@ -3,23 +3,75 @@
 ghost use Rattle.std.specs.Prelude.{◌<◌, None};
 
 use super::*;
-use port_traits::Failed;
+use port_traits::{Failed, Sink};
+
+/// A session, its replies, and where its frames and replies end, command by command.
+struct Session {
+    input: &'static [u8],
+    replies: &'static [u8],
+    /// How many commands are answered, the bytes of the input up to the last of them, and those of the replies. At BYE no
+    /// command more is answered.
+    marks: &'static [(usize, u64, u64)],
+    /// How many reads of one byte it takes.
+    reads: u64,
+}
+
+/// It reads to the end of its input.
+const TO_THE_END: Session = Session {
+    input: READ_BACK,
+    replies: READ_BACK_REPLIES,
+    marks: &[
+        (1, 33, 6),
+        (2, 140, 11),
+        (3, 145, 16),
+        (4, 178, 21),
+        (5, 207, 120),
+    ],
+    reads: 208,
+};
+
+/// It leaves a second snapshot unfinished.
+const TO_BYE: Session = Session {
+    input: UNFINISHED,
+    replies: UNFINISHED_REPLIES,
+    marks: &[
+        (1, 33, 6),
+        (2, 140, 11),
+        (3, 145, 16),
+        (4, 178, 49),
+        (5, 216, 54),
+        (6, 240, 59),
+        (6, 245, 64),
+    ],
+    reads: 245,
+};
+
+/// The disk holds the manifest of the snapshot that is finished, or nothing, beside the book of touches.
+fn assert_holds(
+    rt: &impl Abort,
+    alloc: Global,
+    mut disk: MemoryDisk,
+    is_finished: bool,
+) -> Result<(), Fail> {
+    let _ = disk.remove(".chunks/book")?;
+    let count = disk.list(alloc, "")?.len() as u64;
+    let size = disk.size(MANIFEST)?.unwrap_or(0);
+    let want = if is_finished { [1, 86] } else { [0, 0] };
+    same_numbers(rt, &[count, size], &want);
+    Ok(())
+}
 
 /// A lane was cut off behind so many commands. The first snapshot is there where its FINISH was done, and of a second nothing.
 fn assert_cut_off(
     rt: &impl Abort,
     alloc: Global,
-    served: Served<MemoryDisk, MemoryDisk>,
+    served: Run,
     commands: usize,
 ) -> Result<(), Fail> {
-    let [done @ .., end] = served.order.as_slice() else {
-        return Err("no entry".into());
-    };
-    same(rt, done.len(), commands);
-    same(rt, done.iter().all(|entry| entry.kind == 0), true);
-    same(rt, end.kind, 6);
-    let files = if commands < 3 { NOTHING } else { FINISHED };
-    assert_holds(rt, alloc, served.disk, files)
+    let mut kinds = vec![in alloc; 0u8; commands]?;
+    kinds.push(6)?;
+    assert_kinds(rt, alloc, &served, &kinds)?;
+    assert_holds(rt, alloc, served.disk, commands >= 3)
 }
 
 /// How many commands are answered where so many bytes were taken, and how many bytes are told.
@@ -35,13 +87,12 @@ fn answered_by(session: &Session, taken: u64) -> (usize, u64) {
 
 /// How many commands are answered where so many bytes are told, and the next is not.
 fn answered_before(session: &Session, told: u64) -> usize {
-    let mut answered = 0;
-    for (commands, _, replies) in session.marks.iter().rev() {
+    for (commands, _, replies) in session.marks {
         if told < *replies {
-            answered = *commands;
+            return *commands;
         }
     }
-    answered
+    0
 }
 
 /// The source's read with this number, from 0, fails, when so many bytes are taken.
@@ -56,21 +107,19 @@ fn try_read(
     requires { 0 < most }
 {
     let failing = [call].to_vec(alloc)?;
-    let mut ports: Ports<MemSink> = [Port {
-        source: MemSource::new(session.input.to_vec(alloc)?, failing).at_most(most),
-        sink: empty_sink(alloc),
-    }];
-    let served = run_on(rt, alloc, &mut ports, MemoryDisk::new(alloc))?;
-    let (commands, told) = answered_by(session, taken);
+    let source = MemSource::new(session.input.to_vec(alloc)?, failing).at_most(most);
+    let mut ports = one(alloc, source, empty_sink(alloc))?;
+    let disk = MemoryDisk::new(alloc);
+    let served = run(rt, alloc, &mut ports, disk, None, standing(alloc))?;
+    let (commands, given) = answered_by(session, taken);
+    let ending = Ending::SourceFault;
     let report = LaneReport {
         taken,
-        given: told,
-        ending: Ending::SourceFault,
+        given,
+        ending,
     };
-    same(rt, told_to(&ports)?, front(session.replies, told));
-    same(rt, report_of(&served)?, report);
-    let status = (served.status, served.status.number());
-    same(rt, status, (Status::SourceFault, 4));
+    same(rt, &told_to(alloc, ports), front(session.replies, given));
+    assert_report(rt, &served, Status::SourceFault, report)?;
     assert_cut_off(rt, alloc, served, commands)
 }
 
@@ -89,19 +138,21 @@ fn each_read_fails(rt: HostRuntime) -> Result<(), Fail> {
     Ok(())
 }
 
-/// A session's sink failed when so many bytes were told.
+/// A session's sink failed when so many bytes were told, and all were taken.
 fn assert_sink_failed(
     rt: &impl Abort,
     alloc: Global,
     session: &Session,
-    served: Served<MemoryDisk, MemoryDisk>,
-    told: u64,
+    served: Run,
+    given: u64,
 ) -> Result<(), Fail> {
-    let report = report_of(&served)?;
-    same(rt, (report.given, report.ending), (told, Ending::SinkFault));
-    let status = (served.status, served.status.number());
-    same(rt, status, (Status::SinkFault, 5));
-    assert_cut_off(rt, alloc, served, answered_before(session, told))
+    let report = LaneReport {
+        taken: session.input.len() as u64,
+        given,
+        ending: Ending::SinkFault,
+    };
+    assert_report(rt, &served, Status::SinkFault, report)?;
+    assert_cut_off(rt, alloc, served, answered_before(session, given))
 }
 
 /// The sink takes one byte a write, and the write behind so many bytes fails.
@@ -111,12 +162,12 @@ fn try_write(
     session: &Session,
     told: u64,
 ) -> Result<(), Fail> {
-    let mut ports: Ports<MemSink> = [Port {
-        source: source_of(alloc, session.input)?,
-        sink: MemSink::new(alloc, [told].to_vec(alloc)?).at_most(1),
-    }];
-    let served = run_on(rt, alloc, &mut ports, MemoryDisk::new(alloc))?;
-    same(rt, told_to(&ports)?, front(session.replies, told));
+    let source = source_of(alloc, session.input)?;
+    let sink = MemSink::new(alloc, [told].to_vec(alloc)?).at_most(1);
+    let mut ports = one(alloc, source, sink)?;
+    let disk = MemoryDisk::new(alloc);
+    let served = run(rt, alloc, &mut ports, disk, None, standing(alloc))?;
+    same(rt, &told_to(alloc, ports), front(session.replies, told));
     assert_sink_failed(rt, alloc, session, served, told)
 }
 
@@ -157,11 +208,23 @@ impl Sink for StuckSink {
 }
 
 fn try_stuck(rt: &(impl Abort + Threads + Sync), alloc: Global, room: usize) -> Result<(), Fail> {
-    let mut ports: Ports<StuckSink> = [Port {
+    let mut ports = Vec::new(alloc);
+    ports.push(Port {
         source: source_of(alloc, UNFINISHED)?,
         sink: StuckSink { room, faults: 0 },
-    }];
-    let served = run_on(rt, alloc, &mut ports, MemoryDisk::new(alloc))?;
+    })?;
+    let words = words::words_of(alloc, &["run", "root", "session"])?;
+    let served = serve(
+        rt,
+        alloc,
+        &words,
+        &mut ports,
+        MemoryDisk::new(alloc),
+        None::<MemoryDisk>,
+        standing(alloc),
+        &mut empty_sink(alloc),
+        &FreeGate,
+    );
     assert_sink_failed(rt, alloc, &TO_BYE, served, room as u64)
 }
 

@@ -2,16 +2,18 @@ use Rattle.std.proofs.Common.{◌≡◌, ◌+◌, ◌<◌, ◌++◌, Ok, length,
 use Rattle.std.specs.FinMap.{entries}
 use Rattle.std.proofs.lemmas.List.{map-append}
 use Rattle.store_types.specs.Chain.Refusing.{◌>>=◌}
+use Rattle.store_stops.proofs.OutcomeLemmas.{refused}
 use Rattle.store_model.specs.Archives.{pieces_named}
 use Rattle.dynamic_index.specs.Writing.{known_of}
 use Rattle.backup_session.specs.Indexes.{layout_view}
-use Rattle.backup_session.specs.Steps.{known_in}
+use Rattle.backup_session.specs.Answers.{TellsPieces}
+use Rattle.backup_session.specs.Steps.{known_in, pieces_in}
 use Rattle.backup_session.proofs.Naming.{named_more, named_refused, named_none, behind_more}
 use Rattle.backup_session.proofs.Lifting.{own_default, drop_end, nothing_more}
 use Rattle.backup_session.proofs.entries.pieces_named.Goals as goal
 
-pub returns-in-Err-clause-exact : goal.returns-in-Err-clause-exact
-returns-in-Err-clause-exact c =
+pub returns-in_err-length-clause-exact : goal.returns-in_err-length-clause-exact
+returns-in_err-length-clause-exact c =
     let i = c.loop-entry.entry-index in
     let es = c.args.entries.now in
     let find = known_in (entries c.args.pool.now) in
@@ -19,10 +21,12 @@ returns-in-Err-clause-exact c =
     let before = map known_of c.loop-entry.pieces.items in
     let below : i < length es = omega arith in
     let place : c.len-place.result ≡ i = c.len-place.ensures ∙ c.loop-entry.invariant.count in
-    c.loop-entry.invariant.so_far
+    let refusal = c.in_err-length.field-0.0 in
+    refused (TellsPieces (pieces_in c.args.pool.now c.args.layout c.args.start es)) c.from_residual.result refusal c.from_residual.ensures.1
+    (c.loop-entry.invariant.so_far
     ∙ ap (λ p. pieces_named find (λ k. k.1) layout p c.loop-entry.end (drop i es) >>= λ rest. Ok (before ++ rest)) (sym place)
     ∙ ap (λ r. r >>= λ rest. Ok (before ++ rest))
-    (named_refused find (λ k. k.1) layout c.len-place.result c.loop-entry.end i es _ c.in-Err.refusal below (own_default es i _ below) c.in-Err.ensures.exact)
+    (named_refused find (λ k. k.1) layout c.len-place.result c.loop-entry.end i es _ refusal below (own_default es i _ below) c.in_err-length.ensures.exact))
 
 pub loop-entry-preserved : goal.loop-entry-preserved
 loop-entry-preserved c =
@@ -33,18 +37,18 @@ loop-entry-preserved c =
     let before = map known_of c.loop-entry.pieces.items in
     let below : i < length es = omega arith in
     let place : c.len-place.result ≡ i = c.len-place.ensures ∙ c.loop-entry.invariant.count in
-    let pushed = c.in_ok-push-in-Ok.ensures.items in
+    let pushed = c.in_ok-push.ensures.items in
     record {
       so_far =
           c.loop-entry.invariant.so_far
           ∙ ap (λ p. pieces_named find (λ k. k.1) layout p c.loop-entry.end (drop i es) >>= λ rest. Ok (before ++ rest)) (sym place)
           ∙ ap (λ r. r >>= λ rest. Ok (before ++ rest))
-          (named_more find (λ k. k.1) layout c.len-place.result c.loop-entry.end i es _ _ below (own_default es i _ below) c.in-Ok.ensures.exact)
-          ∙ behind_more before _ (pieces_named find (λ k. k.1) layout (c.len-place.result + 1) (c.loop-entry.end + c.in-Ok.length) (drop (i + 1) es))
-          ∙ ap₂ (λ p bs. pieces_named find (λ k. k.1) layout p (c.loop-entry.end + c.in-Ok.length) (drop (i + 1) es) >>= λ rest. Ok (bs ++ rest))
+          (named_more find (λ k. k.1) layout c.len-place.result c.loop-entry.end i es _ _ below (own_default es i _ below) c.in_ok-length.ensures.exact)
+          ∙ behind_more before _ (pieces_named find (λ k. k.1) layout (c.len-place.result + 1) (c.loop-entry.end + c.in_ok-length.length) (drop (i + 1) es))
+          ∙ ap₂ (λ p bs. pieces_named find (λ k. k.1) layout p (c.loop-entry.end + c.in_ok-length.length) (drop (i + 1) es) >>= λ rest. Ok (bs ++ rest))
           (ap (λ p. p + 1) place) (sym (ap (map known_of) pushed ∙ map-append known_of c.loop-entry.pieces.items _));
-      count = omega (arith, c.in_ok-push-in-Ok.ensures.len);
-      limit = omega (arith, c.in-Ok.ensures.short);
+      count = omega (arith, c.in_ok-push.ensures.len);
+      limit = omega (arith, c.in_ok-length.ensures.short);
     }
 
 pub returns-clause-exact : goal.returns-clause-exact

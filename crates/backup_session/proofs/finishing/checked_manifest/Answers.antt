@@ -1,10 +1,12 @@
 use Rattle.std.proofs.Common.{◌≡◌, Some, None, Ok, Err, map, sym, ap, ◌∙◌}
 use Rattle.std.proofs.lemmas.Result.{MatchResult-at_ok, MatchResult-at_err}
+use Rattle.store_stops.proofs.OutcomeLemmas.{on_cause}
 use Rattle.store_files.specs.Manifest.{manifest_of}
 use Rattle.store_files.specs.Manifest.Mismatch.{mismatch}
 use Rattle.store_model.proofs.ManifestTexts.{cause_fits}
 use Rattle.manifest.specs.Checking.{first_mismatch}
 use Rattle.manifest.specs.Views.{fact_view, manifest_view, mismatch_view}
+use Rattle.backup_session.specs.Finish.{manifest_from}
 use Rattle.backup_session.proofs.FinishChecks.{beside_is, from_bad, from_good}
 use Rattle.backup_session.proofs.finishing.checked_manifest.Goals as goal
 
@@ -39,5 +41,6 @@ returns-in_ok-mismatched-in-Err-2-clause-value c =
     let x = c.in-Err-2.mismatch in
     let told = MatchResult-at_ok (λ y. manifest_of bytes ≡ Ok (manifest_view y)) (λ e. manifest_of bytes ≡ Err e.cause) m c.in-Ok.is c.in_ok-manifest.ensures.exact in
     let checked = MatchResult-at_err (λ _. first_mismatch m key files ≡ None) (λ e. first_mismatch m key files ≡ Some (mismatch_view e)) x c.in-Err-2.is c.in_ok-check.ensures.first in
-    from_good key files bytes (manifest_view m) (Some (mismatch_view x)) told (ap (mismatch m.key (map fact_view m.files) key) (sym (beside_is files c.requires)) ∙ checked)
-    ∙ ap (λ r. Err r) (sym c.in_ok-mismatched-in-Err-2.ensures.value)
+    on_cause (λ cause. manifest_from key files bytes ≡ Err cause) c.in_ok-mismatched-in-Err-2.field-0
+    (from_good key files bytes (manifest_view m) (Some (mismatch_view x)) told (ap (mismatch m.key (map fact_view m.files) key) (sym (beside_is files c.requires)) ∙ checked)
+    ∙ ap (λ r. Err r) (sym c.in_ok-mismatched-in-Err-2.ensures.value))

@@ -7,7 +7,7 @@ use Rattle.store_history.specs.declared.act.Act.TheVariants.{Plain}
 use Rattle.core_state.specs.Replies.{reply_told}
 use Rattle.core_state.proofs.Commanding.{read_does, reads_none, refused_does, same_kept}
 use Rattle.core_state.proofs.Texts.{bad_name_has_text, keys_has_text}
-use Rattle.core_admin.specs.Listings.{texts_in}
+use Rattle.core_admin.specs.Listings.{texts_in, texts_of}
 use Rattle.core_admin.proofs.Told.{group_answers, group_keys, group_refused, group_refuses}
 use Rattle.core_admin.proofs.groups.group.Goals as goal
 
@@ -26,14 +26,14 @@ returns-in_default-clause-from_state g c =
 pub returns-clause-from_state : goal.returns-clause-from_state
 returns-clause-from_state g c =
     let named : group_of c.args.name.now ≡ Some c.in-Ok.group = search rules in
-    let texts : c.in_ok-texts.texts ≡ texts_in c.in-Ok.group c.args.parts.now.catalogue.listed = c.in_ok-texts.ensures.value ∙ ap (texts_in c.in-Ok.group) c.as_slice.ensures.listed in
+    let texts : c.in_ok-texts.texts ≡ texts_in c.in-Ok.group c.args.parts.now.catalogue.listed = c.in_ok-texts.ensures.value ∙ ap texts_of c.group.ensures.value in
     ap (λ t. Keys t) texts ∙ sym (ap reply_told (group_keys c.args.name.now c.args.parts.now.catalogue.listed c.in-Ok.group named))
 
 pub returns-clause-does : goal.returns-clause-does
 returns-clause-does g c =
     let named : group_of c.args.name.now ≡ Some c.in-Ok.group = search rules in
     let parts = c.args.parts.now in
-    let texts : c.in_ok-texts.texts ≡ texts_in c.in-Ok.group parts.catalogue.listed = c.in_ok-texts.ensures.value ∙ ap (texts_in c.in-Ok.group) c.as_slice.ensures.listed in
+    let texts : c.in_ok-texts.texts ≡ texts_in c.in-Ok.group parts.catalogue.listed = c.in_ok-texts.ensures.value ∙ ap texts_of c.group.ensures.value in
     read_does g.D.Disk parts parts c.args._at (Plain (commands.Group c.args.name.now)) _ ⊥ (reads_none g.D.Disk _ _ ⊥ refl (λ f. f)) (same_kept parts)
     (keys_has_text c.in_ok-texts.texts c.in_ok-texts.ensures.few c.in_ok-texts.ensures.short) refl tt
     (λ s h. group_answers parts s h.shows _ _ c.args.name.now (Keys c.in_ok-texts.texts)

@@ -10,7 +10,7 @@ use Rattle.core_state.specs.Replies.{answers_prune, reply_told}
 use Rattle.core_state.specs.Wanted.{session_at}
 use Rattle.core_state.proofs.Commanding.{busy_by_state, read_does, reads_none, refused_does, same_kept}
 use Rattle.core_state.proofs.Texts.{bad_name_has_text, keys_has_text, too_many_has_text}
-use Rattle.core_admin.specs.Listings.{prune_told, texts_in}
+use Rattle.core_admin.specs.Listings.{prune_told, texts_in, texts_of}
 use Rattle.core_state.proofs.FromState.{told_stopped}
 use Rattle.core_admin.proofs.Told.{prune_answers, prune_busy, prune_keys, prune_many, prune_refuses, prune_unnamed}
 use Rattle.core_admin.proofs.groups.prune_group.Goals as goal
@@ -73,7 +73,7 @@ pub returns-clause-from_state : goal.returns-clause-from_state
 returns-clause-from_state g c =
     let named : group_of c.args.name.now ≡ Some c.in-Ok.group = search rules in
     let fit : counts_fit c.args.keep.now ≡ true = search rules in
-    let texts : c.in_ok-texts.texts ≡ texts_in c.in-Ok.group c.args.parts.now.catalogue.listed = c.in_ok-texts.ensures.value ∙ ap (texts_in c.in-Ok.group) c.as_slice.ensures.listed in
+    let texts : c.in_ok-texts.texts ≡ texts_in c.in-Ok.group c.args.parts.now.catalogue.listed = c.in_ok-texts.ensures.value ∙ ap texts_of c.group.ensures.value in
     ap (λ t. Keys t) texts ∙ sym (ap reply_told (prune_keys c.args.name.now c.args.keep.now c.args.parts.now.catalogue.listed _ c.in-Ok.group (c.idle.ensures.value ∙ c.in_ok-idle.was) named fit))
 
 pub returns-clause-does : goal.returns-clause-does
@@ -81,7 +81,7 @@ returns-clause-does g c =
     let named : group_of c.args.name.now ≡ Some c.in-Ok.group = search rules in
     let fit : counts_fit c.args.keep.now ≡ true = search rules in
     let parts = c.args.parts.now in
-    let texts : c.in_ok-texts.texts ≡ texts_in c.in-Ok.group parts.catalogue.listed = c.in_ok-texts.ensures.value ∙ ap (texts_in c.in-Ok.group) c.as_slice.ensures.listed in
+    let texts : c.in_ok-texts.texts ≡ texts_in c.in-Ok.group parts.catalogue.listed = c.in_ok-texts.ensures.value ∙ ap texts_of c.group.ensures.value in
     read_does g.D.Disk parts parts c.args.at (JobGroup (commands.Prune c.args.name.now c.args.keep.now c.args._dry)) _ ⊥ (reads_none g.D.Disk _ _ ⊥ refl (λ f. f)) (same_kept parts)
     (keys_has_text c.in_ok-texts.texts c.in_ok-texts.ensures.few c.in_ok-texts.ensures.short) (le-leb _ 4096 c.in_ok-texts.ensures.few) tt
     (λ s h. prune_answers parts s h.shows c.args.at.lane c.args.at.moment c.args.name.now c.args.keep.now c.args._dry c.requires (Keys c.in_ok-texts.texts)

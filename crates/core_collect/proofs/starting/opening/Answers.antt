@@ -1,5 +1,5 @@
 use Rattle.std.proofs.Common.{Result, Err, ap}
-use Rattle.core_state.specs.declared.stop.Stop.{Stop}
+use Rattle.store_stops.specs.declared.stop.Stop.{Stop}
 use Rattle.core_collect.proofs.StartLemmas.{opening_stops}
 use Rattle.core_collect.proofs.starting.opening.Goals as goal
 

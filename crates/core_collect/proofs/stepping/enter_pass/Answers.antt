@@ -1,6 +1,6 @@
 use Rattle.std.proofs.Common.{◌≡◌, IfSome, Ok, Some, rules, sym, subst}
 use Rattle.std.specs.Prelude.{IfErr}
-use Rattle.core_state.specs.Stops.{StopHasText}
+use Rattle.snapshot_files.specs.Reads.{StopHasText}
 use Rattle.core_collect.specs.Stepping.{EntersPass, Outcome}
 use Rattle.wire_commands.specs.HasText.{ReplyHasText}
 use Rattle.core_state.proofs.Texts.{entered_as}

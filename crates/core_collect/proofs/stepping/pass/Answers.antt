@@ -2,7 +2,7 @@ use Rattle.std.proofs.Common.{◌<◌, ◌∙◌, Err, length, sym, ap, arith}
 use Rattle.std.proofs.lemmas.List.{get_or_default}
 use Rattle.store_types.specs.declared.refusal.Refusal.TheVariants.{WrongState}
 use Rattle.core_state.specs.declared.kept.Session.TheVariants.{Idle}
-use Rattle.core_state.specs.declared.stop.Stop.TheVariants.{Refused}
+use Rattle.store_stops.specs.declared.stop.Stop.TheVariants.{Refused}
 use Rattle.core_state.specs.States.{state_of}
 use Rattle.core_state.proofs.Texts.{wrong_state_has_text}
 use Rattle.core_collect.proofs.Passed.{collects_as, goes_uncut, is_refused, never_none}

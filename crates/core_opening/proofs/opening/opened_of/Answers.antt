@@ -7,6 +7,7 @@ use Rattle.snapshot_files.proofs.Placing.{none_is}
 use Rattle.opening_files.specs.Leaving.{Cleans, MayClean}
 use Rattle.opening_files.proofs.Answering.{clean_same, clean_then}
 use Rattle.core_opening.specs.Opening.{KeepsChunks}
+use Rattle.core_opening.proofs.Inserting.{listed_as_found}
 use Rattle.core_opening.proofs.opening.opened_of.Goals as goal
 
 -- ---- what a crash leaves
@@ -56,10 +57,11 @@ returns-clause-catalogue g c =
     let found = c.in_ok-inventory.inventory.snapshots.items in
     λ honest.
     let h = c.open_files.ensures.serves.kept.0 honest in
+    let lists = c.in_ok-inventory.ensures.found honest in
     record {
       found = found;
-      lists = subst (λ (n : Files). Lists n found) (sym (c.upkeep_of.ensures.reads.same h)) (c.in_ok-inventory.ensures.found honest);
-      listed = c.in_ok-catalogue.ensures.listed;
+      lists = subst (λ (n : Files). Lists n found) (sym (c.upkeep_of.ensures.reads.same h)) lists;
+      listed = listed_as_found found c.in_ok-catalogue.catalogue.listed lists.rising c.in_ok-catalogue.ensures.listed;
     }
 
 pub returns-clause-book : goal.returns-clause-book

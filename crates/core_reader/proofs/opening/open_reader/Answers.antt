@@ -14,7 +14,7 @@ use Rattle.core_state.specs.Replies.{reply_told}
 use Rattle.core_state.specs.Shown.{shown_snapshot}
 use Rattle.core_state.specs.Wanted.{session_at}
 use Rattle.core_state.specs.declared.kept.Session.TheVariants.{Idle, Reader}
-use Rattle.core_state.specs.declared.stop.Stop.TheVariants.{Refused}
+use Rattle.store_stops.specs.declared.stop.Stop.TheVariants.{Refused}
 use Rattle.core_state.proofs.FromState.{stopped}
 use Rattle.core_state.proofs.Commanding.{busy_by_state, busy_does, changed_does, idle_shown, refused_does, same_kept}
 use Rattle.core_state.proofs.Found.{kept_is, not_kept}

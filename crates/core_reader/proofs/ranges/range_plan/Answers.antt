@@ -1,16 +1,18 @@
-use Rattle.std.proofs.Common.{◌≡◌, ◌∙◌, Vec, refl, sym, ap, subst, not, true, false, IfErr, rules}
+use Rattle.std.proofs.Common.{◌≡◌, ◌∙◌, Vec, refl, sym, ap, subst, not, true, false, IfOk, IfErr, rules}
 use Rattle.std.specs.Prelude.{is_some}
 use Rattle.std.specs.declared.alloc.Global.{Global}
 use Rattle.store_types.specs.FileNames.{is_index_name}
 use Rattle.restore_reader.specs.declared.ranges.Part.{Part}
-use Rattle.restore_reader.specs.Answers.{GivesBytes, RefusesRange, Tells, TellsPlainly}
+use Rattle.restore_reader.specs.Answers.{PlanFits, PlanPlainly, TellsParts}
 use Rattle.restore_reader.specs.Steps as steps
-use Rattle.store_model.specs.ReaderSteps.{pieces_at, range_of, reader_files}
 use Rattle.core_state.specs.Wanted.{session_at}
 use Rattle.core_state.proofs.Commanding.{gives_by, reader_shown, reader_wanted, refused_by_state}
 use Rattle.core_state.proofs.Texts.{bad_name_has_text, no_file_has_text}
-use Rattle.core_reader.specs.Planned.{refuses_plan}
-use Rattle.core_reader.proofs.Ranging.{asked_unread, asked_bad, asked_missing, asked_planned, no_path, path_there, plan_given, plan_missing, plan_refused, plan_stops, plans_refused, range_bad, range_unread, stops_by}
+use Rattle.store_stops.specs.Outcomes.{IfAnswered}
+use Rattle.store_stops.specs.Stops.{Gives, answered_of}
+use Rattle.core_reader.specs.Asked.{range_asked}
+use Rattle.core_reader.specs.Planned.{PlansRange, StopsRange, refuses_plan}
+use Rattle.core_reader.proofs.Ranging.{answered_gives, answered_has, answered_plans, answered_stops, asked_unread, asked_bad, asked_missing, asked_planned, no_path, path_there, plan_missing, plan_shown, plans_refused, range_bad, range_unread, stops_by}
 use Rattle.core_reader.proofs.ranges.range_plan.Goals as goal
 
 -- ---- the lane has no reader
@@ -70,56 +72,43 @@ returns-then-is_none-clause-plain g c = λ s shows.
 pub returns-then-is_none-clause-stops : goal.returns-then-is_none-clause-stops
 returns-then-is_none-clause-stops g c = (no_file_has_text, refl)
 
--- ---- the reader refuses it
-
-pub returns-in_err-plan-clause-value : goal.returns-in_err-plan-clause-value
-returns-in_err-plan-clause-value g c =
-    let good : is_index_name c.args.file.now ≡ true = search rules in
-    let named : c.in-Some.name ≡ c.args.file.now = search rules in
-    let has : is_some c.path.result ≡ true = c.is_none.ensures ∙ ap not c.if-is_none.false in
-    let there = path_there (λ p. p.now) c.path.result _ _ c.args.file.now c.in-Some.name _ c.path.ensures c.key.ensures named has in
-    let says = subst (Tells (λ parts. parts.items) (steps.range_plan c.in_ok-reader.reader.now c.in-Some.name c.args.offset c.args.length)) c.in_err-plan.was c.in_ok-range_plan.ensures.does in
-    gives_by _ _ _ _ c.from_residual-in_err-plan.ensures.1
-    (asked_planned c.args.file.now c.args.offset c.args.length _ _ c.in_ok-reader.reader.now there.0 c.in_ok-reader.ensures.value good there.1
-    ∙ ap (λ n. steps.range_plan c.in_ok-reader.reader.now n c.args.offset c.args.length) (sym named) ∙ says)
-
-pub returns-in_err-plan-clause-plain : goal.returns-in_err-plan-clause-plain
-returns-in_err-plan-clause-plain g c = λ s shows.
-    let good : is_index_name c.args.file.now ≡ true = search rules in
-    let named : c.in-Some.name ≡ c.args.file.now = search rules in
-    let has : is_some c.path.result ≡ true = c.is_none.ensures ∙ ap not c.if-is_none.false in
-    let there = path_there (λ p. p.now) c.path.result _ _ c.args.file.now c.in-Some.name _ c.path.ensures c.key.ensures named has in
-    let (v, at, is) = reader_shown c.args.parts.now s c.args.lane _ shows c.requires c.in_ok-reader.ensures.value in
-    let says = subst (TellsPlainly (λ parts. parts.items) (pieces_at (reader_files s v) c.in-Some.name) (range_of (reader_files s v) v c.in-Some.name c.args.offset c.args.length)) c.in_err-plan.was
-    (c.in_ok-range_plan.ensures.plain (reader_files s v) v (sym is)) in
-    plans_refused {A = Vec Part Global} (λ plan. plan.items) s c.args.lane c.args.file.now c.args.offset c.args.length _ _ c.from_residual-in_err-plan.ensures.1
-    (plan_refused s c.args.lane c.args.file.now c.args.offset c.args.length c.args.parts.now.catalogue.listed v _ shows.catalogue at is good there.0 _ there.1
-    (ap (λ n. range_of (reader_files s v) v n c.args.offset c.args.length) (sym named) ∙ says))
-
-pub returns-in_err-plan-clause-stops : goal.returns-in_err-plan-clause-stops
-returns-in_err-plan-clause-stops g c =
-    stops_by _ _ c.from_residual-in_err-plan.ensures.1 (plan_stops _ (subst (λ told. IfErr told RefusesRange) c.in_err-plan.was c.in_ok-range_plan.ensures.refusal))
-
--- ---- it is planned
+-- ---- the reader answers
 
 pub returns-clause-value : goal.returns-clause-value
 returns-clause-value g c =
-    let good : is_index_name c.args.file.now ≡ true = search rules in
-    let named : c.in-Some.name ≡ c.args.file.now = search rules in
+    let file = c.args.file.now in
+    let offset = c.args.offset in
+    let len = c.args.length in
+    let r = c.in_ok-reader.reader.now in
+    let good : is_index_name file ≡ true = search rules in
+    let named : c.in-Some.name ≡ file = search rules in
     let has : is_some c.path.result ≡ true = c.is_none.ensures ∙ ap not c.if-is_none.false in
-    let there = path_there (λ p. p.now) c.path.result _ _ c.args.file.now c.in-Some.name _ c.path.ensures c.key.ensures named has in
-    let says = subst (Tells (λ parts. parts.items) (steps.range_plan c.in_ok-reader.reader.now c.in-Some.name c.args.offset c.args.length)) c.in_ok-plan.was c.in_ok-range_plan.ensures.does in
-    asked_planned c.args.file.now c.args.offset c.args.length _ _ c.in_ok-reader.reader.now there.0 c.in_ok-reader.ensures.value good there.1
-    ∙ ap (λ n. steps.range_plan c.in_ok-reader.reader.now n c.args.offset c.args.length) (sym named) ∙ says
+    let there = path_there (λ p. p.now) c.path.result _ _ file c.in-Some.name _ c.path.ensures c.key.ensures named has in
+    let asked = asked_planned file offset len _ _ r there.0 c.in_ok-reader.ensures.value good there.1 in
+    let does : IfAnswered c.range_plan.result (TellsParts (steps.range_plan r file offset len)) =
+    subst (λ n. IfAnswered c.range_plan.result (TellsParts (steps.range_plan r n offset len))) named c.range_plan.ensures.does in
+    subst (λ x. Gives {A = Vec Part Global} (λ plan. plan.items) x (range_asked file offset len (session_at c.args.parts.now c.args.lane) c.args.parts.now.catalogue.listed)) (sym c.answered.ensures)
+    (subst (λ wanted. Gives {A = Vec Part Global} (λ plan. plan.items) (answered_of c.range_plan.result) wanted) (sym asked) (answered_gives {A = Vec Part Global} (λ plan. plan.items) _ c.range_plan.result does))
 
 pub returns-clause-plain : goal.returns-clause-plain
 returns-clause-plain g c = λ s shows.
-    let good : is_index_name c.args.file.now ≡ true = search rules in
-    let named : c.in-Some.name ≡ c.args.file.now = search rules in
+    let file = c.args.file.now in
+    let lane = c.args.lane in
+    let offset = c.args.offset in
+    let len = c.args.length in
+    let r = c.in_ok-reader.reader.now in
+    let good : is_index_name file ≡ true = search rules in
+    let named : c.in-Some.name ≡ file = search rules in
     let has : is_some c.path.result ≡ true = c.is_none.ensures ∙ ap not c.if-is_none.false in
-    let there = path_there (λ p. p.now) c.path.result _ _ c.args.file.now c.in-Some.name _ c.path.ensures c.key.ensures named has in
-    let (v, at, is) = reader_shown c.args.parts.now s c.args.lane _ shows c.requires c.in_ok-reader.ensures.value in
-    let says = subst (TellsPlainly (λ parts. parts.items) (pieces_at (reader_files s v) c.in-Some.name) (range_of (reader_files s v) v c.in-Some.name c.args.offset c.args.length)) c.in_ok-plan.was
-    (c.in_ok-range_plan.ensures.plain (reader_files s v) v (sym is)) in
-    plan_given s c.args.lane c.args.file.now c.args.offset c.args.length c.args.parts.now.catalogue.listed v _ shows.catalogue at is good there.0 c.in_ok-plan.plan.items there.1
-    (subst (λ n. GivesBytes c.in_ok-plan.plan.items (pieces_at (reader_files s v) n) (range_of (reader_files s v) v n c.args.offset c.args.length)) named says)
+    let there = path_there (λ p. p.now) c.path.result _ _ file c.in-Some.name _ c.path.ensures c.key.ensures named has in
+    let (v, at, is) = reader_shown c.args.parts.now s lane _ shows c.requires c.in_ok-reader.ensures.value in
+    let says : IfAnswered c.range_plan.result (PlanPlainly r file offset len) = subst (λ n. IfAnswered c.range_plan.result (PlanPlainly r n offset len)) named c.range_plan.ensures.plain in
+    subst (λ x. PlansRange {A = Vec Part Global} (λ plan. plan.items) s lane file offset len x) (sym c.answered.ensures)
+    (answered_plans (λ (plan : Vec Part Global). plan.items) s lane file offset len (PlanPlainly r file offset len) c.range_plan.result
+    (λ told. plan_shown s lane file offset len c.args.parts.now.catalogue.listed v r shows.catalogue at is good there.0 told there.1) says)
+
+pub returns-clause-total : goal.returns-clause-total
+returns-clause-total g c = subst (λ x. IfOk x (PlanFits c.args.length)) (sym c.answered.ensures) (answered_has (PlanFits c.args.length) c.range_plan.result c.range_plan.ensures.total)
+
+pub returns-clause-stops : goal.returns-clause-stops
+returns-clause-stops g c = subst (λ x. IfErr x StopsRange) (sym c.answered.ensures) (answered_stops c.range_plan.result c.range_plan.ensures.refusal)

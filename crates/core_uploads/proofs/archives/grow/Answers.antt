@@ -1,9 +1,9 @@
-use Rattle.std.proofs.Common.{subst, IfErr}
-use Rattle.wire_commands.specs.HasText.{FitsRefusal}
+use Rattle.std.proofs.Common.{IfErr, sym, subst}
+use Rattle.snapshot_files.specs.Reads.{StopHasText}
 use Rattle.core_uploads.proofs.AppendRefusals.{stop_text}
 use Rattle.core_uploads.proofs.archives.grow.Goals as goal
 
-pub returns-in_err-branch-clause-text : goal.returns-in_err-branch-clause-text
-returns-in_err-branch-clause-text c =
-    stop_text c.args.session.now c.append.new.self c.args.number _ c.in_ok-append.field-0 c.in_err-branch.field-0.0 _ c.in_err-branch.was c.in_ok-append.ensures.does
-    (subst (λ t. IfErr t FitsRefusal) c.in_err-branch.was c.in_ok-append.ensures.text) c.from_residual-in_err-branch.ensures.1
+pub returns-clause-text : goal.returns-clause-text
+returns-clause-text c =
+    subst (λ r. IfErr r StopHasText) (sym c.answered.ensures)
+    (stop_text c.args.session.now c.append.new.self c.args.number _ c.append.result c.append.ensures.does c.append.ensures.text)

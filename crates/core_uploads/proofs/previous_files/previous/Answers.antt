@@ -2,7 +2,7 @@ use Rattle.std.proofs.Common.{◌≡◌, ◌<◌, ◌∙◌, refl, sym, ap, subs
 use Rattle.dynamic_index.specs.Writing as indexes
 use Rattle.wire_commands.specs.declared.command.Command.TheVariants as commands
 use Rattle.store_history.specs.declared.act.Act.TheVariants.{Plain}
-use Rattle.snapshot_files.specs.Reads.{Gives}
+use Rattle.store_stops.specs.Stops.{Gives}
 use Rattle.core_state.specs.Named.{is_named}
 use Rattle.core_state.specs.Unreadables.{whole_by}
 use Rattle.core_state.proofs.Commanding.{unwritten_does, unwritten_leaves}
@@ -10,7 +10,7 @@ use Rattle.core_state.proofs.NamedLemmas.{list_all-set, list_all-at}
 use Rattle.core_uploads.specs.Previous.{MayKnow, with_known, base_file, previous_by, shown_given}
 use Rattle.core_uploads.proofs.ArchiveLemmas.{settled_at}
 use Rattle.core_uploads.proofs.KeepLemmas.{found_again, found_at, found_stays, found_wants}
-use Rattle.core_uploads.proofs.PreviousLemmas.{given_does, given_leaves, named_noted, no_base_does, no_base_leaves, not_writing, read_failed, tells_given, tells_no_base, tells_short, tells_unnamed, tells_unread, tells_unwritten, unnamed_does, unnamed_leaves, unnoted_does, unnoted_leaves, unread_does, unread_leaves}
+use Rattle.core_uploads.proofs.PreviousLemmas.{given_does, given_leaves, named_noted, no_base_does, no_base_leaves, not_writing, tells_given, tells_no_base, tells_short, tells_unnamed, tells_unread, tells_unwritten, unnamed_does, unnamed_leaves, unnoted_does, unnoted_leaves, unread_does, unread_leaves}
 use Rattle.core_uploads.proofs.SteppedLemmas.{false_true}
 use Rattle.core_uploads.proofs.previous_files.previous.Goals as goal
 
@@ -74,7 +74,7 @@ returns-in_err-given-clause-does g c = let d = g.D.Disk in
     let found : base_file ((c.in-Writer.w).session).writer.base c.args.name.now old.catalogue.listed ≡ Ok c.in_ok-path.path.now = search rules in
     unread_does d old c.args.at c.args.name.now c.args.offset _ _ c.read_file.ensures.reads c.in-Writer.w c.in_ok-path.path.now c.requires
     (found_wants old.sessions.items c.args.at.lane c.index.result.now c.in-Writer.w within c.index.ensures c.in-Writer.is) c.in_ok-name.ensures.name.1 found
-    c.in_err-given.field-0.0 _ c.from_residual-in_err-given.ensures.1 (λ f. c.in_err-given.was ∙ ap (λ y. Err y) (read_failed _ f)) (record { catalogue = refl; sessions = refl; locks = refl })
+    c.in_err-given.field-0.0 _ c.from_residual-in_err-given.ensures.1 (λ f. c.in_err-given.was ∙ f) (record { catalogue = refl; sessions = refl; locks = refl })
     c.in_err-given.ensures.text c.in_err-given.ensures.kind
     (λ honest. subst (λ n. Gives shown_given (Err c.in_err-given.field-0.0) (previous_by (whole_by n) (d.content old.disk) c.in_ok-path.path.now c.args.offset)) named (c.in_err-given.ensures.exact honest))
 

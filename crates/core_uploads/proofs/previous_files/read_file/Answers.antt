@@ -1,6 +1,6 @@
 use Rattle.std.proofs.Common.{◌≡◌, ◌∙◌, Ok, Err, sym, subst, refl, rules}
 use Rattle.snapshot_files.specs.Parts.{part_at}
-use Rattle.snapshot_files.specs.Reads.{Gives}
+use Rattle.store_stops.specs.Stops.{Gives}
 use Rattle.wire_commands.specs.declared.reply.Reply.{Reply}
 use Rattle.core_uploads.specs.Previous.{shown_given}
 use Rattle.core_uploads.proofs.PreviousLemmas.{plain_read, plain_unread, whole_read}

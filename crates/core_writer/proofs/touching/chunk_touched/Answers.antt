@@ -1,6 +1,6 @@
 use Rattle.std.proofs.Common.{refl}
 use Rattle.store_history.specs.declared.act.Act.TheVariants.{Chunk}
-use Rattle.core_state.specs.declared.stop.Stop.TheVariants.{NoMemory}
+use Rattle.store_stops.specs.declared.stop.Stop.TheVariants.{NoMemory}
 use Rattle.core_state.specs.declared.upkeep.Upkeep.{Upkeep}
 use Rattle.core_state.proofs.Commanding.{same_kept, short_does, short_leaves}
 use Rattle.core_writer.proofs.TouchLemmas.{chunk_touches, false_true, stopped_touches}

@@ -1,7 +1,7 @@
 use Rattle.std.proofs.Common.{◌≡◌, ◌<◌, ◌^◌, Some, None, Err, sym, ap, subst, ◌∙◌, rules}
 use Rattle.std.specs.FinMap.{get}
 use Rattle.snapshot_files.specs.Indexes.{shown_index}
-use Rattle.snapshot_files.specs.Reads.{Gives}
+use Rattle.store_stops.specs.Stops.{Gives}
 use Rattle.snapshot_files.proofs.OnlyReading.{reads_by, reads_call}
 use Rattle.snapshot_files.proofs.Texts.{bad_range_has_text}
 use Rattle.snapshot_files.proofs.Indexed.{missing_at, beyond_at, at_text, uneven_at}

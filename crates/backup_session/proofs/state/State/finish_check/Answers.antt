@@ -1,6 +1,7 @@
 use Rattle.std.proofs.Common.{◌≡◌, None, length, rules, sym, ap, ap₂, subst, ◌∙◌, arith}
-use Rattle.std.specs.Prelude.{Result, IfOk, option_map}
+use Rattle.std.specs.Prelude.{Result, option_map}
 use Rattle.std.proofs.lemmas.List.{length-map}
+use Rattle.store_stops.specs.Outcomes.{IfAnswered}
 use Rattle.store_types.specs.declared.refusal.Refusal.{Refusal}
 use Rattle.store_files.specs.Manifest.{Manifest}
 use Rattle.backup_session.specs.Session.{Writing}
@@ -37,5 +38,5 @@ returns-clause-does c =
     let told = finish_data w c.in-Some.text.now bytes none c.in-Some.ensures c.in-Ok.ensures in
     let key = ap (λ (x : Writing). x.key) (sym c.self.view_is) in
     let files = ap (λ (x : Writing). x.files) (sym c.self.view_is) ∙ sym c.deref.ensures.value in
-    subst (λ (r : Result Manifest Refusal). IfOk c.checked_manifest.result (λ checked. TellsManifest r checked))
+    subst (λ (r : Result Manifest Refusal). IfAnswered c.checked_manifest.result (TellsManifest r))
     (sym (told ∙ ap₂ (λ k fs. manifest_from k fs bytes) key files)) c.checked_manifest.ensures.value

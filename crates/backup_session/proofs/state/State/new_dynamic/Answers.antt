@@ -1,19 +1,35 @@
-use Rattle.std.proofs.Common.{◌≡◌, Ok, rules, refl, sym, ap, ap₂, ◌∙◌}
+use Rattle.std.proofs.Common.{◌≡◌, Ok, refl, sym, ap, ap₂, ◌∙◌}
+use Rattle.store_types.specs.declared.refusal.Refusal.TheVariants.{NoMemory}
 use Rattle.backup_session.specs.Steps as steps
 use Rattle.backup_session.proofs.StateSteps.{new_refused, new_done, number_left}
+use Rattle.backup_session.proofs.Stops.{does_stop, refuses}
 use Rattle.backup_session.proofs.state.State.new_dynamic.Goals as goal
 
-pub returns-in-Err : goal.returns-in-Err
-returns-in-Err c = (new_refused c.args.self.now c.args.name c.args.ctime c.in-Err.refusal (sym c.in-Err.ensures), refl)
+pub returns-in_err-want_dynamic : goal.returns-in_err-want_dynamic
+returns-in_err-want_dynamic c =
+    let w = c.args.self.now in
+    let refusal = c.in_err-want_dynamic.field-0.0 in
+    does_stop (λ n. n) (λ v. v) w w c.from_residual.result (steps.new_dynamic w c.args.name c.args.ctime) refusal c.from_residual.ensures.1
+    (refuses w w (steps.new_dynamic w c.args.name c.args.ctime) refusal (new_refused w c.args.name c.args.ctime refusal (sym c.want_dynamic.ensures ∙ c.in_err-want_dynamic.was)) refl)
+
+pub returns-in_err-index : goal.returns-in_err-index
+returns-in_err-index c =
+    let w = c.args.self.now in
+    does_stop (λ n. n) (λ v. v) w w c.from_residual-in_err-index.result (steps.new_dynamic w c.args.name c.args.ctime) NoMemory c.from_residual-in_err-index.ensures.1 (tt, refl)
+
+pub returns-in_err-number : goal.returns-in_err-number
+returns-in_err-number c =
+    let w = c.args.self.now in
+    does_stop (λ n. n) (λ v. v) w c.begin.new.self c.from_residual-in_err-number.result (steps.new_dynamic w c.args.name c.args.ctime) NoMemory c.from_residual-in_err-number.ensures.1 (tt, c.in_err-number.ensures.err)
 
 pub begin-requires : goal.begin-requires
 begin-requires c =
-    let passed : steps.want_dynamic c.args.name c.args.self.now ≡ Ok tt = search rules in
+    let passed : steps.want_dynamic c.args.name c.args.self.now ≡ Ok tt = sym c.want_dynamic.ensures ∙ c.in_ok-want_dynamic.was in
     number_left c.args.self.now c.args.name tt passed
 
 pub returns : goal.returns
 returns c =
-    let passed : steps.want_dynamic c.args.name c.args.self.now ≡ Ok tt = search rules in
+    let passed : steps.want_dynamic c.args.name c.args.self.now ≡ Ok tt = sym c.want_dynamic.ensures ∙ c.in_ok-want_dynamic.was in
     record {
       after = c.begin.new.self;
       stepped = new_done c.args.self.now c.args.name c.args.ctime tt passed ∙ ap₂ (λ w n. Ok (w, n)) (sym (c.in_ok-number.ensures.ok ∙ ap (steps.begin c.args.self.now c.args.name) c.in_ok-index.ensures)) (sym c.in_ok-number.ensures.number);

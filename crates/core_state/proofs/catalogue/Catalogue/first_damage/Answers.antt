@@ -16,7 +16,7 @@ returns-in-Some-clause-short c =
     let found = find_from_yields_List (λ x. is_some (x.kept).unreadable) _ _ c.find-found.result c.find-found.ensures.ran (YieldsList-from_slice c.deref.result.now cc) (λ x b q k. search (rules, tests)) in
     let at : option_map (λ x. x.now) c.find-found.result ≡ Some c.in-Some.listed.now = search rules in
     let value : option_map (λ name. name.now) c.as_ref.result ≡ first_unreadable c.self.inside.listed.items = c.as_ref.ensures.value ∙ sym (ap unreadable_of (sym found ∙ at)) ∙ ap first_unreadable c.deref.ensures.value in
-    λ name is. first_short c.self.inside.listed.items name.now c.self.invariant (sym value ∙ ap (option_map (λ name. name.now)) is)
+    λ name is. first_short c.self.inside.listed.items name.now c.self.invariant.named (sym value ∙ ap (option_map (λ name. name.now)) is)
 
 pub returns-in-None-clause-value : goal.returns-in-None-clause-value
 returns-in-None-clause-value c =
