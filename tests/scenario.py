@@ -154,6 +154,11 @@ def gives(count):
     return [f"gives {count}"]
 
 
+def takes(count):
+    """The sink takes so many bytes, and then fails."""
+    return [f"takes {count}"]
+
+
 def same():
     return ["same"]
 
@@ -174,6 +179,11 @@ def remote_fails(*numbers):
 def taken(*numbers):
     """Reads of the disk by these calls, from 0, find nothing: another program took the file."""
     return ["taken " + " ".join(map(str, numbers))]
+
+
+def shown(*numbers):
+    """Lists of the disk by these calls have the file of a chunk more: another program put it there."""
+    return ["shown " + " ".join(map(str, numbers))]
 
 
 def stops(count):
@@ -215,10 +225,43 @@ def flat(parts):
     return [line for part in parts for line in part]
 
 
+# Lines that plan a session, and those that plan its sweep.
+PLANS = set("> >> < clock fails remote-fails stops taken shown gives takes".split())
+FINDS = {"whole", "found", "name"}
+
+
+def served_in(lines):
+    """The lines' words up to each line that serves what they plan, and those behind the last."""
+    parts = [[]]
+    for word, rest in (line.partition(" ")[::2] for line in lines):
+        parts[-1].append((word, rest))
+        if word in ("ends", "sweep"):
+            parts.append([])
+    return parts
+
+
+def fault_in(lines):
+    """What the program would pass over: lines that plan what is not served, a disk that another takes the place of."""
+    *served, last = served_in(lines)
+    if not served or {word for word, _ in last} & (PLANS | FINDS):
+        return "something is not served"
+    for part in served:
+        words = [word for word, _ in part]
+        if FINDS & set(words) and words[-1] != "sweep":
+            return "a state is not looked for"
+        starts = [place for place, word in enumerate(words) if word == "found"] + [len(words)]
+        sent = [[row for row in part[first:last] if row[0] in (">", ">>")] for first, last in zip(starts, starts[1:])]
+        if any(it != sent[0] for it in sent):
+            return "later sessions are not the same"
+        if any(word == "from" and place and words[place - 1] not in ("there", "ends", "sweep") for place, word in enumerate(words)):
+            return "a disk takes the place of another"
+    return None
+
+
 def scenario(name, *parts):
     lines = flat(parts)
-    served = max((place for place, it in enumerate(lines) if it.split(" ")[0] in ("ends", "sweep")), default=0)
-    assert not any(it[0] in "<>" for it in lines[served:]), f"not served: {name}"
+    fault = fault_in(lines)
+    assert not fault, f"{name}: {fault}"
     return [f"= {name}", *lines, ""]
 
 
@@ -226,4 +269,7 @@ def text_of(module):
     """The file of a module's scenarios, behind what its first line says."""
     says = [f"# {line}" for line in module.__doc__.strip().split("\n")]
     head = [*says, "# Written by tests/make-tables from tests/scenarios. docs/SCENARIOS.md has the form.", ""]
-    return "\n".join(head + flat(module.SCENARIOS))
+    lines = flat(module.SCENARIOS)
+    kept = [line for line in lines if line.startswith("keep ")]
+    assert len(set(kept)) == len(kept), f"{module.__name__}: a disk is kept twice by one name"
+    return "\n".join(head + lines)

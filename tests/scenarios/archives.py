@@ -107,6 +107,9 @@ RANGES = [
     ALL_FIVE,
     (range_of("root.didx", 3, 2), rest(b"de")),
     (range_of("root.didx", 5, 0), DONE),
+    # none within a piece, and where one begins
+    (range_of("root.didx", 1, 0), DONE),
+    (range_of("root.didx", 3, 0), DONE),
     # past the content's end; more than one reply holds comes first
     (range_of("root.didx", 4, 2), bad_range(5)),
     (range_of("root.didx", 6, 0), bad_range(5)),
@@ -195,6 +198,34 @@ ROOTS = [
 # One that names `abc` by PREVIOUS, and sends it all the same.
 SENT_OVER = [*OVER[:2], (chunk(b"abc"), DONE), *OVER[2:], *LATER_READ, (open_reader(A), DONE), FROM_END, ALL_FIVE]
 
+# A PREVIOUS where its chunks are known: one was sent before, its archive names it twice, and the same archive comes again.
+TWICE = [b"abc", b"abc"]
+TWICE_CLOSED = [(append(0, (b"abc", 0), (b"abc", 3)), DONE), (close_index(0, 2, 6, dynamic_csum(TWICE)), DONE)]
+TWICE_SENT = (previous("root.didx", 4136), part(dynamic_index(A, "root.didx", NOW, TWICE), 4136))
+
+
+def twice_finished(snapshot):
+    return [(put_manifest(snapshot, listed("root.didx", 6, dynamic_csum(TWICE))), DONE), (finish(), DONE)]
+
+
+KNOWN = [
+    (open_writer(A), base()),
+    NEW_ROOT,
+    (chunk(b"abc"), DONE),
+    *TWICE_CLOSED,
+    *twice_finished(A),
+    (open_writer(A_LATER), base(A)),
+    (chunk(b"abc"), DONE),
+    TWICE_SENT,
+    TWICE_SENT,
+    NEW_ROOT,
+    *TWICE_CLOSED,
+    *twice_finished(A_LATER),
+    (open_reader(A_LATER), DONE),
+    (download("root.didx", 4176), part(dynamic_index(A_LATER, "root.didx", NOW, TWICE), 4176)),
+    (range_of("root.didx", 0, 6), rest(b"abcabc")),
+]
+
 # Sizes of a fixed archive that are refused, and one that ends before its size.
 NEW_4097 = new_fixed("root.fidx", 4097, 4096)
 FIXED_REFUSED = [
@@ -227,6 +258,16 @@ FIXED_REFUSED = [
 
 # An archive of 4,096 `x` and of `y`, and over it one of 8,192 bytes.
 X_AND_Y = fixed_csum([X, b"y"])
+FIXED_SENT = [
+    (open_writer(A), base()),
+    (NEW_4097, number(0)),
+    (chunk(X), DONE),
+    (chunk(b"y"), DONE),
+    (append(0, (X, 0), (b"y", 4096)), DONE),
+    (close_index(0, 2, 4097, X_AND_Y), DONE),
+    (put_manifest(A, listed("root.fidx", 4097, X_AND_Y)), DONE),
+    (finish(), DONE),
+]
 FIXED = [
     (open_writer(A), base()),
     (NEW_4097, number(0)),
@@ -284,6 +325,31 @@ DAMAGED = [
 ABC_DAMAGED = verified(2, 2, 5, file_fault("root.didx", 23, sha256(b"abc")))
 
 
+# An index of its size that is none: a DOWNLOAD of it allows nothing, and a PREVIOUS of it adds nothing.
+FIXED_ROOT = fixed_index(A, "root.fidx", NOW, [X, b"y"])
+NO_INDEXES = [
+    ("a dynamic one of another magic number", ROOT_SENT + ROOT_FINISHED, "root.didx", FIXED_MAGIC + ROOT[8:]),
+    ("a dynamic one of another checksum", ROOT_SENT + ROOT_FINISHED, "root.didx", ROOT[:-1] + b"\0"),
+    ("a fixed one of another magic number", FIXED_SENT, "root.fidx", DYNAMIC_MAGIC + FIXED_ROOT[8:]),
+    ("a fixed one of another checksum", FIXED_SENT, "root.fidx", FIXED_ROOT[:-1] + b"\0"),
+]
+
+
+def no_index(name, backup, file, there_then):
+    read = [
+        (open_reader(A), DONE),
+        (download(file), unreadable(f"{A}/{file}")),
+        (range_of(file, 0, 1), not_allowed()),
+        (get_chunk(sha256(b"abc")), not_allowed()),
+        (close_reader(), DONE),
+        (open_writer(A_LATER), base(A)),
+        (previous(file), unreadable(f"{A}/{file}")),
+        NEW_ROOT,
+        (NAME_ABC, UNKNOWN),
+    ]
+    return scenario(f"an index of its size that is none: {name}", talk(backup), place(f"{A}/{file}", there_then), talk(read))
+
+
 def damaged_chunk(name, there_before, reply):
     read = [
         *ROOT_SENT,
@@ -314,6 +380,8 @@ SCENARIOS = [
     alone_and_beside("fixed archives come back", FIXED),
     alone_and_beside("two backups of one archive, and a restore", AGAIN, ROOTS),
     scenario("unfinished backups end, twice", talk(UNFINISHED), talk(UNFINISHED), files_left(BOTH_THERE)),
+    scenario("a PREVIOUS of chunks that are known", talk(KNOWN)),
+    *(no_index(*row) for row in NO_INDEXES),
     *(damaged_chunk(*row) for row in DAMAGED),
     scenario(
         "a chunk that is sent is there, though it is known by PREVIOUS, and both backups restore whole",

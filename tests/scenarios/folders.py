@@ -126,8 +126,61 @@ OTHER_NAMES = [
 ]
 GOING = [".chunks/959a.tmp", ".chunks/book", "notes.tmp"]
 # A manifest that lists more than 63 files makes its snapshot damaged. It is forgotten with all of them.
-MANY = [f"x{number}.blob" for number in range(10, 74)]
-MANY_LISTED = blob(manifest(A, *(listed(it, 12, sha256(blob(b""))) for it in MANY)))
+MANY = [f"{A}/x{number}.blob" for number in range(10, 74)]
+# The folders of `plain_tests`, which loads the same as a plain store: what it has of snapshots is what is whole here.
+A_BLOB, A_FIXED, A_B_PLAIN = f"{A}/set.blob", f"{A}/root.fidx", f"{A_B}/{MANIFEST}"
+BOTH_WHOLE, ONE_WHOLE = rows((A, 4), (A_B, 1)), rows((A, None), (A_B, 1))
+TWO_THERE = "two snapshots of earlier runs"
+# What is changed of them, what LIST tells, and which files go as they are opened.
+LOADED = [
+    ("they are", [], BOTH_WHOLE, []),
+    ("a manifest is no blob", [(PLAIN, b"abc")], ONE_WHOLE, []),
+    ("a manifest is empty", [(PLAIN, b"")], ONE_WHOLE, []),
+    ("a blob is no manifest", [(PLAIN, blob(b"x"))], ONE_WHOLE, []),
+    ("a blob is missing", [(A_BLOB, None)], ONE_WHOLE, []),
+    ("an index is missing", [(A_ROOT, None)], ONE_WHOLE, []),
+    # no index and no blob is read at opening
+    ("an index and a blob are none", [(A_ROOT, b"abc"), (A_BLOB, b"abc")], BOTH_WHOLE, []),
+    ("a manifest is missing", [(PLAIN, None)], rows((A_B, 1)), [A_BLOB, A_FIXED, A_ROOT]),
+    (
+        "names that are none of a snapshot's files",
+        [
+            (".chunks/ba78/ba78", b"abc"),
+            (".chunks/book", b"abc"),
+            (f"{A}/notes.txt", b"abc"),
+            (f"{A}/x/{MANIFEST}", OTHER_BLOB),
+            (f"host/a/2020-02-30T06:30:03Z/{MANIFEST}", OTHER_BLOB),
+            (f"host/a/{MANIFEST}", OTHER_BLOB),
+            (MANIFEST, OTHER_BLOB),
+            ("notes.txt", b"abc"),
+            (f"vm/-/2020-01-15T06:30:03Z/{MANIFEST}", OTHER_BLOB),
+        ],
+        BOTH_WHOLE,
+        [".chunks/book"],
+    ),
+    (
+        "temporary files, and those of a snapshot that was not finished",
+        [
+            (f"{PLAIN}.tmp", OTHER_BLOB),
+            (f"{LATER_PLAIN}.tmp", OTHER_BLOB),
+            (f"{A_LATER}/set.blob", b"abc"),
+            ("notes.tmp", b"abc"),
+        ],
+        BOTH_WHOLE,
+        [f"{PLAIN}.tmp", f"{LATER_PLAIN}.tmp", f"{A_LATER}/set.blob", "notes.tmp"],
+    ),
+    (
+        "snapshots of all types, whatever key their manifests have",
+        [
+            (f"ct/z/2020-01-15T06:30:03Z/{MANIFEST}", OTHER_BLOB),
+            (f"{A_B}/set.blob", b"abc"),
+            (LATER_PLAIN, b"abc"),
+            (f"vm/A/9999-12-31T23:59:59Z/{MANIFEST}", OTHER_BLOB),
+        ],
+        rows(("ct/z/2020-01-15T06:30:03Z", 1), (A, 4), (A_LATER, None), (A_B, 1), ("vm/A/9999-12-31T23:59:59Z", 1)),
+        [],
+    ),
+]
 # Names of 255 bytes: what they begin and end with, with `x` between, and whether they stay.
 LONG = [
     ("", "", True),
@@ -152,6 +205,14 @@ OPEN_CALLS = len(STANDING)
 
 def folder(name, before, turns, left):
     return scenario(name, flat(place(*it) for it in before), talk(turns), files_left(left))
+
+
+def loaded(name, changes, told, going):
+    """Behind changes of that datastore a session lists it, and all files stay but these."""
+    files = {**TWO_SNAPSHOTS, **dict(changes)}
+    left = [(it, len(data)) for it, data in files.items() if data is not None and it not in going]
+    changed = flat(change(it, data) for it, data in changes)
+    return scenario(f"of two snapshots {name}", start_from(TWO_THERE), changed, talk([(LIST, told)]), files_left(left))
 
 
 def long_name(front, end, stays):
@@ -195,10 +256,18 @@ SCENARIOS = [
     ),
     folder(
         "a manifest that lists 64 files",
-        [(PLAIN, MANY_LISTED), *((f"{A}/{it}", b"abc") for it in MANY)],
+        [(PLAIN, many_listed(64)), *((it, b"abc") for it in MANY)],
         MANIFEST_DAMAGED,
         [],
     ),
+    folder(
+        "a manifest that lists 63 files",
+        [(PLAIN, many_listed(63)), *((it, b"abc") for it in MANY[:63])],
+        [(LIST, rows((A, 64)))],
+        [(PLAIN, len(many_listed(63))), *((it, 3) for it in MANY[:63])],
+    ),
+    scenario(TWO_THERE, flat(place(*it) for it in TWO_SNAPSHOTS.items()), crash(1), ends("Ok", 0, 0), keep(TWO_THERE)),
+    *(loaded(*it) for it in LOADED),
     scenario("the index is too long", place(PLAIN, FIXED_LISTED), place_zeros(FIXED_NAME, LONG_INDEX), talk(INDEX_TOO_LONG), files_left([])),
     *(long_name(*it) for it in LONG),
     *(

@@ -32,6 +32,12 @@ ENTRIES = [
     (append_digests(0, [(sha256(b"abc"), 0)] * APPEND_LIMIT), unknown_chunk(0)),
 ]
 
+
+
+def page(names):
+    return rows(*((name, None) for name in names))
+
+
 # A group with a snapshot more than it may have, a year apart, each damaged; and one that is later.
 GROUP_LIMIT = 4096
 MANY = [f"ct/a/{1970 + place}-01-01T00:00:00Z" for place in range(GROUP_LIMIT + 1)]
@@ -52,6 +58,14 @@ FULL = [
     (NEW_BACKUP, base()),
 ]
 OVERFULL = "4,097 snapshots"
+# LIST tells so many at once. Behind the 3,145th snapshot fewer are left, and behind the last one none.
+PAGE = 1024
+LISTED = [
+    (list_after(), page(MANY[:PAGE])),
+    (list_after(MANY[PAGE - 1]), page(MANY[PAGE : 2 * PAGE])),
+    (list_after(MANY[3144]), page(MANY[3145:])),
+    (list_after(MANY[-1]), page([])),
+]
 
 
 def damaged_snapshots(names):
@@ -63,6 +77,7 @@ SCENARIOS = [
     scenario("a 65th file", talk(FILES_SENT)),
     scenario("4,097 entries", talk(ENTRIES)),
     scenario(OVERFULL, damaged_snapshots(MANY), keep(OVERFULL), there(damaged_snapshots([LATER])), talk(FULL)),
+    scenario("LIST comes in pages", start_from(OVERFULL), talk(LISTED)),
     scenario(
         "none is pulled that is behind the oldest 4,096 of the remote",
         damaged_snapshots(MANY[-2:-1]),

@@ -1,7 +1,6 @@
 """Faults in a SYNC: what the remote lacks or has damaged, reads of it that fail, and a disk that stops."""
 from scenarios.archives import AGAIN
 from scenarios.backups import *
-from scenarios.folders import MANY_LISTED
 from scenarios.pulls import SYNC_A
 from scenarios.verifies import A_CONF, A_ROOT, LENGTHS, OF_ANOTHER_GROUP, SHORTER, TOO_LONG, both_listed, of_lengths
 
@@ -47,7 +46,7 @@ CHANGED = [
         unreadable(PLAIN),
         [1, 0, 0, 1, 0, 0, 6],
     ),
-    ("the manifest into one that lists 64 files", [(PLAIN, MANY_LISTED)], unreadable(PLAIN), [1, 0, 0, 1, 0, 0, 6]),
+    ("the manifest into one that lists 64 files", [(PLAIN, many_listed(64))], unreadable(PLAIN), [1, 0, 0, 1, 0, 0, 6]),
     ("the manifest into one that is too long", [(PLAIN, TOO_LONG)], unreadable(PLAIN), [1, 0, 0, 1, 0, 0, 6]),
     ("the manifest into one of another group", [(PLAIN, OF_ANOTHER_GROUP)], mismatch(2), NOT_FINISHED),
     ("the size of the archive", [(PLAIN, both_listed(size=6))], mismatch(6, "root.didx"), NOT_FINISHED),

@@ -1,4 +1,4 @@
-"""Whole sessions: those that end at BYE or between two frames, and those that come to a place without a command."""
+"""Whole sessions: those that end at BYE or between two frames, those that come to a place without a command, and those whose sink fails."""
 from scenarios.backups import *
 from scenarios.faults import READ_BACK, UNFINISHED
 from scenarios.listings import BACKED_UP
@@ -14,6 +14,7 @@ AGAIN = [*TWICE[:2], (abort(), DONE), *TWICE[:2]]
 CLEAN = [
     ("nothing", [], 0),
     ("FINISH without a session", [(finish(), NO_SESSION)], 0),
+    ("FINISH without a manifest", [(open_writer(A), base()), PUT_CONF, (finish(), no_file()), (bye(), DONE)], -1),
     ("no such snapshot", [(open_reader(A), no_snapshot()), (download(MANIFEST), NO_SESSION)], 0),
     (
         "a blob is downloaded from 0, 21 and 22",
@@ -191,8 +192,10 @@ BROKEN = [
     ("BYE with a byte more", [], frame(b"?\0"), AT_0, 6, 0, 0),
     ("a length over the limit", [], b"\x01\x04\0\x01", too_long(0x01000401), 4, 0, 0),
     ("the greatest length", [], b"\xff\xff\xff\xff", too_long(2**32 - 1), 4, 0, 0),
+    ("behind a command", [WRONG], frame(b"c"), AT_5, 10, 1, 5),
     ("behind a command, with more behind it", [WRONG], frame(b"c") + frame(finish()), AT_5, 10, 1, 5),
     ("an empty body behind a command", [WRONG], frame(b""), AT_5, 9, 1, 5),
+    ("a frame that the end cuts behind a command", [WRONG], u32(3) + finish(), AT_5, 10, 1, 5),
     ("half a length", [WRONG], b"\x03\0", AT_5, 7, 1, 5),
     ("LIST without a text", [], frame(bytes([LIST[0]])), AT_0, 5, 0, 0),
     ("an empty body behind LIST", [(LIST, rows())], frame(b""), bad_frame(6), 10, 1, 6),
@@ -224,12 +227,26 @@ def broken(name, turns, data, reply, taken, count, place):
     )
 
 
+def cut(count):
+    """The sink fails within the reply to a LIST."""
+    told_cut = talk([(LIST, rows((OTHER, 2)))], "SinkFault")
+    return scenario(f"the sink takes {count} bytes", start_from(BESIDE), takes(count), told_cut, kinds(0, 6), saved())
+
+
 SCENARIOS = [
     kept_backup(BESIDE, EARLIER),
     *(clean(*row) for row in CLEAN),
     three_ways("BYE", [(bye(), DONE)], ["ends Ok"], kinds(6)),
     scenario("what is behind BYE is not read", sent([(bye(), DONE)]) + raw(frame(finish())) + ends("Ok", 5, 10), kinds(6)),
     *(broken(*row) for row in BROKEN),
+    # within the frame's length, in front of the rows, and within a row
+    *map(cut, (0, 2, 5, 9)),
+    scenario(
+        "broken: the greatest length behind a command, with a byte more",
+        sent([WRONG]) + raw(b"\xff\xff\xff\xff\0") + told(too_long(2**32 - 1)) + ends("BadFrame", 10, 10),
+        kinds(0, 6),
+        placed(5),
+    ),
     scenario("a chunk is sent twice", talk(TWICE), calls(3, 7, 8, 8)),
     scenario("the same behind an ABORT", talk(AGAIN), calls(3, 7, 7, 7, 8, 8)),
 ]

@@ -1,5 +1,7 @@
-"""Files that another program takes between two calls of the disk, which then reads nothing where they stood: what is told of them."""
+"""Files that another program takes between two calls of the disk, which then reads nothing where they stood, and one that it puts there:
+what is told of them."""
 from scenarios.backups import *
+from scenarios.books import BOOK
 
 BACKUP = "a backup of a blob and an archive"
 A_CONF, A_ROOT = f"{A}/a.conf.blob", f"{A}/root.didx"
@@ -8,16 +10,16 @@ LISTED = (LIST, rows((A, 3)))
 # The calls of opening: sync, a list of all names, the manifest's size and the manifest, the sizes of the two files that it lists, and
 # the book's size, its count of touches, and the book.
 OPENED = 9
-# Which of them finds nothing, and what is told: no snapshot, a damaged one, or the book of no touches.
+# Which of them finds nothing, and what is told: no snapshot, or a damaged one.
 OPENINGS = [
     ("the manifest's size", 2, [(LIST, rows()), (open_reader(A), no_snapshot())]),
     ("the manifest", 3, [(LIST, rows()), (open_reader(A), no_snapshot())]),
     ("the blob's size", 4, [(LIST, rows((A, None))), (open_reader(A), unreadable(A_CONF))]),
     ("the archive's size", 5, [(LIST, rows((A, None))), (open_reader(A), unreadable(A_ROOT))]),
-    ("the book's size", 6, [LISTED]),
-    ("the book's count", 7, [LISTED]),
-    ("the book", 8, [LISTED]),
 ]
+# And the book, whose touches are then lost: its chunks are dated by the first entry.
+BOOK_OPENINGS = [("the book's size", 6), ("the book's count", 7), ("the book", 8)]
+BACKED_UP_AT, LATER_AT = 1_600_000_000, 1_600_000_100
 
 OPEN_READER = (open_reader(A), DONE)
 ABC_BLOB = (get_chunk(sha256(b"abc")), rest(blob(b"abc")))
@@ -50,24 +52,61 @@ VERIFIED = [
     ("the manifest at FILES: nothing is read", 0, unreadable(PLAIN)),
     ("the blob's size", 1, verified(3, 2, 5, file_fault("a.conf.blob", 24))),
     ("the blob", 2, verified(3, 2, 5, file_fault("a.conf.blob", 24))),
+    ("the manifest's size", 3, verified(3, 2, 5, file_fault(MANIFEST, 24))),
+    ("the manifest", 4, verified(3, 2, 5, file_fault(MANIFEST, 24))),
     ("the index's size: no chunks are read", 5, verified(3, 0, 0, file_fault("root.didx", 24))),
     ("the index: no chunks are read", 6, verified(3, 0, 0, file_fault("root.didx", 24))),
     ("the index's size at its first entry: no more are read", 7, verified(3, 2, 5, file_fault("root.didx", 24))),
     ("the first entry: no more are read", 8, verified(3, 2, 5, file_fault("root.didx", 24))),
     ("the first chunk's size", 9, verified(3, 2, 5, file_fault("root.didx", 23, sha256(b"abc")))),
     ("the first chunk", 10, verified(3, 2, 5, file_fault("root.didx", 23, sha256(b"abc")))),
+    ("the index's size at its second entry: no more are read", 11, verified(3, 2, 5, file_fault("root.didx", 24))),
     ("the second entry", 12, verified(3, 2, 5, file_fault("root.didx", 24))),
+    ("the second chunk's size", 13, verified(3, 2, 5, file_fault("root.didx", 23, sha256(b"de")))),
     ("the second chunk", 14, verified(3, 2, 5, file_fault("root.didx", 23, sha256(b"de")))),
 ]
+
+
+# A collection marks the index by two calls, and then lists the chunks.
+COLLECTED = [(gc(), collected(NOW, NOW - 86_700, 2, 0, 0))]
+LISTING = OPENED + 2
+# The file that a list has more.
+MORE = f".chunks/ffff/{'ff' * 32}"
 
 
 def without(name, call, turns):
     return scenario(f"taken: {name}", start_from(BACKUP), taken(call), talk(turns))
 
 
+def book_left(touched_at):
+    return bytes_at(".chunks/book", book(LATER_AT, (b"abc", touched_at), (b"de", touched_at)))
+
+
+def without_book(name, call):
+    turns = talk([LISTED])
+    return scenario(f"taken: {name}, as it is opened", start_from(BACKUP), clock(LATER_AT), taken(call), turns, book_left(LATER_AT))
+
+
 SCENARIOS = [
     kept_backup(BACKUP, ROOT_SENT, FIRST_RUN),
     *(without(f"{name}, as it is opened", call, turns) for name, call, turns in OPENINGS),
+    scenario("nothing is taken as it is opened", start_from(BACKUP), clock(LATER_AT), talk([LISTED]), book_left(BACKED_UP_AT)),
+    *(without_book(*row) for row in BOOK_OPENINGS),
     *(without(name, OPENED + call, turns) for name, call, turns in READS),
+    scenario(
+        "put: a chunk that the book does not have, as the chunks are listed: it is visited, and stays",
+        start_from(BACKUP),
+        shown(LISTING),
+        talk(COLLECTED),
+        kinds(3, 1, 1, 1, 1, 4, 6),
+        writes("s - - - - psr - psr"),
+    ),
+    scenario(
+        "put: a list that has a chunk twice, as it is opened: the book has it once",
+        place(MORE, blob(b"abc")),
+        shown(1),
+        talk([(LIST, rows())]),
+        bytes_at(BOOK, book_of([(b"\xff" * 32, NOW)], NOW, 1)),
+    ),
     *(without(f"{name}, as it is verified", OPENED + call, [(verify(A), reply), (forget(A), DONE)]) for name, call, reply in VERIFIED),
 ]

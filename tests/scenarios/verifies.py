@@ -97,7 +97,14 @@ CHANGED = [
 
 # An archive of 4,096 `x` and `y`, and over it one of `x` twice.
 Y = b"y"
-X_FILE, Y_FILE = (f".chunks/{sha256(it).hex()[:4]}/{sha256(it).hex()}" for it in (X, Y))
+
+
+def chunk_file(piece):
+    """Where its chunk stands."""
+    return f".chunks/{sha256(piece).hex()[:4]}/{sha256(piece).hex()}"
+
+
+X_FILE, Y_FILE = chunk_file(X), chunk_file(Y)
 # Each with how many entries the order of the VERIFY has.
 FIXED_CHANGED = [
     ("the first, as it was sent", [], VERIFY_A, verified(2, 2, 4097), 8),
@@ -113,6 +120,20 @@ FIXED_CHANGED = [
         6,
     ),
 ]
+
+# More parts of one batch than threads test at once: 31 of 128 short pieces, and two of one long piece. The second of these is another,
+# and the piece behind it is missing: the first of both is told.
+LONG, OTHER_LONG = bytes(2 << 20), b"x" * (2 << 20)
+PIECES = [b"x"] * 3968 + [LONG, OTHER_LONG, b"z"]
+PARTS_SIZE = sum(map(len, PIECES))
+PARTS = [
+    (PLAIN, blob(manifest(A, listed("root.didx", PARTS_SIZE, dynamic_csum(PIECES))))),
+    (A_ROOT, dynamic_index(A, "root.didx", NOW, PIECES)),
+    (chunk_file(b"x"), blob(b"x")),
+    (chunk_file(LONG), blob(LONG)),
+    (chunk_file(OTHER_LONG), blob(LONG)),
+]
+PARTS_TOLD = verified(2, len(PIECES), PARTS_SIZE, file_fault("root.didx", 23, sha256(OTHER_LONG)))
 
 # The reader of a VERIFY is closed behind it: no lane holds the snapshot.
 NO_FAULT = verified(2, 2, 5)
@@ -147,4 +168,5 @@ SCENARIOS = [
         changed("two archives of pieces of a fixed size", f"fixed: {name}", changes, command, reply, entries(count))
         for name, changes, command, reply, count in FIXED_CHANGED
     ),
+    scenario("more parts than threads", flat(place(*it) for it in PARTS), talk([(VERIFY_A, PARTS_TOLD)])),
 ]

@@ -15,6 +15,8 @@ pub enum Differs {
     Found(String),
     /// This was told in the place of the reply that this line wants.
     Told(usize, String),
+    /// What this line says does not come about.
+    Unmet(usize),
     /// This differs where the session fails or stops at this call.
     At(u64, String),
 }
@@ -50,6 +52,7 @@ impl Display for Differs {
             Differs::Unread => f.write_str("it has no reading here"),
             Differs::Found(text) => write!(f, "found {text}"),
             Differs::Told(line, text) => write!(f, "line {line}, told {text}"),
+            Differs::Unmet(line) => write!(f, "line {line} does not come about"),
             Differs::At(call, text) => write!(f, "call {call}: {text}"),
         }
     }

@@ -12,7 +12,7 @@ pub struct Count {
     pub differ: u64,
 }
 
-/// Plays the scenarios of a file, and prints the first line of each that does not hold.
+/// Plays the scenarios of a file, and prints the first line of each that does not hold. A file without any differs too.
 pub fn play_file<P: Print, R: Threads + Sync>(
     rt: &P,
     threads: &R,
@@ -24,6 +24,7 @@ pub fn play_file<P: Print, R: Threads + Sync>(
     let mut kept: Kept = Vec::new(alloc);
     let mut stage = Stage::new(alloc, "")?;
     let mut has_differed = false;
+    let before = count.all;
     for (place, line) in text.lines().enumerate() {
         let number = place.saturating_add(1);
         if let Some(name) = line.strip_prefix("= ") {
@@ -37,6 +38,10 @@ pub fn play_file<P: Print, R: Threads + Sync>(
             has_differed = true;
             count.differ = count.differ.saturating_add(1);
         }
+    }
+    if count.all == before {
+        println!(rt; "{file}: no scenario")?;
+        count.differ = count.differ.saturating_add(1);
     }
     Ok(())
 }

@@ -32,7 +32,7 @@ fn play_all<R: Threads + Sync>(rt: HostRuntime, threads: &R) -> io::Result<Count
 
 fn main(rt: HostRuntime) -> ExitCode {
     match play_all(rt, &rt) {
-        Ok(count) if count.differ == 0 => ExitCode::SUCCESS,
+        Ok(count) if count.differ == 0 && count.all > 0 => ExitCode::SUCCESS,
         Ok(_) => ExitCode::FAILURE,
         Err(error) => {
             let _ = eprintln!(rt; "scenarios: {error}");

@@ -3,7 +3,7 @@
 use crate::bytes::{bytes_of, shown};
 use crate::differs::Differs;
 use crate::words::{number_of, numbers_of, split};
-use port_traits::{MemSource, SetClock};
+use port_traits::{MemSink, MemSource, SetClock};
 use std::alloc::{AllocError, Global};
 
 /// A reply that is wanted, and the line that says so.
@@ -27,8 +27,12 @@ pub struct Plan {
     pub remote_fails: Vec<u64>,
     /// Which calls of the disk find nothing.
     pub taken: Vec<u64>,
+    /// Which lists of the disk have a name more.
+    pub shown: Vec<u64>,
     /// The most bytes that a read gives.
     gives: usize,
+    /// Behind how many bytes the sink fails.
+    takes: Option<u64>,
 }
 
 /// Where the clock stands.
@@ -46,7 +50,9 @@ impl Plan {
             stops: None,
             remote_fails: Vec::new(alloc),
             taken: Vec::new(alloc),
+            shown: Vec::new(alloc),
             gives: usize::MAX,
+            takes: None,
         }
     }
 
@@ -61,7 +67,9 @@ impl Plan {
             b"stops" => self.stops = Some(number_of(rest)?),
             b"remote-fails" => self.remote_fails = numbers_of(self.alloc, rest)?,
             b"taken" => self.taken = numbers_of(self.alloc, rest)?,
+            b"shown" => self.shown = numbers_of(self.alloc, rest)?,
             b"gives" => self.gives = number_of(rest)? as usize,
+            b"takes" => self.takes = Some(number_of(rest)?),
             _ => return Ok(false),
         }
         Ok(true)
@@ -87,12 +95,14 @@ impl Plan {
         Ok(())
     }
 
-    /// The replies are those that are wanted, one behind another.
+    /// The replies are those that are wanted, one behind another, as far as the sink takes them.
     pub fn compare(&self, told: &[u8]) -> Result<(), Differs> {
+        let is_cut = self.takes == Some(told.len() as u64);
         let mut rest = told;
         for Wanted { line, bytes } in &self.wanted {
             match rest.strip_prefix(bytes.as_slice()) {
                 Some(behind) => rest = behind,
+                None if is_cut && bytes.starts_with(rest) => return Ok(()),
                 None => return Err(Differs::Told(*line, shown(self.alloc, rest)?)),
             }
         }
@@ -138,6 +148,17 @@ impl Plan {
         let mut readings = self.clock.clone()?;
         let last = readings.pop().unwrap_or(STANDING);
         Ok(SetClock::new(readings, last))
+    }
+
+    /// A sink that takes all, or so many bytes, one at a time, and then fails.
+    pub fn sink(&self) -> Result<MemSink, AllocError> {
+        match self.takes {
+            None => Ok(MemSink::new(self.alloc, Vec::new(self.alloc))),
+            Some(count) => {
+                let failing = [count].to_vec(self.alloc)?;
+                Ok(MemSink::new(self.alloc, failing).at_most(1))
+            }
+        }
     }
 
     pub fn source(&self) -> Result<MemSource, AllocError> {

@@ -39,6 +39,8 @@ pub struct Left {
     pub told: Vec<u8>,
     pub disk: Counts,
     pub remote: Counts,
+    /// How many calls of the disk found nothing or more, as planned.
+    pub came: usize,
 }
 
 /// A disk as it reads, as one of its own.
@@ -71,7 +73,7 @@ fn serve_on<R: Threads + Sync>(
     remote: Option<Failed>,
 ) -> Result<(Over, Vec<u8>), AllocError> {
     let source = plan.source()?;
-    let sink = MemSink::new(alloc, Vec::new(alloc));
+    let sink = plan.sink()?;
     let clock = plan.clock()?;
     let words = words(alloc)?;
     let mut journal = MemSink::new(alloc, Vec::new(alloc));
@@ -91,7 +93,7 @@ fn serve_on<R: Threads + Sync>(
     Ok((served, told))
 }
 
-/// Both disks, which fail, and find nothing, as it is planned.
+/// Both disks, which fail, and find nothing or more, as it is planned.
 fn failing(plan: &Plan, disks: Disks) -> Result<(Taken, Option<Failed>), AllocError> {
     let disk = match plan.stops {
         None => FailingDisk::at_calls(disks.disk, plan.fails.clone()?),
@@ -101,7 +103,8 @@ fn failing(plan: &Plan, disks: Disks) -> Result<(Taken, Option<Failed>), AllocEr
         None => None,
         Some(remote) => Some(FailingDisk::at_calls(remote, plan.remote_fails.clone()?)),
     };
-    Ok((TakenDisk::new(disk, plan.taken.clone()?), remote))
+    let disk = TakenDisk::new(disk, plan.taken.clone()?, plan.shown.clone()?);
+    Ok((disk, remote))
 }
 
 fn counted<D: Disk>(before: u64, disk: &D) -> Counts {
@@ -175,6 +178,7 @@ pub fn serve_plan<R: Threads + Sync>(
         told,
         disk: counted(before, &served.disk),
         remote: remote_counts,
+        came: served.disk.came,
     };
     let disk = served.disk.into_inner().into_inner();
     Ok((left, Disks { disk, remote }))
@@ -182,7 +186,8 @@ pub fn serve_plan<R: Threads + Sync>(
 
 impl Left {
     /// What holds of every session: each entry is of lane 0, of this moment where it is known, and has its count of calls; as many
-    /// bytes were given as were told; and it ended where its input did or at BYE, but with BadFrame, where no command stands.
+    /// bytes were given as were told; and it ended where its input did or at BYE, but with BadFrame, where no command stands, or with
+    /// SinkFault.
     pub fn is_usual(&self, moment: Option<u64>) -> bool {
         for entry in &self.order {
             let wanted = moment.unwrap_or(entry.moment);
@@ -192,7 +197,7 @@ impl Left {
         }
         let given = match self.report.lanes.as_slice() {
             [report] => report.given == self.told.len() as u64 && self.fits(report.ending),
-            _ => true,
+            _ => self.report.not_opened.is_some(),
         };
         given && self.order.len() == self.report.calls.len()
     }
@@ -202,6 +207,7 @@ impl Left {
         match ending {
             Ending::Clean => self.status != Status::BadFrame,
             Ending::Broken { .. } => self.status == Status::BadFrame,
+            Ending::SinkFault => self.status == Status::SinkFault,
             _ => false,
         }
     }
@@ -210,6 +216,10 @@ impl Left {
     pub fn compare(&self, alloc: Global, plan: &Plan, ended: &str) -> Result<(), Differs> {
         plan.compare(&self.told)?;
         same(self.ended.clone()?, ended)?;
+        if self.came != plan.taken.len().saturating_add(plan.shown.len()) {
+            let text = String::from_str(alloc, "a call that does not come")?;
+            return Err(Differs::Found(text));
+        }
         self.compare_usual(alloc, plan)
     }
 

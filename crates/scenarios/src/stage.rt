@@ -5,7 +5,7 @@ use crate::checks::holds;
 use crate::differs::Differs;
 use crate::plan::Plan;
 use crate::session::{Disks, Left, copy_of, serve_plan};
-use crate::stops::{Found, Sweep};
+use crate::stops::{Found, Sweep, Whole};
 use crate::words::{number_of, split};
 use disk_trait::{Disk, MemoryDisk};
 use std::alloc::{AllocError, Global};
@@ -87,9 +87,9 @@ impl Stage {
             b"crash" => self.crash(rest),
             b"keep" => self.keep(kept, rest),
             b"from" => self.begin(kept, rest),
-            b"found" => self.find(rest),
+            b"found" => self.find(number, rest),
             b"name" => self.add_name(rest),
-            b"whole" => self.leave(rest),
+            b"whole" => self.leave(number, rest),
             _ => self.plan_or_test(number, word, rest),
         }
     }
@@ -145,10 +145,10 @@ impl Stage {
     }
 
     fn crash(&mut self, text: &str) -> Result<(), Differs> {
-        let Ok(choice) = u8::try_from(number_of(text)?) else {
-            return Err(Differs::Unread);
-        };
-        self.disk = self.disk.crashed(self.alloc, choice)?;
+        match u8::try_from(number_of(text)?) {
+            Ok(choice) if choice < 3 => self.disk = self.disk.crashed(self.alloc, choice)?,
+            _ => return Err(Differs::Unread),
+        }
         Ok(())
     }
 
@@ -168,8 +168,9 @@ impl Stage {
         Err(Differs::Unread)
     }
 
-    fn find(&mut self, text: &str) -> Result<(), Differs> {
-        self.sweep.founds.push(Found::new(self.alloc, text)?)?;
+    fn find(&mut self, line: usize, text: &str) -> Result<(), Differs> {
+        let found = Found::new(self.alloc, line, text)?;
+        self.sweep.founds.push(found)?;
         Ok(())
     }
 
@@ -183,10 +184,16 @@ impl Stage {
     }
 
     /// A crash may leave this file, of this size.
-    fn leave(&mut self, text: &str) -> Result<(), Differs> {
+    fn leave(&mut self, line: usize, text: &str) -> Result<(), Differs> {
         let (name, size) = split(text);
         let name = name_of(self.alloc, name)?;
-        self.sweep.whole.push((name, number_of(size)?))?;
+        let size = number_of(size)?;
+        self.sweep.wholes.push(Whole {
+            line,
+            name,
+            size,
+            is_left: false,
+        })?;
         Ok(())
     }
 
@@ -194,7 +201,7 @@ impl Stage {
     fn sweep<R: Threads + Sync>(&mut self, rt: &R, calls: u64) -> Result<(), Differs> {
         let alloc = self.alloc;
         let mut plan = mem::replace(&mut self.plan, Plan::new(alloc));
-        let sweep = mem::replace(&mut self.sweep, Sweep::new(alloc));
+        let mut sweep = mem::replace(&mut self.sweep, Sweep::new(alloc));
         let disk = copy_of(alloc, &self.disk)?;
         let remote = self.other.take();
         sweep.try_calls(rt, alloc, &mut plan, &Disks { disk, remote }, calls)

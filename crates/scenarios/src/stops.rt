@@ -15,21 +15,35 @@ use std::thread::Threads;
 /// up to how many.
 #[derive(Drop)]
 pub struct Found {
+    line: usize,
     pub plan: Plan,
     pub names: Vec<String>,
     since: u64,
     until: u64,
+    /// It was found.
+    is_met: bool,
+}
+
+/// A file that a crash may leave, by the line that says so.
+#[derive(Drop)]
+pub struct Whole {
+    pub line: usize,
+    pub name: String,
+    pub size: u64,
+    pub is_left: bool,
 }
 
 impl Found {
     /// By a line `found SINCE UNTIL`.
-    pub fn new(alloc: Global, text: &str) -> Result<Found, Differs> {
+    pub fn new(alloc: Global, line: usize, text: &str) -> Result<Found, Differs> {
         let (since, until) = split(text);
         Ok(Found {
+            line,
             plan: Plan::new(alloc),
             names: Vec::new(alloc),
             since: number_of(since)?,
             until: number_of(until)?,
+            is_met: false,
         })
     }
 
@@ -39,12 +53,12 @@ impl Found {
     }
 }
 
-/// What may be found behind a crash, and the files beside temporary ones that it may leave, with their sizes: any, where none is
-/// named.
+/// What may be found behind a crash, and the files beside temporary ones that it may leave: any, where none is named. Each of both
+/// comes about.
 #[derive(Drop)]
 pub struct Sweep {
     pub founds: Vec<Found>,
-    pub whole: Vec<(String, u64)>,
+    pub wholes: Vec<Whole>,
 }
 
 /// The names of the files beside chunks.
@@ -111,21 +125,23 @@ impl Sweep {
     pub fn new(alloc: Global) -> Sweep {
         Sweep {
             founds: Vec::new(alloc),
-            whole: Vec::new(alloc),
+            wholes: Vec::new(alloc),
         }
     }
 
-    fn is_whole(&self, name: &str, size: Option<u64>) -> bool {
-        for (known, length) in &self.whole {
-            if known.as_str() == name {
-                return size == Some(*length);
+    fn is_whole(&mut self, name: &str, size: Option<u64>) -> bool {
+        for whole in &mut self.wholes {
+            if whole.name.as_str() == name {
+                let is_left = size == Some(whole.size);
+                whole.is_left = whole.is_left || is_left;
+                return is_left;
             }
         }
-        name.ends_with(".tmp") || self.whole.is_empty()
+        name.ends_with(".tmp") || self.wholes.is_empty()
     }
 
     /// Each file is temporary, or one of those that may be left.
-    fn has_whole(&self, alloc: Global, disk: &mut MemoryDisk) -> Result<(), Differs> {
+    fn has_whole(&mut self, alloc: Global, disk: &mut MemoryDisk) -> Result<(), Differs> {
         for name in disk.list(alloc, "")? {
             let size = disk.size(name.as_str())?;
             if !self.is_whole(name.as_str(), size) {
@@ -137,24 +153,40 @@ impl Sweep {
 
     /// The state that a later session is told of fits these acts.
     fn fits(
-        &self,
+        &mut self,
         alloc: Global,
         told: &[u8],
         disk: &mut MemoryDisk,
         acts: Acts,
     ) -> Result<bool, Differs> {
         let names = names_on(alloc, disk)?;
-        for found in &self.founds {
+        for found in &mut self.founds {
             if found.plan.compare(told).is_ok() && names == found.names {
+                found.is_met = true;
                 return Ok(found.fits(acts));
             }
         }
         Ok(false)
     }
 
+    /// Each state was found, and each file left.
+    fn came_about(&self) -> Result<(), Differs> {
+        for found in &self.founds {
+            if !found.is_met {
+                return Err(Differs::Unmet(found.line));
+            }
+        }
+        for whole in &self.wholes {
+            if !whole.is_left {
+                return Err(Differs::Unmet(whole.line));
+            }
+        }
+        Ok(())
+    }
+
     /// A later session finds one of the states. Beside a remote it pulls what is left.
     fn try_later<R: Threads + Sync>(
-        &self,
+        &mut self,
         rt: &R,
         alloc: Global,
         disks: Disks,
@@ -164,6 +196,8 @@ impl Sweep {
             return Err(Differs::Unread);
         };
         let (left, mut disks) = serve_plan(rt, alloc, &first.plan, disks)?;
+        same(left.ended.clone()?, "Ok")?;
+        left.compare_usual(alloc, &first.plan)?;
         if !self.fits(alloc, &left.told, &mut disks.disk, acts)? {
             return Err(Differs::Found(text_of(alloc, &[acts.done])?));
         }
@@ -175,7 +209,7 @@ impl Sweep {
 
     /// What a crash of each kind leaves.
     fn try_crashes<R: Threads + Sync>(
-        &self,
+        &mut self,
         rt: &R,
         alloc: Global,
         disks: &Disks,
@@ -192,7 +226,7 @@ impl Sweep {
 
     /// The session fails as it is planned, where so many acts are done if it does not; or nothing of it fails. Gives what it did.
     fn try_failing<R: Threads + Sync>(
-        &self,
+        &mut self,
         rt: &R,
         alloc: Global,
         plan: &Plan,
@@ -215,7 +249,7 @@ impl Sweep {
 
     /// The call with this number fails, and then the session stops before it.
     fn try_call<R: Threads + Sync>(
-        &self,
+        &mut self,
         rt: &R,
         alloc: Global,
         plan: &mut Plan,
@@ -234,7 +268,7 @@ impl Sweep {
 
     /// Nothing fails where the call behind so many is to, and each of these fails.
     pub fn try_calls<R: Threads + Sync>(
-        &self,
+        &mut self,
         rt: &R,
         alloc: Global,
         plan: &mut Plan,
@@ -245,7 +279,7 @@ impl Sweep {
         for call in 0..calls {
             let _ = self.try_call(rt, alloc, plan, disks, call, Some(whole.done))?;
         }
-        Ok(())
+        self.came_about()
     }
 }
 
