@@ -121,8 +121,8 @@ FIXED_CHANGED = [
     ),
 ]
 
-# More parts of one batch than threads test at once: 31 of 128 short pieces, and two of one long piece. The second of these is another,
-# and the piece behind it is missing: the first of both is told.
+# More parts of one batch than threads test at once: 31 of 128 short pieces, and two of one long piece. Each of these is another piece's,
+# and the piece behind them is missing: the first is told.
 LONG, OTHER_LONG = bytes(2 << 20), b"x" * (2 << 20)
 PIECES = [b"x"] * 3968 + [LONG, OTHER_LONG, b"z"]
 PARTS_SIZE = sum(map(len, PIECES))
@@ -130,10 +130,10 @@ PARTS = [
     (PLAIN, blob(manifest(A, listed("root.didx", PARTS_SIZE, dynamic_csum(PIECES))))),
     (A_ROOT, dynamic_index(A, "root.didx", NOW, PIECES)),
     (chunk_file(b"x"), blob(b"x")),
-    (chunk_file(LONG), blob(LONG)),
+    (chunk_file(LONG), blob(OTHER_LONG)),
     (chunk_file(OTHER_LONG), blob(LONG)),
 ]
-PARTS_TOLD = verified(2, len(PIECES), PARTS_SIZE, file_fault("root.didx", 23, sha256(OTHER_LONG)))
+PARTS_TOLD = verified(2, len(PIECES), PARTS_SIZE, file_fault("root.didx", 23, sha256(LONG)))
 
 # The reader of a VERIFY is closed behind it: no lane holds the snapshot.
 NO_FAULT = verified(2, 2, 5)
