@@ -45,7 +45,7 @@ TABLES = {
             blob(manifest(A_LATER)),
             frame(file_rows((MANIFEST, 86, sha256(blob(manifest(A_LATER)))))),
         ],
-        "HELD": [
+        "FORGOTTEN": [
             open_writer("host/a/2020-01-15T06:30:05Z"),
             frame(base(A_LATER)),
             frame(snapshot_busy(6)),

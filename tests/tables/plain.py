@@ -268,6 +268,11 @@ def pruned(keep, snapshots, replies, forgets, report):
     return [prune("host/a", **keep), keys(*snapshots), *replies, asked]
 
 
+def not_pruned(reply):
+    """A PRUNE whose own command is refused."""
+    return [prune("host/a", **LAST), reply, frames(group("host/a"), reply)]
+
+
 def marked(snapshots, *them):
     """The newest first."""
     return marks(*zip(reversed(snapshots), them))
@@ -334,7 +339,11 @@ TABLES = {
             *pruned(LAST, TWO_DAYS, [no_memory()], [1], no_memory()),
             *pruned(LAST, TWO_DAYS, [done(), disk_fault()], [1, 0], disk_fault()),
         ],
-        "REFUSED": [wrong_state(1), bad_name(), too_many(1000)],
+        "REFUSED": [
+            *not_pruned(wrong_state(1)),
+            *not_pruned(bad_name()),
+            *not_pruned(too_many(1000)),
+        ],
     },
     "plain_tests/src/pulls.rt": {
         "JOBS": [

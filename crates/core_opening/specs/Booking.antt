@@ -24,6 +24,6 @@ abbrev pub CallsTwiceAtMost : {D : Type 0} → Ghosts D → D → D → Type 0
 CallsTwiceAtMost d old new = d.honest old → d.calls new ≤ d.calls old + 2
 
 -- Of an honest disk, where the book's file does not count its size: two calls at most, and memory is not wanting.
-pub record TakesNoMemory {D A : Type 0} (d : Ghosts D) (old new : D) (result : Result A DiskError) : Type 0 where
+pub record IsPassedOver {D A : Type 0} (d : Ghosts D) (old new : D) (result : Result A DiskError) : Type 0 where
   pub few : d.honest old → counts_its_size (get (d.content old) book_name) ≡ false → d.calls new ≤ d.calls old + 2
   pub wanting : d.honest old → counts_its_size (get (d.content old) book_name) ≡ false → IsErrOf result NoMemory → ⊥

@@ -6,7 +6,7 @@ ghost use Rattle.store_types.specs.Times.{last_moment};
 ghost use Rattle.store_files.specs.Book.{book_of};
 ghost use Rattle.atime_book.specs.Touches.{IsEarly, empty};
 ghost use Rattle.store_history.specs.Saved.{saved_book};
-ghost use Rattle.core_opening.specs.Booking.{CallsTwiceAtMost, TakesNoMemory, TellsCount};
+ghost use Rattle.core_opening.specs.Booking.{CallsTwiceAtMost, IsPassedOver, TellsCount};
 ghost use Rattle.core_opening.specs.Opening.{KeepsChunks};
 
 use atime_book::Book;
@@ -46,7 +46,7 @@ fn counts_its_size<D: Disk>(disk: &mut D) -> Result<bool, Failed>
 fn saved_book_of<D: Disk>(disk: &mut D, alloc: Global) -> Result<Book, DiskError>
     ensures reads { OnlyReads D.Disk disk.old disk.new (IsErrOf result DiskError.Failed) }
     ensures book { D.honest disk.old → IfOk result (λ b. b ≡ saved_book (D.content disk.old)) }
-    ensures unread { TakesNoMemory D.Disk disk.old disk.new result }
+    ensures unread { IsPassedOver D.Disk disk.old disk.new result }
     // on any disk
     ensures early { IfOk result IsEarly }
     ensures in_time { IfOk result (λ book. book.moment ≤ last_moment) }

@@ -38,6 +38,10 @@ pub(crate) enum Step {
     Remove(&'static str),
     /// A file of so many bytes stands at the path: done, or no file.
     Holds(&'static str, u64),
+    /// So many names on the disk have this front: done, or no file.
+    Names(&'static str, usize),
+    /// The last act made so many calls of the disk: done, or no file.
+    Calls(u64),
 }
 
 /// An act of a lane, with the frame of its reply, and the kind of its entry.
@@ -73,37 +77,44 @@ fn is_blob_of(digest: Digest32, blob: &[u8]) -> bool
     true
 }
 
-/// The act of a command, where it is one of its own or begins a PRUNE. A chunk is one that has its digest.
-fn act_of_command(command: Command) -> Option<Act>
-    ensures { IfSome result IsWellFormed }
+/// The upload of a chunk that has its digest.
+fn act_of_chunk(digest: Digest32, blob: Bytes) -> Result<Act, Fail>
+    ensures { IfOk result IsWellFormed }
+{
+    if !is_blob_of(digest, blob.as_slice()) {
+        return Err("another digest".into());
+    }
+    let checked = Ok(blob);
+    Ok(Act::Chunk { digest, checked })
+}
+
+/// The act of a command, where it is one of its own or begins a PRUNE.
+fn act_of_command(command: Command) -> Result<Act, Fail>
+    ensures { IfOk result IsWellFormed }
 {
     match command {
-        Command::Chunk { digest, blob } => {
-            if !is_blob_of(digest, blob.as_slice()) {
-                return None;
-            }
-            let checked = Ok(blob);
-            Some(Act::Chunk { digest, checked })
-        }
-        Command::Blob { file, blob } => Some(Act::Blob {
+        Command::Chunk { digest, blob } => act_of_chunk(digest, blob),
+        Command::Blob { file, blob } => Ok(Act::Blob {
             name: file,
             checked: checked(blob),
         }),
         Command::Prune { group, keep, dry } => {
-            Some(Act::JobGroup(Command::Prune { group, keep, dry }))
+            Ok(Act::JobGroup(Command::Prune { group, keep, dry }))
         }
-        Command::Verify { .. } | Command::Sync { .. } | Command::Gc | Command::Bye => None,
-        command => Some(Act::Plain(command)),
+        Command::Verify { .. } | Command::Sync { .. } | Command::Gc | Command::Bye => {
+            Err("no act".into())
+        }
+        command => Ok(Act::Plain(command)),
     }
 }
 
 fn act_sent(alloc: Global, body: &[u8]) -> Result<Act, Fail>
     ensures { IfOk result IsWellFormed }
 {
-    let Ok(command) = Command::read(alloc, body)? else {
-        return Err("no command".into());
-    };
-    Ok(act_of_command(command).ok_or("no act")?)
+    match Command::read(alloc, body)? {
+        Ok(command) => act_of_command(command),
+        Err(_) => Err("no command".into()),
+    }
 }
 
 fn named(alloc: Global, name: &[u8]) -> Result<FileName, Fail> {
@@ -152,6 +163,49 @@ pub(crate) fn acts_of(alloc: Global, rows: &[Row]) -> Result<Vec<(u32, Act)>, Fa
     Ok(acts)
 }
 
+/// What an act was answered: its entry's lane and kind, the entry's number, whether it was the last, the frame of its reply, and the
+/// answer as it is shown.
+#[derive(Drop)]
+pub(crate) struct Told {
+    pub(crate) lane: u32,
+    pub(crate) kind: u8,
+    pub(crate) place: u64,
+    pub(crate) last: bool,
+    pub(crate) frame: MemSink,
+    pub(crate) shown: String,
+}
+
+/// The frame of a reply, if any.
+fn frame(alloc: Global, reply: &Option<Reply>) -> Result<MemSink, Fail>
+    requires { IfSome reply.now ReplyHasText }
+{
+    let mut sink = MemSink::new(alloc, Vec::new(alloc));
+    if let Some(reply) = reply {
+        reply.put(&mut sink)?;
+    }
+    Ok(sink)
+}
+
+/// An answer as it is shown.
+pub(crate) fn text_of(alloc: Global, answer: &Answer) -> Result<String, Fail> {
+    Ok(format!(in alloc; "{answer:?}")?)
+}
+
+fn told_by(alloc: Global, answer: &Answer) -> Result<Told, Fail>
+    requires { IfSome answer.now.reply ReplyHasText }
+{
+    let sink = frame(alloc, &answer.reply)?;
+    let shown = text_of(alloc, answer)?;
+    Ok(Told {
+        lane: answer.entry.lane,
+        kind: answer.entry.kind,
+        place: answer.place,
+        last: answer.last,
+        frame: sink,
+        shown,
+    })
+}
+
 /// Does an act, where there is room.
 pub(crate) fn do_act(
     rt: &impl Abort,
@@ -159,21 +213,9 @@ pub(crate) fn do_act(
     alloc: Global,
     lane: u32,
     step: Step,
-) -> Result<Answer, Fail>
-    ensures { IfOk result (λ answer. IfSome answer.reply ReplyHasText) }
-{
+) -> Result<Told, Fail> {
     let act = act_of(alloc, step)?;
     assert!(rt; lane < 64 && core.room(lane, &act));
-    Ok(apply(core, alloc, lane, act))
-}
-
-/// The frame of a reply, if any.
-pub(crate) fn frame(alloc: Global, reply: Option<Reply>) -> Result<MemSink, Fail>
-    requires { IfSome reply ReplyHasText }
-{
-    let mut sink = MemSink::new(alloc, Vec::new(alloc));
-    if let Some(reply) = reply {
-        reply.put(&mut sink)?;
-    }
-    Ok(sink)
+    let answer = apply(core, alloc, lane, act);
+    told_by(alloc, &answer)
 }

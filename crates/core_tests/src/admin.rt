@@ -1,7 +1,6 @@
 use crate::acts::{Row, Rows, Step};
-use crate::asserts::same;
-use crate::cases::{behind, count_names, put_beside, try_rows, try_tables};
-use crate::fixtures::{DIGITS, MANIFEST_PATH};
+use crate::cases::{put_beside, try_rows, try_tables};
+use crate::fixtures::{DIGITS, MANIFEST_PATH, STILL, TestCore, opened};
 use crate::folders::Archives;
 use crate::sent::{
     ABORT, BAD_NAME, BOTH_KEYS, DONE, FILES, FINISH, FIRST_BASE, FORGET_FIRST, FORGET_SECOND,
@@ -9,7 +8,7 @@ use crate::sent::{
     OPEN_SECOND, PUT_DIGITS, PUT_WITH_FILE, UNREADABLE,
 };
 use blob_codec::encode;
-use disk_trait::{Disk, MemoryDisk};
+use disk_trait::MemoryDisk;
 use std::alloc::Global;
 use std::process::Abort;
 use std::test::Fail;
@@ -200,17 +199,23 @@ fn listing(alloc: Global) -> Result<Vec<u8>, Fail> {
 
 static NO_MANIFEST: [Row; 1] = [(5, Step::Send(FILES), UNREADABLE, 0)];
 
+fn try_listing(rt: &impl Abort, core: &mut TestCore, alloc: Global) -> Result<(), Fail> {
+    try_rows(rt, core, alloc, [0; 4], written())?;
+    put_beside(core, alloc, MANIFEST_PATH, &listing(alloc)?)?;
+    try_rows(rt, core, alloc, [1, 0, 0, 0], &NO_MANIFEST)
+}
+
 /// A manifest that was put there since the datastore was opened lists 64 files, which no FINISH makes.
 #[test]
 fn a_manifest_of_64_files_is_none(rt: HostRuntime) -> Result<(), Fail> {
     let alloc = rt.alloc();
-    let mut core = behind(&rt, alloc, MemoryDisk::new(alloc), &[], written())?;
-    put_beside(&mut core, alloc, MANIFEST_PATH, &listing(alloc)?)?;
-    try_rows(&rt, &mut core, alloc, [1, 0, 0, 0], &NO_MANIFEST)
+    let mut core = opened(alloc, MemoryDisk::new(alloc), STILL)?;
+    try_listing(&rt, &mut core, alloc)
 }
 
-/// A writer has the second as base, which is not forgotten then.
-static HELD: [Row; 4] = [
+/// A writer has the second as base, which is not forgotten then. The first is: its manifest goes, a sync, and its other file. The
+/// second is forgotten once its holder has ended.
+static FORGOTTEN: [Row; 14] = [
     (
         6,
         Step::Send(b"\x0a\x1bhost/a/2020-01-15T06:30:05Z"),
@@ -220,13 +225,10 @@ static HELD: [Row; 4] = [
     (5, Step::Send(FORGET_SECOND), b"\x05\0\0\0\x06\x06\0\0\0", 0),
     (6, Step::Send(FORGET_SECOND), IN_WRITER, 0),
     (5, Step::Send(b" \x06host/a"), BAD_NAME, 0),
-];
-
-/// The first is forgotten.
-static GONE: [Row; 1] = [(5, Step::Send(FORGET_FIRST), DONE, 0)];
-
-/// The first is gone, and the second is forgotten once its holder has ended.
-static LEFT: [Row; 6] = [
+    (5, Step::Send(FORGET_FIRST), DONE, 0),
+    (5, Step::Calls(3), DONE, 0),
+    (5, Step::Names("host/a/2020-01-15T06:30:03Z", 0), DONE, 0),
+    (5, Step::Names("host/", 2), DONE, 0),
     (5, Step::Holds(MANIFEST_PATH, 196), NO_FILE, 0),
     (5, Step::Send(FORGET_FIRST), NO_SNAPSHOT, 0),
     (5, Step::Send(LIST), TWO_LISTED, 0),
@@ -237,17 +239,5 @@ static LEFT: [Row; 6] = [
 
 #[test]
 fn snapshots_are_forgotten(rt: HostRuntime) -> Result<(), Fail> {
-    let alloc = rt.alloc();
-    let mut core = behind(&rt, alloc, MemoryDisk::new(alloc), written(), &HELD)?;
-    let before = core.parts.disk.calls();
-    try_rows(&rt, &mut core, alloc, [2, 0, 0, 0], &GONE)?;
-    // the manifest, a sync, the other file
-    same(&rt, core.parts.disk.calls().saturating_sub(before), 3);
-    same(
-        &rt,
-        count_names(&mut core, alloc, "host/a/2020-01-15T06:30:03Z")?,
-        0,
-    );
-    same(&rt, count_names(&mut core, alloc, "host/")?, 2);
-    try_rows(&rt, &mut core, alloc, [3, 0, 0, 0], &LEFT)
+    try_written(&rt, rt.alloc(), &FORGOTTEN)
 }

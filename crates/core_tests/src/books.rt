@@ -2,7 +2,7 @@
 
 use crate::acts::{Row, Step};
 use crate::asserts::same_at;
-use crate::cases::try_act;
+use crate::cases::{Spot, begun_with, try_row};
 use crate::fixtures::{
     ABC_BLOB, ABC_CHUNK, BOOK, Clock, DE_BLOB, DE_CHUNK, Kept, TestCore, kept, opened,
 };
@@ -10,7 +10,7 @@ use crate::folders::{Archives, Contents, folder, put};
 use crate::sent::{
     FORGET_FIRST, LIST, NO_BASE, NO_MEMORY, NO_SNAPSHOT, NONE_THERE, NOTHING, OPEN_FIRST,
 };
-use disk_trait::Disk;
+use disk_trait::MemoryDisk;
 use std::alloc::Global;
 use std::process::Abort;
 use std::test::Fail;
@@ -99,20 +99,18 @@ static DAMAGED: [(&[u8], u64); 9] = [
 /// A clock that falls behind its second reading.
 const CLOCK: Clock = (&[70, 80], 0);
 
-/// A core over these chunks and this book.
-fn begun(alloc: Global, book: Option<&[u8]>, chunks: Contents) -> Result<TestCore, Fail> {
+/// A disk with these chunks and this book.
+fn disk_with(alloc: Global, book: Option<&[u8]>, chunks: Contents) -> Result<MemoryDisk, Fail> {
     let mut disk = folder(alloc, chunks, Archives::Root(0))?;
     if let Some(bytes) = book {
         put(alloc, &mut disk, BOOK, bytes)?;
     }
-    opened(alloc, disk, CLOCK)
+    Ok(disk)
 }
 
-/// What it has, and how many calls its opening made.
+/// What a core over it has, and how many calls its opening made.
 fn kept_by(alloc: Global, book: Option<&[u8]>, chunks: Contents) -> Result<(Kept, u64), Fail> {
-    let core = begun(alloc, book, chunks)?;
-    let put = (chunks.len() as u64).saturating_add(book.is_some() as u64);
-    Ok((kept(&core), core.parts.disk.calls().saturating_sub(put)))
+    begun_with(alloc, disk_with(alloc, book, chunks)?)
 }
 
 #[test]
@@ -180,25 +178,35 @@ static DATED: [Dated; 8] = [
 ];
 
 /// An act, and another: the first dates what is undated.
-fn try_dated(rt: &impl Abort, alloc: Global, number: usize, row: &Dated) -> Result<(), Fail> {
-    let (book, act, first, second) = row;
-    let mut core = begun(alloc, *book, BOTH)?;
-    let spot = [number, 0, 0, 0];
-    let _ = try_act(rt, &mut core, alloc, (spot, 0), act)?;
+fn try_two(
+    rt: &impl Abort,
+    core: &mut TestCore,
+    alloc: Global,
+    spot: Spot,
+    row: &Dated,
+) -> Result<(), Fail> {
+    let (_, act, first, second) = row;
+    try_row(rt, core, alloc, (spot, 0), act)?;
     same_at(
         rt,
         spot,
-        kept(&core),
+        kept(core),
         (*first, Some(*first), Some(*first), 0),
     );
-    let _ = try_act(rt, &mut core, alloc, (spot, 1), &LISTS)?;
+    try_row(rt, core, alloc, (spot, 1), &LISTS)?;
     same_at(
         rt,
         spot,
-        kept(&core),
+        kept(core),
         (*second, Some(*first), Some(*first), 0),
     );
     Ok(())
+}
+
+fn try_dated(rt: &impl Abort, alloc: Global, number: usize, row: &Dated) -> Result<(), Fail> {
+    let (book, _, _, _) = row;
+    let mut core = opened(alloc, disk_with(alloc, *book, BOTH)?, CLOCK)?;
+    try_two(rt, &mut core, alloc, [number, 0, 0, 0], row)
 }
 
 #[test]

@@ -1,8 +1,8 @@
 //! How tables are tried. Their acts are done one after another, by `apply`, and on another core as one list, by `play`.
 
-use crate::acts::{Row, Step, acts_of, do_act, frame};
+use crate::acts::{Row, Step, Told, acts_of, do_act, text_of};
 use crate::asserts::same_at;
-use crate::fixtures::{Clock, Kept, STILL, TestCore, kept, opened};
+use crate::fixtures::{Clock, Kept, STILL, TestCore, disk_of, kept, opened};
 use crate::folders::{Archives, Contents, folder, put};
 use crate::sent::{DONE, NO_FILE};
 use core_laws::play;
@@ -29,32 +29,25 @@ pub(crate) struct Case<'a> {
     pub(crate) saved: Kept,
 }
 
-/// Does an act, and compares the frame of its reply and its entry. Gives the answer as it is shown.
-pub(crate) fn try_act(
+/// Does an act, and compares its entry and the frame of its reply with the row.
+fn try_act(
     rt: &impl Abort,
     core: &mut TestCore,
     alloc: Global,
     spot: (Spot, usize),
     row: &Row,
-) -> Result<String, Fail> {
+) -> Result<Told, Fail> {
     let (lane, step, expected, kind) = row;
     let number = core.journal.entries.len() as u64;
-    let answer = do_act(rt, core, alloc, *lane, *step)?;
-    let shown = format!(in alloc; "{answer:?}")?;
-    let Answer {
-        reply,
-        entry,
-        place,
-        last,
-    } = answer;
-    let found = (entry.lane, entry.kind, place, last);
+    let told = do_act(rt, core, alloc, *lane, *step)?;
+    let found = (told.lane, told.kind, told.place, told.last);
     same_at(rt, spot, found, (*lane, *kind, number, false));
-    same_at(rt, spot, frame(alloc, reply)?.as_bytes(), *expected);
-    Ok(shown)
+    same_at(rt, spot, told.frame.as_bytes(), *expected);
+    Ok(told)
 }
 
 /// Does the acts one after another. Gives the answers as they are shown.
-pub(crate) fn try_acts(
+fn try_acts(
     rt: &impl Abort,
     core: &mut TestCore,
     alloc: Global,
@@ -63,7 +56,7 @@ pub(crate) fn try_acts(
 ) -> Result<Vec<String>, Fail> {
     let mut shown = Vec::new(alloc);
     for (number, row) in rows.iter().enumerate() {
-        shown.push(try_act(rt, core, alloc, (spot, number), row)?)?;
+        shown.push(try_act(rt, core, alloc, (spot, number), row)?.shown)?;
     }
     Ok(shown)
 }
@@ -79,28 +72,81 @@ fn try_moments(rt: &impl Abort, spot: Spot, order: &[Entry], clock: Clock, began
     }
 }
 
-/// Plays them as one list. Each is answered as it was.
-fn try_list(
+/// Each is answered as it was.
+fn try_shown(
     rt: &impl Abort,
-    core: &mut TestCore,
     alloc: Global,
     spot: Spot,
-    rows: &[Row],
+    answers: &[Answer],
     shown: &[String],
 ) -> Result<(), Fail> {
-    let acts = acts_of(alloc, rows)?;
-    let answers = play(core, alloc, acts).ok().ok_or("not played")?;
     same_at(rt, spot, answers.len(), shown.len());
     for (answer, text) in answers.iter().zip(shown) {
-        let found = format!(in alloc; "{answer:?}")?;
+        let found = text_of(alloc, answer)?;
         same_at(rt, spot, found.as_str(), text.as_str());
     }
     Ok(())
 }
 
+/// A core with what stands in its folder.
 fn begun(alloc: Global, case: &Case<'_>) -> Result<TestCore, Fail> {
     let disk = folder(alloc, case.files, case.archives)?;
     opened(alloc, disk, case.clock)
+}
+
+/// Its acts are done one after another. Gives the answers as they are shown.
+fn try_each(
+    rt: &impl Abort,
+    core: &mut TestCore,
+    alloc: Global,
+    spot: Spot,
+    case: &Case<'_>,
+) -> Result<Vec<String>, Fail> {
+    let began = core.last;
+    let shown = try_acts(rt, core, alloc, spot, case.steps)?;
+    same_at(rt, spot, kept(core), case.left);
+    try_moments(rt, spot, &core.journal.entries, case.clock, began);
+    Ok(shown)
+}
+
+/// They are played as one list.
+fn try_list(
+    rt: &impl Abort,
+    core: &mut TestCore,
+    alloc: Global,
+    spot: Spot,
+    case: &Case<'_>,
+    shown: &[String],
+) -> Result<(), Fail> {
+    let acts = acts_of(alloc, case.steps)?;
+    let answers = play(core, alloc, acts).ok().ok_or("not played")?;
+    try_shown(rt, alloc, spot, &answers, shown)?;
+    same_at(rt, spot, kept(core), case.left);
+    Ok(())
+}
+
+/// They are done one after another on a core of its own.
+fn shown_by(
+    rt: &impl Abort,
+    alloc: Global,
+    spot: Spot,
+    case: &Case<'_>,
+) -> Result<Vec<String>, Fail> {
+    let mut core = begun(alloc, case)?;
+    try_each(rt, &mut core, alloc, spot, case)
+}
+
+/// They are played as one list on another. Gives what then stands on the disk.
+fn left_by(
+    rt: &impl Abort,
+    alloc: Global,
+    spot: Spot,
+    case: &Case<'_>,
+    shown: &[String],
+) -> Result<MemoryDisk, Fail> {
+    let mut core = begun(alloc, case)?;
+    try_list(rt, &mut core, alloc, spot, case, shown)?;
+    Ok(disk_of(core))
 }
 
 /// Its acts are done one after another, and on another core as one list. Both leave the same.
@@ -110,16 +156,10 @@ pub(crate) fn try_case(
     spot: Spot,
     case: &Case<'_>,
 ) -> Result<(), Fail> {
-    let mut core = begun(alloc, case)?;
-    let began = core.last;
-    let shown = try_acts(rt, &mut core, alloc, spot, case.steps)?;
-    same_at(rt, spot, kept(&core), case.left);
-    try_moments(rt, spot, &core.journal.entries, case.clock, began);
-    let mut core = begun(alloc, case)?;
-    try_list(rt, &mut core, alloc, spot, case.steps, &shown)?;
-    same_at(rt, spot, kept(&core), case.left);
-    let again = opened(alloc, core.parts().disk.into_inner(), STILL)?;
-    same_at(rt, spot, kept(&again), case.saved);
+    let shown = shown_by(rt, alloc, spot, case)?;
+    let disk = left_by(rt, alloc, spot, case, &shown)?;
+    let (found, _) = begun_with(alloc, disk)?;
+    same_at(rt, spot, found, case.saved);
     Ok(())
 }
 
@@ -140,6 +180,18 @@ pub(crate) fn put_beside(
     put(alloc, &mut core.parts.disk, path, bytes)
 }
 
+/// How many names on the disk have this front.
+fn count_names(core: &mut TestCore, alloc: Global, front: &str) -> Result<usize, Fail> {
+    Ok(core.parts.disk.list(alloc, front)?.len())
+}
+
+/// How many calls of the disk the last act made.
+fn last_calls(core: &TestCore) -> u64 {
+    let calls = &core.journal.calls;
+    let before = calls.get(calls.len().saturating_sub(2)).unwrap_or(&0);
+    core.parts.disk.calls().saturating_sub(*before)
+}
+
 /// What is done or found on the disk beside acts: whether it was there.
 fn changed(core: &mut TestCore, alloc: Global, step: Step) -> Result<Option<bool>, Fail> {
     match step {
@@ -149,11 +201,14 @@ fn changed(core: &mut TestCore, alloc: Global, step: Step) -> Result<Option<bool
         }
         Step::Remove(path) => Ok(Some(core.parts.disk.remove(path)?)),
         Step::Holds(path, size) => Ok(Some(core.parts.disk.size(path)? == Some(size))),
+        Step::Names(front, count) => Ok(Some(count_names(core, alloc, front)? == count)),
+        Step::Calls(count) => Ok(Some(last_calls(core) == count)),
         _ => Ok(None),
     }
 }
 
-fn try_row(
+/// Does the act, or what stands there beside acts.
+pub(crate) fn try_row(
     rt: &impl Abort,
     core: &mut TestCore,
     alloc: Global,
@@ -161,13 +216,15 @@ fn try_row(
     row: &Row,
 ) -> Result<(), Fail> {
     let (_, step, expected, _) = row;
-    match changed(core, alloc, *step)? {
-        Some(true) => same_at(rt, spot, DONE, *expected),
-        Some(false) => same_at(rt, spot, NO_FILE, *expected),
+    let found = match changed(core, alloc, *step)? {
+        Some(true) => DONE,
+        Some(false) => NO_FILE,
         None => {
-            let _ = try_act(rt, core, alloc, spot, row)?;
+            drop(try_act(rt, core, alloc, spot, row)?);
+            return Ok(());
         }
-    }
+    };
+    same_at(rt, spot, found, *expected);
     Ok(())
 }
 
@@ -185,22 +242,34 @@ pub(crate) fn try_rows(
     Ok(())
 }
 
-/// The core over this disk, by a clock that stands, once the acts of both tables are done.
+/// The acts of both tables, by a clock that stands.
+fn try_both(
+    rt: &impl Abort,
+    core: &mut TestCore,
+    alloc: Global,
+    before: &[Row],
+    rows: &[Row],
+) -> Result<(), Fail> {
+    try_rows(rt, core, alloc, [0, 0, 0, 0], before)?;
+    try_rows(rt, core, alloc, [1, 0, 0, 0], rows)?;
+    try_moments(rt, [0; 4], &core.journal.entries, STILL, 0);
+    Ok(())
+}
+
+/// What stands on this disk, once they are done on a core over it.
 pub(crate) fn behind(
     rt: &impl Abort,
     alloc: Global,
     disk: MemoryDisk,
     before: &[Row],
     rows: &[Row],
-) -> Result<TestCore, Fail> {
+) -> Result<MemoryDisk, Fail> {
     let mut core = opened(alloc, disk, STILL)?;
-    try_rows(rt, &mut core, alloc, [0, 0, 0, 0], before)?;
-    try_rows(rt, &mut core, alloc, [1, 0, 0, 0], rows)?;
-    try_moments(rt, [0; 4], &core.journal.entries, STILL, 0);
-    Ok(core)
+    try_both(rt, &mut core, alloc, before, rows)?;
+    Ok(disk_of(core))
 }
 
-/// Over a folder with these files and indexes the acts of both tables are done.
+/// They are done over a folder with these files and indexes.
 pub(crate) fn try_tables(
     rt: &impl Abort,
     alloc: Global,
@@ -209,23 +278,14 @@ pub(crate) fn try_tables(
     before: &[Row],
     rows: &[Row],
 ) -> Result<(), Fail> {
-    let _ = behind(rt, alloc, folder(alloc, files, archives)?, before, rows)?;
+    drop(behind(rt, alloc, folder(alloc, files, archives)?, before, rows)?);
     Ok(())
 }
 
-/// How many calls opening makes of such a folder's disk.
-pub(crate) fn opening_calls(
-    alloc: Global,
-    files: Contents,
-    archives: Archives,
-) -> Result<u64, Fail> {
-    let disk = folder(alloc, files, archives)?;
+/// What a core has that is opened over this disk, and how many calls of the disk that makes.
+pub(crate) fn begun_with(alloc: Global, disk: MemoryDisk) -> Result<(Kept, u64), Fail> {
     let before = disk.calls();
     let core = opened(alloc, disk, STILL)?;
-    Ok(core.parts.disk.calls().saturating_sub(before))
-}
-
-/// How many names on the disk have this front.
-pub(crate) fn count_names(core: &mut TestCore, alloc: Global, front: &str) -> Result<usize, Fail> {
-    Ok(core.parts.disk.list(alloc, front)?.len())
+    let calls = core.parts.disk.calls().saturating_sub(before);
+    Ok((kept(&core), calls))
 }

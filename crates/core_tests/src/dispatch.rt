@@ -1,6 +1,6 @@
 use crate::acts::{Row, Step};
 use crate::asserts::{same, same_at};
-use crate::cases::{try_act, try_acts, try_tables};
+use crate::cases::{try_row, try_rows, try_tables};
 use crate::fixtures::{STILL, TestCore, opened};
 use crate::folders::Archives;
 use crate::sent::{
@@ -116,17 +116,33 @@ fn reserve(core: &TestCore, lane: u32) -> (usize, u8, bool) {
     (core.journal.spare, *held.unwrap_or(&0), has_room)
 }
 
+fn try_closing(
+    rt: &impl Abort,
+    core: &mut TestCore,
+    alloc: Global,
+    number: usize,
+    closing: &(Row, u8),
+) -> Result<(), Fail> {
+    let (row, left) = closing;
+    try_row(rt, core, alloc, ([0; 4], number), row)?;
+    same_at(rt, number, reserve(core, row.0), (0, *left, true));
+    Ok(())
+}
+
+fn try_closings(rt: &impl Abort, core: &mut TestCore, alloc: Global) -> Result<(), Fail> {
+    for (number, closing) in CLOSINGS.iter().enumerate() {
+        try_closing(rt, core, alloc, number, closing)?;
+    }
+    core.reserve(2)?;
+    same(rt, core.journal.spare, 2);
+    Ok(())
+}
+
 #[test]
 fn sessions_are_closed_by_the_reserve(rt: HostRuntime) -> Result<(), Fail> {
     let alloc = rt.alloc();
     let mut core = opened(alloc, MemoryDisk::new(alloc), STILL)?;
-    for (number, (row, left)) in CLOSINGS.iter().enumerate() {
-        let _ = try_act(&rt, &mut core, alloc, ([0; 4], number), row)?;
-        same_at(&rt, number, reserve(&core, row.0), (0, *left, true));
-    }
-    core.reserve(2)?;
-    same(&rt, core.journal.spare, 2);
-    Ok(())
+    try_closings(&rt, &mut core, alloc)
 }
 
 /// A want of memory on lane 3 that takes an entry of the lane's reserve, since none is spare.
@@ -146,47 +162,64 @@ fn capacities(core: &TestCore) -> (usize, usize) {
     (journal.entries.capacity(), journal.calls.capacity())
 }
 
-/// What ends a lane by the last entries of its reserve, with what came before. It takes no memory, and another lane has what was its.
-fn try_ending(
-    rt: &impl Abort,
-    alloc: Global,
-    first: &Row,
+/// A first act, how many entries of the reserve are used then, what ends the lane, and what another lane does then.
+struct Ending<'a> {
+    first: Row,
     used: usize,
-    ending: &[Row],
-    other: &Row,
+    ending: &'a [Row],
+    other: Row,
+}
+
+/// What ends a lane by the last entries of its reserve, with what came before. It takes no memory, and another lane has what was its.
+fn end_lane(
+    rt: &impl Abort,
+    core: &mut TestCore,
+    alloc: Global,
+    case: &Ending<'_>,
 ) -> Result<(), Fail> {
-    let mut core = opened(alloc, MemoryDisk::new(alloc), STILL)?;
     let spot = [0; 4];
-    let _ = try_act(rt, &mut core, alloc, (spot, 0), first)?;
-    for _ in 0..used {
-        use_reserve(rt, &mut core);
+    try_row(rt, core, alloc, (spot, 0), &case.first)?;
+    for _ in 0..case.used {
+        use_reserve(rt, core);
     }
-    let before = capacities(&core);
-    let _ = try_acts(rt, &mut core, alloc, spot, ending)?;
+    let before = capacities(core);
+    try_rows(rt, core, alloc, spot, case.ending)?;
     same(
         rt,
-        (capacities(&core), core.collector.is_none()),
+        (capacities(core), core.collector.is_none()),
         (before, true),
     );
     same(rt, core.journal.room(3), false);
-    let _ = try_act(rt, &mut core, alloc, (spot, 1), other)?;
-    Ok(())
+    try_row(rt, core, alloc, (spot, 1), &case.other)
+}
+
+fn try_ending(rt: &impl Abort, alloc: Global, case: &Ending<'_>) -> Result<(), Fail> {
+    let mut core = opened(alloc, MemoryDisk::new(alloc), STILL)?;
+    end_lane(rt, &mut core, alloc, case)
 }
 
 /// A writer's lane ends by the last entry of its reserve, and frees the group.
+static WRITER_ENDS: Ending<'static> = Ending {
+    first: (3, Step::Send(OPEN_FIRST), NO_BASE, 0),
+    used: 2,
+    ending: &[(3, Step::End, NOTHING, 6)],
+    other: (4, Step::Send(OPEN_FIRST), NO_BASE, 0),
+};
+
 #[test]
 fn lanes_end_without_memory(rt: HostRuntime) -> Result<(), Fail> {
-    let first = (3, Step::Send(OPEN_FIRST), NO_BASE, 0);
-    let ending = [(3, Step::End, NOTHING, 6)];
-    let other = (4, Step::Send(OPEN_FIRST), NO_BASE, 0);
-    try_ending(&rt, rt.alloc(), &first, 2, &ending, &other)
+    try_ending(&rt, rt.alloc(), &WRITER_ENDS)
 }
 
 /// Memory is wanting for a collector's lane by an entry of its reserve: the collector's end and the lane's have the other two.
+static COLLECTOR_ENDS: Ending<'static> = Ending {
+    first: (3, Step::Start, NOTHING, 3),
+    used: 1,
+    ending: &[(3, Step::Pass, NO_MEMORY, 4), (3, Step::End, NOTHING, 6)],
+    other: (4, Step::Start, NOTHING, 3),
+};
+
 #[test]
 fn collections_end_without_memory(rt: HostRuntime) -> Result<(), Fail> {
-    let first = (3, Step::Start, NOTHING, 3);
-    let ending = [(3, Step::Pass, NO_MEMORY, 4), (3, Step::End, NOTHING, 6)];
-    let other = (4, Step::Start, NOTHING, 3);
-    try_ending(&rt, rt.alloc(), &first, 1, &ending, &other)
+    try_ending(&rt, rt.alloc(), &COLLECTOR_ENDS)
 }

@@ -2,7 +2,7 @@
 
 use crate::acts::{Step, do_act};
 use crate::asserts::same_at;
-use crate::cases::opening_calls;
+use crate::cases::begun_with;
 use crate::collecting::ONE_NEEDED;
 use crate::fixtures::{Kept, STILL, TestCore, kept, opened_over};
 use crate::folders::{Archives, folder};
@@ -63,6 +63,23 @@ fn begun(alloc: Global, call: u64) -> Result<TestCore, Fail> {
     opened_over(alloc, failing, STILL)
 }
 
+fn try_kinds(
+    rt: &impl Abort,
+    core: &mut TestCore,
+    alloc: Global,
+    number: usize,
+    row: &Fault,
+) -> Result<(), Fail> {
+    let (steps, _, kinds, left) = row;
+    for (step, kind) in steps.iter().zip(kinds) {
+        let found = do_act(rt, core, alloc, step.0, step.1)?.kind;
+        same_at(rt, number, found, *kind);
+    }
+    let found = (kept(core), core.collector.is_none());
+    same_at(rt, number, found, (*left, true));
+    Ok(())
+}
+
 fn try_fault(
     rt: &impl Abort,
     alloc: Global,
@@ -70,22 +87,16 @@ fn try_fault(
     opening: u64,
     row: &Fault,
 ) -> Result<(), Fail> {
-    let (steps, call, kinds, left) = row;
+    let (_, call, _, _) = row;
     let mut core = begun(alloc, opening.saturating_add(*call))?;
-    for (step, kind) in steps.iter().zip(kinds) {
-        let answer = do_act(rt, &mut core, alloc, step.0, step.1)?;
-        same_at(rt, number, answer.entry.kind, *kind);
-    }
-    let found = (kept(&core), core.collector.is_none());
-    same_at(rt, number, found, (*left, true));
-    Ok(())
+    try_kinds(rt, &mut core, alloc, number, row)
 }
 
 /// A call of the disk that fails ends the collector, and so does one of another lane's.
 #[test]
 fn faults_end_collections(rt: HostRuntime) -> Result<(), Fail> {
     let alloc = rt.alloc();
-    let opening = opening_calls(alloc, ONE_NEEDED, Archives::Root(1))?;
+    let (_, opening) = begun_with(alloc, folder(alloc, ONE_NEEDED, Archives::Root(1))?)?;
     for (number, row) in FAULTS.iter().enumerate() {
         try_fault(&rt, alloc, number, opening, row)?;
     }

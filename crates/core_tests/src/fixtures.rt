@@ -78,3 +78,8 @@ pub(crate) fn kept(core: &TestCore) -> Kept {
     let undated = core.upkeep.undated.len();
     (core.last, book.last(&ABC), book.last(&DE), undated)
 }
+
+/// What stands on its disk.
+pub(crate) fn disk_of(core: TestCore) -> MemoryDisk {
+    core.parts().disk.into_inner()
+}

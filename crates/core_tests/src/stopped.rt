@@ -1,14 +1,14 @@
 //! A collection beside a writer, on a disk that fails at each call, or stops before it: what is found after a crash of each kind. The
 //! bytes are made by `tests/make-tables`.
 
-use crate::acts::{Row, Rows, Step, do_act, frame};
+use crate::acts::{Row, Rows, Step, do_act};
 use crate::asserts::same_at;
 use crate::beside::{
     ABC, AT_END_OF_ONE, AT_END_OF_TWO, CLOSE, DE_ABC, OPENED_FIRST, OPENED_SECOND,
 };
-use crate::cases::{Spot, opening_calls, try_acts};
+use crate::cases::{Spot, begun_with, try_rows};
 use crate::collecting::{PASS, START, TWO_USED, taken_over};
-use crate::fixtures::{STILL, TestDisk, opened, opened_over};
+use crate::fixtures::{STILL, TestCore, TestDisk, disk_of, opened, opened_over};
 use crate::folders::folder;
 use crate::sent::{IN_READER, LIST, NO_SNAPSHOT, READ_FIRST, READ_SECOND};
 use disk_trait::{FailingDisk, MemoryDisk};
@@ -91,17 +91,15 @@ fn begun(alloc: Global, stops: bool, call: u64) -> Result<TestDisk, Fail> {
     Ok(FailingDisk::at_calls(disk, calls))
 }
 
-/// Does them all: how many were done before the disk failed, and what stands on it.
-fn done_on(rt: &impl Abort, alloc: Global, disk: TestDisk) -> Result<(usize, MemoryDisk), Fail> {
-    let mut core = opened_over(alloc, disk, STILL)?;
+/// Does them all: how many were done before the disk failed.
+fn count_done(rt: &impl Abort, core: &mut TestCore, alloc: Global) -> Result<usize, Fail> {
     let mut done = 0usize;
     for (lane, step, _, _) in taken_over().steps {
-        let answer = do_act(rt, &mut core, alloc, *lane, *step)?;
-        if answer.entry.kind != 5 {
+        if do_act(rt, core, alloc, *lane, *step)?.kind != 5 {
             done = done.saturating_add(1);
         }
     }
-    Ok((done, core.parts().disk.into_inner()))
+    Ok(done)
 }
 
 /// Which of the three is told.
@@ -114,25 +112,34 @@ fn listed(told: &[u8]) -> Option<usize> {
     None
 }
 
+/// Which of them LIST tells.
+fn found_by(rt: &impl Abort, core: &mut TestCore, alloc: Global) -> Result<usize, Fail> {
+    let told = do_act(rt, core, alloc, 4, Step::Send(LIST))?;
+    Ok(listed(told.frame.as_bytes()).ok_or("other snapshots")?)
+}
+
 /// What was there before the act that failed is found, or what is there after it, and is restored.
-fn assert_found(rt: &impl Abort, alloc: Global, spot: Spot, disk: MemoryDisk) -> Result<(), Fail> {
+fn try_found(rt: &impl Abort, core: &mut TestCore, alloc: Global, spot: Spot) -> Result<(), Fail> {
     let [_, _, _, done] = spot;
-    let mut core = opened(alloc, disk, STILL)?;
-    let answer = do_act(rt, &mut core, alloc, 4, Step::Send(LIST))?;
-    let found = listed(frame(alloc, answer.reply)?.as_bytes()).ok_or("other snapshots")?;
+    let found = found_by(rt, core, alloc)?;
     let fits = found == listed_after(done) || found == listed_after(done.saturating_add(1));
     same_at(rt, spot, fits, true);
-    let _ = try_acts(rt, &mut core, alloc, spot, restored(found))?;
-    Ok(())
+    try_rows(rt, core, alloc, spot, restored(found))
+}
+
+fn try_crashed(rt: &impl Abort, alloc: Global, spot: Spot, disk: MemoryDisk) -> Result<(), Fail> {
+    let mut core = opened(alloc, disk, STILL)?;
+    try_found(rt, &mut core, alloc, spot)
 }
 
 /// A crash of each kind comes behind them. Gives whether all were done.
 fn try_call(rt: &impl Abort, alloc: Global, stops: bool, call: u64) -> Result<bool, Fail> {
-    let (done, left) = done_on(rt, alloc, begun(alloc, stops, call)?)?;
+    let mut core = opened_over(alloc, begun(alloc, stops, call)?, STILL)?;
+    let done = count_done(rt, &mut core, alloc)?;
+    let left = disk_of(core);
     for choice in 0..3u8 {
-        let crashed = left.crashed(alloc, choice)?;
         let spot = [stops as usize, call as usize, choice as usize, done];
-        assert_found(rt, alloc, spot, crashed)?;
+        try_crashed(rt, alloc, spot, left.crashed(alloc, choice)?)?;
     }
     Ok(done == taken_over().steps.len())
 }
@@ -141,7 +148,8 @@ fn try_call(rt: &impl Abort, alloc: Global, stops: bool, call: u64) -> Result<bo
 #[test]
 fn faults_and_stops_lose_no_snapshot(rt: HostRuntime) -> Result<(), Fail> {
     let alloc = rt.alloc();
-    let opened = opening_calls(alloc, taken_over().files, taken_over().archives)?;
+    let disk = folder(alloc, taken_over().files, taken_over().archives)?;
+    let (_, opened) = begun_with(alloc, disk)?;
     for call in opened..opened.saturating_add(1000) {
         let is_done = try_call(&rt, alloc, false, call)?;
         try_call(&rt, alloc, true, call)?;

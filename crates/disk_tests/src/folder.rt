@@ -2,22 +2,14 @@
 
 use crate::asserts::same_at;
 use crate::sessions::{parted, told};
-use crate::watched::{Record, Watched};
+use crate::watched::{Record, alone_at};
 use disk_trait::Disk;
-use file_disk::FileDisk;
 use std::alloc::{AllocError, Global};
 use std::fs;
 use std::process::Abort;
 use std::test::Fail;
 
-type WatchedDisk<'a> = FileDisk<Watched<'a>, Watched<'a>>;
-
 const ROOT: &str = "disk_tests_synced";
-
-fn watched_disk<'a>(rt: HostRuntime, record: &'a Record) -> Result<WatchedDisk<'a>, AllocError> {
-    let watched = Watched { rt, record };
-    FileDisk::alone(watched, watched, rt.alloc(), ROOT)
-}
 
 // A path below the root, which itself is a point.
 fn below_root(path: &str) -> &str {
@@ -85,7 +77,7 @@ fn play_watched<D: Disk>(
 // Plays a session by a disk of its own.
 fn play_run(rt: HostRuntime, abort: &impl Abort, session: &str) -> Result<(), Fail> {
     let record = Record::new(rt.alloc());
-    let mut disk = watched_disk(rt, &record)?;
+    let mut disk = alone_at(rt, &record, ROOT)?;
     play_watched(abort, rt.alloc(), &record, &mut disk, session)
 }
 
@@ -165,13 +157,22 @@ sync = done
 list '' = u/v/c x/h
 read x/h = one";
 
+fn play_all<D: Disk>(
+    rt: &impl Abort,
+    alloc: Global,
+    record: &Record,
+    disk: &mut D,
+) -> Result<(), Fail> {
+    play_watched(rt, alloc, record, disk, NAMES)?;
+    play_watched(rt, alloc, record, disk, EIGHT)?;
+    play_watched(rt, alloc, record, disk, FAILED)?;
+    play_watched(rt, alloc, record, disk, NINTH)
+}
+
 fn try_watched(rt: HostRuntime, abort: &impl Abort) -> Result<(), Fail> {
     let record = Record::new(rt.alloc());
-    let mut disk = watched_disk(rt, &record)?;
-    for session in [NAMES, EIGHT, FAILED, NINTH] {
-        play_watched(abort, rt.alloc(), &record, &mut disk, session)?;
-    }
-    Ok(())
+    let mut disk = alone_at(rt, &record, ROOT)?;
+    play_all(abort, rt.alloc(), &record, &mut disk)
 }
 
 #[test]

@@ -1,13 +1,12 @@
 //! Links, and folders in the place of files: each call that meets one fails, and nothing is changed behind it.
 
 use crate::asserts::same_at;
-use crate::maps::folder_at;
 use crate::sessions::{parted, play, play_at};
+use crate::watched::{Record, alone_at};
 use std::fs;
 use std::os::unix::fs::symlink;
 use std::process::Abort;
 use std::test::Fail;
-use std::thread::Threads;
 
 const ROOT: &str = "disk_tests_linked";
 
@@ -62,28 +61,34 @@ fn make_linked(rt: HostRuntime, link: &str, to: &str) -> Result<(), Fail> {
 }
 
 // Outside nothing has changed.
-fn try_link<R: Threads + Sync + Abort>(
-    rt: HostRuntime,
-    threads: &R,
-    name: &str,
-) -> Result<(), Fail> {
-    let alloc = rt.alloc();
-    let mut disk = folder_at(rt, threads, ROOT)?;
-    play_at(threads, alloc, &mut disk, name, MET)?;
-    play_at(threads, alloc, &mut disk, name, MET_BELOW)?;
-    let mut outside = folder_at(rt, threads, OUTSIDE)?;
-    play(threads, alloc, &mut outside, "list '' = host/a/m")
+fn try_outside(rt: HostRuntime, abort: &impl Abort, record: &Record) -> Result<(), Fail> {
+    let mut outside = alone_at(rt, record, OUTSIDE)?;
+    play(abort, rt.alloc(), &mut outside, "list '' = host/a/m")
+}
+
+fn try_link(rt: HostRuntime, abort: &impl Abort, record: &Record, name: &str) -> Result<(), Fail> {
+    let mut disk = alone_at(rt, record, ROOT)?;
+    play_at(abort, rt.alloc(), &mut disk, name, MET)?;
+    play_at(abort, rt.alloc(), &mut disk, name, MET_BELOW)
+}
+
+// One line of the links.
+fn try_line(rt: HostRuntime, abort: &impl Abort, record: &Record, line: &str) -> Result<(), Fail> {
+    let (link, rest) = parted(line);
+    let (to, name) = parted(rest);
+    make_linked(rt, link, to)?;
+    try_link(rt, abort, record, name)?;
+    try_outside(rt, abort, record)?;
+    let kept = fs::read_to_string(&rt, "disk_tests_outside/host/a/m")?;
+    same_at(abort, line, kept.as_str(), "kept");
+    Ok(())
 }
 
 #[test]
 fn no_link_is_followed(rt: HostRuntime) -> Result<(), Fail> {
+    let record = Record::new(rt.alloc());
     for line in LINKS.lines() {
-        let (link, rest) = parted(line);
-        let (to, name) = parted(rest);
-        make_linked(rt, link, to)?;
-        try_link(rt, &rt, name)?;
-        let kept = fs::read_to_string(&rt, "disk_tests_outside/host/a/m")?;
-        same_at(&rt, line, kept.as_str(), "kept");
+        try_line(rt, &rt, &record, line)?;
     }
     fs::remove_dir_all(&rt, ROOT)?;
     fs::remove_dir_all(&rt, OUTSIDE)?;
@@ -91,15 +96,12 @@ fn no_link_is_followed(rt: HostRuntime) -> Result<(), Fail> {
 }
 
 // A folder stands where a file should be. It may be listed.
-fn try_folder_as_file<R: Threads + Sync + Abort>(
-    rt: HostRuntime,
-    threads: &R,
-    root: &str,
-) -> Result<(), Fail> {
-    let mut disk = folder_at(rt, threads, root)?;
-    play(threads, rt.alloc(), &mut disk, "sync = done")?;
-    play_at(threads, rt.alloc(), &mut disk, "m", MET)?;
-    play(threads, rt.alloc(), &mut disk, "list '' = old")
+fn try_folder_as_file(rt: HostRuntime, abort: &impl Abort, root: &str) -> Result<(), Fail> {
+    let record = Record::new(rt.alloc());
+    let mut disk = alone_at(rt, &record, root)?;
+    play(abort, rt.alloc(), &mut disk, "sync = done")?;
+    play_at(abort, rt.alloc(), &mut disk, "m", MET)?;
+    play(abort, rt.alloc(), &mut disk, "list '' = old")
 }
 
 #[test]

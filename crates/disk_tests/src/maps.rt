@@ -61,8 +61,8 @@ fn memory_is_a_map(rt: HostRuntime) -> Result<(), Fail> {
     try_all(&rt, rt.alloc(), &mut MemoryDisk::new(rt.alloc()))
 }
 
-/// A folder as a disk of its own.
-pub fn folder_at<'a, R: Threads + Sync>(
+// A folder as a disk of its own.
+fn folder_at<'a, R: Threads + Sync>(
     rt: HostRuntime,
     threads: &'a R,
     root: &str,

@@ -2,9 +2,8 @@
 
 use crate::asserts::{same, same_at};
 use crate::sessions::told;
-use crate::watched::{Record, Watched};
+use crate::watched::{Record, alone_at};
 use disk_trait::Disk;
-use file_disk::FileDisk;
 use std::alloc::{AllocError, Global};
 use std::fs;
 use std::test::Fail;
@@ -44,11 +43,7 @@ fn try_calls(rt: HostRuntime, fails_at: Option<u64>) -> Result<(u64, u64), Fail>
     let alloc = rt.alloc();
     let record = Record::new(alloc);
     record.fails_at.set(fails_at);
-    let watched = Watched {
-        rt,
-        record: &record,
-    };
-    let mut disk = FileDisk::alone(watched, watched, alloc, ROOT)?;
+    let mut disk = alone_at(rt, &record, ROOT)?;
     let failed = failed_calls(alloc, &mut disk)?;
     drop(disk);
     Ok((failed, record.calls.get()))

@@ -1,8 +1,8 @@
 //! The host's files, with a record of what is synced, on a disk that can be full, or fail to sync folders, or fail at one call.
 
 use disk_trait::Failed;
-use file_disk::{LockFile, SyncFolders, sync_each};
-use std::alloc::{Alloc, Allocator, Global};
+use file_disk::{FileDisk, LockFile, SyncFolders, sync_each};
+use std::alloc::{Alloc, AllocError, Allocator, Global};
 use std::cell::{Cell, RefCell};
 use std::fs::{File, Metadata, OpenFile, OpenOptions, TryLockError};
 use std::io::{self, ErrorKind, Read, Seek, SeekFrom, Write};
@@ -58,6 +58,28 @@ pub struct Watched<'a> {
     pub record: &'a Record,
 }
 
+pub type WatchedDisk<'a> = FileDisk<Watched<'a>, Watched<'a>>;
+
+/// A folder as a disk of its own.
+pub fn alone_at<'a>(
+    rt: HostRuntime,
+    record: &'a Record,
+    root: &str,
+) -> Result<WatchedDisk<'a>, AllocError> {
+    let watched = Watched { rt, record };
+    FileDisk::alone(watched, watched, rt.alloc(), root)
+}
+
+/// A folder as a disk beside others that read it.
+pub fn shared_at<'a>(
+    rt: HostRuntime,
+    record: &'a Record,
+    root: &str,
+) -> Result<WatchedDisk<'a>, AllocError> {
+    let watched = Watched { rt, record };
+    FileDisk::shared(watched, watched, rt.alloc(), root)
+}
+
 #[derive(Drop)]
 pub struct WatchedFile<'a> {
     file: File,
@@ -78,11 +100,11 @@ impl SyncFolders for Watched<'_> {
 
 impl LockFile for WatchedFile<'_> {
     fn try_lock(&self) -> Result<(), TryLockError> {
-        self.file.try_lock()
+        LockFile::try_lock(&self.file)
     }
 
     fn try_lock_shared(&self) -> Result<(), TryLockError> {
-        self.file.try_lock_shared()
+        LockFile::try_lock_shared(&self.file)
     }
 }
 

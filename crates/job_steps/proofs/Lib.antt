@@ -1,6 +1,5 @@
 pub mod RowLemmas
 pub mod ItemLemmas
-pub mod ReplyLemmas
 pub mod Texts
 pub mod JudgingLemmas
 pub mod BatchLemmas

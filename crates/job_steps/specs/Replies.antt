@@ -1,19 +1,11 @@
--- The replies that a job takes, and when its report has a text.
-use Rattle.std.specs.Prelude.{◌≡◌, ◌<◌, ◌+◌, List, [], ◌∷◌, length, All, ⊤, IsSome, IfSome, Result, IfErr, MatchResult}
+-- When the report of a job has a text, and what it is where memory was wanting for a reply.
+use Rattle.std.specs.Prelude.{◌≡◌, ◌<◌, ◌+◌, length, All, ⊤, Result, IfErr, MatchResult}
 use Rattle.wire_commands.specs.declared.reply.Reply.{Reply}
 use Rattle.wire_commands.specs.HasText.{FitsPruneRow, IsText, ReplyHasText}
 use Rattle.store_model.specs.Job.{Job, over, asking, grouping, forgetting, opening, listing, reading, checking, closing, next}
-use Rattle.store_model.specs.Jobs.{take_more}
-use Rattle.store_model.specs.JobReplies.{IsReplyTo}
 use Rattle.job_steps.specs.declared.job.State.{State}
 use Rattle.job_steps.specs.States.{job_in}
 use Rattle.job_steps.specs.Visits.{IsPartRead}
-
--- each is to a step that the job asks, one after another
-abbrev pub AreReplies : Job → List Reply → Type 0
-AreReplies job [] = ⊤
-AreReplies job (r ∷ rs) =
-    IsSome (next job) × IfSome (next job) (λ step. IsReplyTo step r) × ReplyHasText r × AreReplies (take_more job r) rs
 
 -- What is reported has a text, or will have one where all that is asked is done.
 abbrev pub EndsInText : Job → Type 0

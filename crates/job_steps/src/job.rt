@@ -1,13 +1,13 @@
 //! A job from its command to its report.
 
-ghost use Rattle.std.specs.Prelude.{◌≡◌, ◌≤◌, drop, false, fold, take, vec_len, IsSome, IsNone, IfSome, IfOk, OnErr, OnOk};
+ghost use Rattle.std.specs.Prelude.{◌≡◌, ◌≤◌, drop, false, take, vec_len, IsSome, IsNone, IfSome, IfOk, OnErr, OnOk};
 ghost use Rattle.wire_commands.specs.HasText.{ReplyHasText};
 ghost use Rattle.store_model.specs.Job.{asking, next as next_of, report as report_of};
-ghost use Rattle.store_model.specs.Jobs.{job_of, IsJob, take_more, job_after};
+ghost use Rattle.store_model.specs.Jobs.{job_of, IsJob, take_more};
 ghost use Rattle.store_model.specs.PruneJob.{grouped as grouped_by, go_on};
 ghost use Rattle.store_model.specs.JobReplies.{IsJobStep, IsReplyTo, IsWithinGroup};
 ghost use Rattle.job_steps.specs.Checks.{stops};
-ghost use Rattle.job_steps.specs.Replies.{AreReplies, EitherEndsInText, EndsInText, WantsForPart};
+ghost use Rattle.job_steps.specs.Replies.{EitherEndsInText, EndsInText, WantsForPart};
 ghost use Rattle.job_steps.specs.States.{forgetting_of, job_in};
 ghost use Rattle.job_steps.specs.Visits.{IsPartRead};
 
@@ -213,36 +213,4 @@ impl State {
             None => State::Over(Reply::Marks(Rows::from_vec(rows))),
         }
     }
-}
-
-/// Takes replies, one after another.
-fn take_all<R: Threads + Sync>(
-    rt: &R,
-    alloc: Global,
-    job: &mut Job,
-    replies: Vec<Reply>,
-) -> Result<(), AllocError>
-    requires { AreReplies job.old replies.items }
-    ensures { OnOk result (job.new ≡ fold take_more job.old replies.items) }
-{
-    for reply in replies {
-        job.take(rt, alloc, reply)?;
-    }
-    Ok(())
-}
-
-/// The job of a PRUNE or a VERIFY after these replies to its steps.
-pub fn replay<R: Threads + Sync>(
-    rt: &R,
-    alloc: Global,
-    command: &Command,
-    replies: Rows<Reply>,
-) -> Result<Job, AllocError>
-    requires job { IsJob command.now }
-    requires replies { IfSome (job_of command.now) (λ a. AreReplies (asking a) replies) }
-    ensures { IfOk result (λ job. IfSome (job_of command.now) (λ a. job ≡ job_after a replies)) }
-{
-    let mut job = Job::start(alloc, command)?;
-    take_all(rt, alloc, &mut job, replies.into_vec())?;
-    Ok(job)
 }

@@ -24,4 +24,4 @@ mod testing;
 mod verify;
 mod visit;
 
-pub use job::{Job, replay};
+pub use job::Job;

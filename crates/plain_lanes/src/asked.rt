@@ -5,7 +5,7 @@ ghost use Rattle.store_model.specs.declared.step.Step.TheVariants as steps;
 
 use std::alloc::{AllocError, Global};
 use store_model::Step;
-use store_types::{Bytes, FileName, Rows};
+use store_types::{FileName, Rows};
 use wire_commands::Command;
 
 /// The name of a listed file. A text that is none is taken for want of memory: no manifest lists it.
@@ -44,16 +44,16 @@ pub fn copied(alloc: Global, command: &Command) -> Result<Command, AllocError>
             size,
             chunk_size,
         } => Ok(Command::NewFixed {
-            file: Bytes::from_slice(alloc, file.as_slice())?,
+            file: file.clone()?,
             size: *size,
             chunk_size: *chunk_size,
         }),
         Command::NewDynamic { file } => Ok(Command::NewDynamic {
-            file: Bytes::from_slice(alloc, file.as_slice())?,
+            file: file.clone()?,
         }),
         Command::Chunk { digest, blob } => Ok(Command::Chunk {
             digest: *digest,
-            blob: Bytes::from_slice(alloc, blob.as_slice())?,
+            blob: blob.clone()?,
         }),
         Command::Append { number, entries } => Ok(Command::Append {
             number: *number,
@@ -71,8 +71,8 @@ pub fn copied(alloc: Global, command: &Command) -> Result<Command, AllocError>
             csum: *csum,
         }),
         Command::Blob { file, blob } => Ok(Command::Blob {
-            file: Bytes::from_slice(alloc, file.as_slice())?,
-            blob: Bytes::from_slice(alloc, blob.as_slice())?,
+            file: file.clone()?,
+            blob: blob.clone()?,
         }),
         Command::Finish => Ok(Command::Finish),
         _ => Err(AllocError),

@@ -133,18 +133,18 @@ impl Asking {
     {
         match &self.stage {
             Stage::Grouping { group, keep, dry } => Ok(Step::Command(Command::Prune {
-                group: Bytes::from_slice(alloc, group.as_slice())?,
+                group: group.clone()?,
                 keep: *keep,
                 dry: *dry,
             })),
             Stage::Forgetting { snapshot, .. } => Ok(Step::Command(Command::Forget {
-                snapshot: Bytes::from_slice(alloc, snapshot.as_slice())?,
+                snapshot: snapshot.clone()?,
             })),
             Stage::Opening { snapshot } => Ok(Step::Command(Command::OpenReader {
-                snapshot: Bytes::from_slice(alloc, snapshot.as_slice())?,
+                snapshot: snapshot.clone()?,
             })),
             Stage::Listing { snapshot } => Ok(Step::Command(Command::Files {
-                snapshot: Bytes::from_slice(alloc, snapshot.as_slice())?,
+                snapshot: snapshot.clone()?,
             })),
             Stage::Reading { row, bytes, .. } => {
                 Ok(file_step(alloc, row.file.as_slice(), bytes.len() as u64)?)

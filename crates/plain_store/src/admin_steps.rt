@@ -88,7 +88,7 @@ impl Plain {
         ensures does { Does self.old self.new result (forgotten self.old lane snapshot.now) }
         ensures spelled { IsSpelled result }
     {
-        self.held(lane).want_idle()?;
+        self.want_idle(lane)?;
         let Ok(key) = PlainKey::parse(alloc, snapshot)? else {
             return Err(Stop::Refused(Refusal::BadName));
         };
@@ -120,7 +120,7 @@ impl Plain {
         ensures does { Answers self.now result (prune_begun self.now lane group.now keep.now) }
         ensures spelled { IsSpelled result }
     {
-        self.held(lane).want_idle()?;
+        self.want_idle(lane)?;
         let Ok(group) = GroupKey::parse(alloc, group)? else {
             return Err(Stop::Refused(Refusal::BadName));
         };

@@ -27,7 +27,7 @@ impl Plain {
         ensures does { BeginsFixed self.old self.new lane moment name.now size chunk_size result }
         ensures spelled { IsSpelled result }
     {
-        let w = self.held(lane).want_writer()?;
+        let w = self.want_writer(lane)?;
         let begun = w.begin_fixed(alloc, name, size, chunk_size, moment)?;
         let number = begun.number;
         self.change(lane, Change::Begin(begun))?;
@@ -47,7 +47,7 @@ impl Plain {
         ensures does { Does self.old self.new result (begins self.old lane moment name.now) }
         ensures spelled { IsSpelled result }
     {
-        let w = self.held(lane).want_writer()?;
+        let w = self.want_writer(lane)?;
         let begun = w.begin_dynamic(alloc, name, moment)?;
         let number = begun.number;
         self.change(lane, Change::Begin(begun))?;
@@ -66,7 +66,7 @@ impl Plain {
         ensures does { Does self.old self.new result (puts self.old lane digest.now blob.now) }
         ensures spelled { IsSpelled result }
     {
-        self.held(lane).want_writer()?;
+        self.want_writer(lane)?;
         let piece = checked_piece(alloc, digest, blob)?;
         let pieces = vec![in alloc; piece]?;
         self.change(lane, Change::Pool(pieces))?;
@@ -85,7 +85,7 @@ impl Plain {
         ensures does { Does self.old self.new result (appends self.old lane number entries.now) }
         ensures spelled { IsSpelled result }
     {
-        let w = self.held(lane).want_writer()?;
+        let w = self.want_writer(lane)?;
         let pieces = w.pieces_for(alloc, number, entries)?;
         self.change(lane, Change::Grow(number, pieces))?;
         Ok(Reply::Done)
@@ -105,7 +105,7 @@ impl Plain {
         ensures does { Closes self.old self.new lane number count size csum.now result }
         ensures spelled { IsSpelled result }
     {
-        let w = self.held(lane).want_writer()?;
+        let w = self.want_writer(lane)?;
         let file = w.closed(alloc, number, count, size, csum)?;
         self.change(lane, Change::Close(number, file))?;
         Ok(Reply::Done)

@@ -1,23 +1,25 @@
 //! The plain store, and what a command does to it.
 
-ghost use Rattle.std.specs.Prelude.{◌≡◌, ◌<◌, ◌≤◌, IfOk, OnOk, OnErr};
+ghost use Rattle.std.specs.Prelude.{◌≡◌, ◌<◌, ◌≤◌, IfOk, IfErr, OnOk, OnErr};
 ghost use Rattle.store_types.specs.Times.{last_moment};
-ghost use Rattle.wire_commands.specs.HasText.{ReplyHasText};
-ghost use Rattle.store_model.specs.Store.{session as session_at, with_session, ended};
+ghost use Rattle.wire_commands.specs.HasText.{FitsRefusal, ReplyHasText};
+ghost use Rattle.store_model.specs.Store.{session as session_at, with_session, ended, want_idle as needs_idle, want_writer as needs_writer, want_reader as needs_reader};
 ghost use Rattle.store_model.specs.JobSteps.{step_outcome as by_step};
 ghost use Rattle.store_model.specs.Steps.{step as stepped, outcome as outcome_of};
 ghost use Rattle.plain_sessions.specs.Sessions.{shown_held};
 ghost use Rattle.plain_sessions.specs.Changes.{FitsSession};
+ghost use Rattle.plain_sessions.specs.Outcomes.{Tells};
 ghost use Rattle.plain_lanes.specs.Jobs.{FitsAsked};
 ghost use Rattle.plain_lanes.specs.Nexts.{IsStep};
 ghost use Rattle.plain_store.specs.Outcomes.{Does, IsSpelled, job_done, step_done, with_change};
 
 use plain_lanes::Asking;
-use plain_sessions::{Change, Held, Session, Stop};
+use plain_sessions::{Change, Held, Reader, Session, Stop, Writer};
 use plain_snapshots::Snapshot;
 use std::alloc::{AllocError, Global};
 use std::marker::Model;
 use store_model::Step;
+use store_types::Refusal;
 use wire_commands::{Command, Reply};
 
 /// The plain store: the finished snapshots with all their bytes, in their order, and the session of
@@ -41,12 +43,39 @@ impl Model for Plain {
 
 impl Plain {
     /// What the lane has.
-    pub(crate) fn held(&self, lane: u32) -> &Held
+    fn held(&self, lane: u32) -> &Held
         requires { lane < 64 }
         ensures { shown_held result.now ≡ session_at self.now lane }
     {
         let session = &self.sessions[lane as usize];
         &session.held
+    }
+
+    /// The lane has no session.
+    pub(crate) fn want_idle(&self, lane: u32) -> Result<(), Refusal>
+        requires { lane < 64 }
+        ensures fits { IfErr result FitsRefusal }
+        ensures test { result ≡ needs_idle (session_at self.now lane) }
+    {
+        self.held(lane).want_idle()
+    }
+
+    /// The lane's writer.
+    pub(crate) fn want_writer(&self, lane: u32) -> Result<&Writer, Refusal>
+        requires { lane < 64 }
+        ensures fits { IfErr result FitsRefusal }
+        ensures test { Tells result (needs_writer (session_at self.now lane)) (λ w. w.now) }
+    {
+        self.held(lane).want_writer()
+    }
+
+    /// The lane's reader.
+    pub(crate) fn want_reader(&self, lane: u32) -> Result<&Reader, Refusal>
+        requires { lane < 64 }
+        ensures fits { IfErr result FitsRefusal }
+        ensures test { Tells result (needs_reader (session_at self.now lane)) (λ r. r.now) }
+    {
+        self.held(lane).want_reader()
     }
 
     /// The lane has this.
@@ -94,7 +123,11 @@ impl Plain {
         ensures spelled { IfOk result ReplyHasText }
         ensures memory { OnErr result (self.new ≡ self.old) }
     {
-        self.answer(alloc, lane, moment, command)
+        match self.outcome(alloc, lane, moment, command) {
+            Ok(reply) => Ok(reply),
+            Err(Stop::Refused(refusal)) => Ok(Reply::Refused(refusal)),
+            Err(Stop::NoMemory) => Err(AllocError),
+        }
     }
 
     /// Does the step that a lane's job asks, and gives its reply.
@@ -153,26 +186,6 @@ impl Plain {
     }
 
     /// Does a command, or the first step of a job's.
-    fn answer(
-        &mut self,
-        alloc: Global,
-        lane: u32,
-        moment: u64,
-        command: &Command,
-    ) -> Result<Reply, AllocError>
-        requires lane { lane < 64 }
-        requires moment { moment ≤ last_moment }
-        ensures step { IfOk result (λ r. (self.new, r) ≡ stepped self.old lane moment command.now) }
-        ensures spelled { IfOk result ReplyHasText }
-        ensures memory { OnErr result (self.new ≡ self.old) }
-    {
-        match self.outcome(alloc, lane, moment, command) {
-            Ok(reply) => Ok(reply),
-            Err(Stop::Refused(refusal)) => Ok(Reply::Refused(refusal)),
-            Err(Stop::NoMemory) => Err(AllocError),
-        }
-    }
-
     #[tactic(auto, unfolding(store_model::specs::Steps::outcome), using(crate::proofs::Spelled::done_spelled))]
     fn outcome(
         &mut self,

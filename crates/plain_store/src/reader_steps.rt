@@ -34,7 +34,7 @@ impl Plain {
         ensures does { Does self.old self.new result (opened self.old lane snapshot.now) }
         ensures spelled { IsSpelled result }
     {
-        self.held(lane).want_idle()?;
+        self.want_idle(lane)?;
         let Ok(key) = PlainKey::parse(alloc, snapshot)? else {
             return Err(Stop::Refused(Refusal::BadName));
         };
@@ -58,7 +58,7 @@ impl Plain {
         ensures does { Does self.old self.new result (downloaded self.old lane name.now offset) }
         ensures spelled { IsSpelled result }
     {
-        let r = self.held(lane).want_reader()?;
+        let r = self.want_reader(lane)?;
         let Ok(name) = FileName::check(alloc, name)? else {
             return Err(Stop::Refused(Refusal::BadName));
         };
@@ -79,7 +79,7 @@ impl Plain {
         ensures does { Answers self.now result (chunk_given self.now lane digest.now) }
         ensures spelled { IsSpelled result }
     {
-        let r = self.held(lane).want_reader()?;
+        let r = self.want_reader(lane)?;
         let blob = r.chunk(alloc, self.reader_files(r), digest)?;
         Ok(Reply::Data(blob))
     }
@@ -97,7 +97,7 @@ impl Plain {
         ensures does { Answers self.now result (range_given self.now lane name.now offset length) }
         ensures spelled { IsSpelled result }
     {
-        let r = self.held(lane).want_reader()?;
+        let r = self.want_reader(lane)?;
         let Ok(name) = FileName::check(alloc, name)? else {
             return Err(Stop::Refused(Refusal::BadName));
         };
@@ -124,7 +124,7 @@ impl Plain {
         ensures does { Answers self.now result (file_read self.now lane name.now offset) }
         ensures spelled { IsSpelled result }
     {
-        let r = self.held(lane).want_reader()?;
+        let r = self.want_reader(lane)?;
         let _ = name.as_slice();
         let read = part_in(alloc, self.reader_files(r), name, offset)?;
         Ok(read.1)
@@ -142,7 +142,7 @@ impl Plain {
         ensures does { Answers self.now result (chunk_read self.now lane name.now entry) }
         ensures spelled { IsSpelled result }
     {
-        let r = self.held(lane).want_reader()?;
+        let r = self.want_reader(lane)?;
         if !name.is_index() {
             return Err(Stop::Refused(Refusal::NoFile));
         }
@@ -159,7 +159,7 @@ impl Plain {
         ensures does { Does self.old self.new result (closed self.old lane) }
         ensures spelled { IsSpelled result }
     {
-        self.held(lane).want_reader()?;
+        self.want_reader(lane)?;
         self.end(lane);
         Ok(Reply::Done)
     }

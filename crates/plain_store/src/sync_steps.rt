@@ -23,7 +23,7 @@ impl Plain {
         ensures fits { IsFitRefusal result }
         ensures gives { Pulls remote.entry (λ p. p.now) self.now lane group.now result }
     {
-        self.held(lane).want_idle()?;
+        self.want_idle(lane)?;
         let Ok(group) = GroupKey::parse(alloc, group)? else {
             return Err(Stop::Refused(Refusal::BadName));
         };

@@ -89,7 +89,7 @@ impl Plain {
         ensures does { Does self.old self.new result (opened self.old lane moment snapshot.now) }
         ensures spelled { IsSpelled result }
     {
-        self.held(lane).want_idle()?;
+        self.want_idle(lane)?;
         let Ok(key) = PlainKey::parse(alloc, snapshot)? else {
             return Err(Stop::Refused(Refusal::BadName));
         };
@@ -121,7 +121,7 @@ impl Plain {
         ensures does { Does self.old self.new result (looked_back self.old lane name.now offset) }
         ensures spelled { IsSpelled result }
     {
-        let w = self.held(lane).want_writer()?;
+        let w = self.want_writer(lane)?;
         let Ok(name) = FileName::check(alloc, name)? else {
             return Err(Stop::Refused(Refusal::BadName));
         };
@@ -146,7 +146,7 @@ impl Plain {
         ensures does { Does self.old self.new result (put self.old lane name.now blob.now) }
         ensures spelled { IsSpelled result }
     {
-        let w = self.held(lane).want_writer()?;
+        let w = self.want_writer(lane)?;
         let file = w.upload(alloc, name, blob)?;
         self.change(lane, Change::Upload(file))?;
         Ok(Reply::Done)
@@ -158,7 +158,7 @@ impl Plain {
         ensures does { Does self.old self.new result (finished self.old lane) }
         ensures spelled { IsSpelled result }
     {
-        let w = self.held(lane).want_writer()?;
+        let w = self.want_writer(lane)?;
         let snapshot = w.finished(alloc)?;
         insert_snapshot(&mut self.snapshots, snapshot)?;
         self.set_held(lane, Held::Nothing);
@@ -171,7 +171,7 @@ impl Plain {
         ensures does { Does self.old self.new result (aborted self.old lane) }
         ensures spelled { IsSpelled result }
     {
-        self.held(lane).want_writer()?;
+        self.want_writer(lane)?;
         self.end(lane);
         Ok(Reply::Done)
     }

@@ -140,19 +140,19 @@ fn other_names_are_passed_over(rt: HostRuntime) -> Result<(), Fail> {
 }
 
 /// The blob of a manifest that lists files of these numbers, from 10 on, behind its header.
-fn many_listed(alloc: Global, header: &[u8], end: u8) -> Result<Vec<u8>, AllocError> {
+fn many_listed(alloc: Global, header: &[u8], end: usize) -> Result<Vec<u8>, AllocError> {
     let mut text = header.to_vec(alloc)?;
     text.extend_from_slice(
         b"{\"backup-id\":\"a\",\"backup-time\":1579069803,\"backup-type\":\"host\",\"files\":[",
     )?;
     for number in 10..end {
-        text.extend_from_slice(if number == 10 { b"" } else { b"," })?;
         text.extend_from_slice(
             b"{\"crypt-mode\":\"none\",\"csum\":\"313cbece05892a562406ace8a0eee5e8e7b544fda0b69693e09f90cc6fff476b\",\"filename\":\"",
         )?;
-        text.extend_from_slice(numbered(alloc, "x", usize::from(number), ".blob")?.as_bytes())?;
-        text.extend_from_slice(b"\",\"size\":12}")?;
+        let name = numbered(alloc, "x", number, ".blob\",\"size\":12},")?;
+        text.extend_from_slice(name.as_bytes())?;
     }
+    let _ = text.pop();
     text.extend_from_slice(b"]}")?;
     Ok(text)
 }
@@ -161,19 +161,19 @@ fn many_listed(alloc: Global, header: &[u8], end: u8) -> Result<Vec<u8>, AllocEr
 const PATH: &str = "host/a/2020-01-15T06:30:03Z/x";
 
 /// A disk with that manifest, and with the files.
-fn with_many(alloc: Global, header: &[u8], end: u8) -> Result<MemoryDisk, Fail> {
+fn with_many(alloc: Global, header: &[u8], end: usize) -> Result<MemoryDisk, Fail> {
     let mut disk = MemoryDisk::new(alloc);
     let manifest = many_listed(alloc, header, end)?;
     change(&mut disk, alloc, MANIFEST, Some(&manifest))?;
     for number in 10..end {
-        let name = numbered(alloc, PATH, usize::from(number), ".blob")?;
+        let name = numbered(alloc, PATH, number, ".blob")?;
         change(&mut disk, alloc, name.as_str(), Some(ABC))?;
     }
     Ok(disk)
 }
 
 /// A manifest lists 63 files at most: the headers of the blobs of two, and what is told.
-static MANY: [(&[u8], u8, &[u8]); 2] = [
+static MANY: [(&[u8], usize, &[u8]); 2] = [
     (
         b"B\xab8\x07\xbe\x83p\xa1\xf6P\xb4\x1a",
         73,

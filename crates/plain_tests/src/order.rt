@@ -9,12 +9,11 @@ use store_types::{Entry, LAST_MOMENT};
 
 /// The entry of a letter: a digit is the kind of one of lane 0, and of one of lane 1 0 is `a`, 1 is `b`, and so on.
 fn entry_of(letter: u8) -> Entry {
-    let lane = u32::from(letter >= b'a');
-    let first = if letter >= b'a' { b'a' } else { b'0' };
+    let is_second = letter >= b'a';
     Entry {
-        lane,
+        lane: if is_second { 1 } else { 0 },
         moment: 5,
-        kind: letter.saturating_sub(first),
+        kind: letter.saturating_sub(if is_second { b'a' } else { b'0' }),
     }
 }
 

@@ -1,14 +1,7 @@
 //! Prunes step by step. The bytes are made by `tests/make-tables`.
 
-use crate::asserts::same;
-use crate::steps::{Row, reply_of, report_of, try_rows};
-use job_steps::replay;
-use std::alloc::Global;
-use std::process::Abort;
+use crate::steps::{Row, try_rows};
 use std::test::Fail;
-use std::thread::Threads;
-use store_types::{Bytes, Keep, Rows};
-use wire_commands::{Command, Reply};
 
 /// The last week of 2020 ends in the next year; the day of the last is served already; the newest goes first, and one that a lane holds,
 /// and one that is gone, do not end the job.
@@ -92,43 +85,29 @@ static ENDED: [Row; 3] = [
     ),
 ];
 
+/// Prunes whose own command is refused: that is the report.
+static REFUSED: [Row; 3] = [
+    (
+        b"!\x06host/a\x01\0\0\0\0\0\0\0\0\0\0\0\0",
+        &[b"\x03\x01"],
+        b"\x08\0\0\0(\x06host/a\x02\0\0\0\x03\x01",
+    ),
+    (
+        b"!\x06host/a\x01\0\0\0\0\0\0\0\0\0\0\0\0",
+        &[b"\x04"],
+        b"\x08\0\0\0(\x06host/a\x01\0\0\0\x04",
+    ),
+    (
+        b"!\x06host/a\x01\0\0\0\0\0\0\0\0\0\0\0\0",
+        &[b"\x15\xe8\x03\0\0"],
+        b"\x08\0\0\0(\x06host/a\x05\0\0\0\x15\xe8\x03\0\0",
+    ),
+];
+
 #[test]
 fn prunes_ask_and_report(rt: HostRuntime) -> Result<(), Fail> {
     try_rows(&rt, rt.alloc(), &PRUNES)?;
     try_rows(&rt, rt.alloc(), &KEEPING)?;
-    try_rows(&rt, rt.alloc(), &ENDED)
-}
-
-/// A prune whose own command is refused reports that.
-fn try_refused(rt: &(impl Abort + Threads + Sync), alloc: Global, body: &[u8]) -> Result<(), Fail> {
-    let command = Command::Prune {
-        group: Bytes::from_slice(alloc, b"host/a")?,
-        keep: Keep {
-            last: 1,
-            hourly: 0,
-            daily: 0,
-            weekly: 0,
-            monthly: 0,
-            yearly: 0,
-        },
-        dry: false,
-    };
-    let Reply::Refused(refusal) = reply_of(alloc, 33, body)? else {
-        return Err("the body is no refusal".into());
-    };
-    let mut replies = Vec::new(alloc);
-    replies.push(Reply::Refused(refusal))?;
-    let job = replay(rt, alloc, &command, Rows::from_vec(replies))?;
-    same(rt, report_of(alloc, job)?.get(4..).unwrap_or(b""), body);
-    Ok(())
-}
-
-static REFUSED: [&[u8]; 3] = [b"\x03\x01", b"\x04", b"\x15\xe8\x03\0\0"];
-
-#[test]
-fn a_refused_group_is_the_report(rt: HostRuntime) -> Result<(), Fail> {
-    for body in &REFUSED {
-        try_refused(&rt, rt.alloc(), body)?;
-    }
-    Ok(())
+    try_rows(&rt, rt.alloc(), &ENDED)?;
+    try_rows(&rt, rt.alloc(), &REFUSED)
 }

@@ -46,7 +46,7 @@ fn spelled(alloc: Global, step: &Step) -> Result<Vec<u8>, Fail> {
 }
 
 /// The reply that a body is, of a command of the code.
-pub(crate) fn reply_of(alloc: Global, code: u8, body: &[u8]) -> Result<Reply, Fail>
+fn reply_of(alloc: Global, code: u8, body: &[u8]) -> Result<Reply, Fail>
     ensures { IfOk result ReplyHasText }
 {
     match Reply::read(alloc, code, body)? {

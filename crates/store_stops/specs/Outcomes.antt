@@ -15,11 +15,3 @@ IfCause result P = IfErr result (OnCause P)
 -- the answer, a value or a refusal, has this
 abbrev pub IfAnswered : {A : Type 0} → Result A Refusal → (Result A Refusal → Type 0) → Type 0
 IfAnswered result P = MatchResult result (λ x. P (Ok x)) (OnCause (λ cause. P (Err cause)))
-
--- where memory is wanting it is so
-abbrev pub OnNoMemory : Type 0 → Refusal → Type 0
-OnNoMemory P NoMemory = P
-OnNoMemory P cause = Unit {0}
-
-abbrev pub OnWanting : {A : Type 0} → Result A Refusal → Type 0 → Type 0
-OnWanting result P = IfErr result (OnNoMemory P)

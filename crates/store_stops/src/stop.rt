@@ -11,6 +11,7 @@ use store_types::Refusal;
 /// The call is refused, memory is wanting, or the disk failed.
 #[derive(Debug, PartialEq, Eq, Drop)]
 pub enum Stop {
+    /// Never with [`Refusal::NoMemory`]: [`answered`](crate::answered) hands that up.
     Refused(Refusal),
     NoMemory,
     DiskFailed,

@@ -1,9 +1,8 @@
-use Rattle.std.proofs.Common.{◌≡◌, ◌∙◌, ap, sym, Ok, Err, rules, map, Vec, Global}
+use Rattle.std.proofs.Common.{◌∙◌, ap, sym, Ok, map, Vec, Global}
 use Rattle.store_types.specs.declared.rows.Bytes.{Bytes}
-use Rattle.store_model.specs.Store.{session, want_writer}
+use Rattle.store_model.specs.Store.{session}
 use Rattle.wire_commands.specs.declared.reply.Reply.TheVariants.{Done}
 use Rattle.store_model.specs.ArchiveSteps.{named}
-use Rattle.plain_sessions.specs.declared.stop.Stop.TheVariants.{Refused}
 use Rattle.plain_sessions.specs.declared.changes.Change.TheVariants.{Grow}
 use Rattle.plain_sessions.specs.Archiving.{appended}
 use Rattle.plain_store.proofs.Spelled.{done_spelled}
@@ -14,26 +13,22 @@ use Rattle.plain_store.proofs.plain.Plain.append.Goals as goal
 pub returns-in_err-w-clause-does : goal.returns-in_err-w-clause-does
 returns-in_err-w-clause-does c =
     let r = c.in_err-w.field-0.0 in
-    let is : c.from_residual.result ≡ Err (Refused r) = search rules in
-    does_refuse _ _ r _ is (append_not_writer c.args.self.now c.args.lane c.args.number c.args.entries.now r (ap want_writer (sym c.held.ensures) ∙ c.in_err-w.ensures.test))
+    does_refuse _ c.from_residual.result r _ c.from_residual.ensures.1 (append_not_writer c.args.self.now c.args.lane c.args.number c.args.entries.now r (c.in_err-w.ensures.test))
 
 pub returns-in_err-w-clause-spelled : goal.returns-in_err-w-clause-spelled
 returns-in_err-w-clause-spelled c =
-    let is : c.from_residual.result ≡ Err (Refused c.in_err-w.field-0.0) = search rules in
-    refusal_fits _ _ is c.in_err-w.ensures.fits
+    refusal_fits c.from_residual.result c.in_err-w.field-0.0 c.from_residual.ensures.1 c.in_err-w.ensures.fits
 
 pub returns-in_err-pieces-clause-does : goal.returns-in_err-pieces-clause-does
 returns-in_err-pieces-clause-does c =
     let w = c.in_ok-w.w.now in
-    let is : c.from_residual-in_err-pieces.result ≡ Err c.in_err-pieces.field-0.0 = search rules in
-    let writes = ap want_writer (sym c.held.ensures) ∙ c.in_ok-w.ensures.test in
-    does_stop (λ (pieces : Vec Bytes Global). pieces.items) _ _ c.in_err-pieces.field-0.0 (appended w c.args.number (map named c.args.entries.now)) _ is c.in_err-pieces.ensures.gives
+    let writes = c.in_ok-w.ensures.test in
+    does_stop (λ (pieces : Vec Bytes Global). pieces.items) _ c.from_residual-in_err-pieces.result c.in_err-pieces.field-0.0 (appended w c.args.number (map named c.args.entries.now)) _ c.from_residual-in_err-pieces.ensures.1 c.in_err-pieces.ensures.gives
     (append_refused c.args.self.now c.args.lane c.args.number c.args.entries.now w writes)
 
 pub returns-in_err-pieces-clause-spelled : goal.returns-in_err-pieces-clause-spelled
 returns-in_err-pieces-clause-spelled c =
-    let is : c.from_residual-in_err-pieces.result ≡ Err c.in_err-pieces.field-0.0 = search rules in
-    stop_fits _ _ is c.in_err-pieces.ensures.fits
+    stop_fits c.from_residual-in_err-pieces.result c.in_err-pieces.field-0.0 c.from_residual-in_err-pieces.ensures.1 c.in_err-pieces.ensures.fits
 
 pub change-requires-clause-fits : goal.change-requires-clause-fits
 change-requires-clause-fits c =
@@ -42,7 +37,7 @@ change-requires-clause-fits c =
 pub returns-clause-does : goal.returns-clause-does
 returns-clause-does c =
     let w = c.in_ok-w.w.now in
-    let writes = ap want_writer (sym c.held.ensures) ∙ c.in_ok-w.ensures.test in
+    let writes = c.in_ok-w.ensures.test in
     append_goes c.args.self.now c.args.lane c.args.number c.args.entries.now w writes c.in_ok-pieces.pieces.items c.in_ok-pieces.ensures.gives
     ∙ ap (λ a. Ok (a, Done)) (sym (c.in_ok-change.ensures.ok ∙ writer_changed c.args.self.now c.args.lane w writes (Grow c.args.number c.in_ok-pieces.pieces)))
 

@@ -1,10 +1,9 @@
-use Rattle.std.proofs.Common.{◌≡◌, ◌∙◌, ap, refl, sym, true, false, Err, rules}
+use Rattle.std.proofs.Common.{◌≡◌, ◌∙◌, ap, refl, sym, true, false, rules}
 use Rattle.store_types.specs.FileNames.{is_file_name}
 use Rattle.store_files.specs.Archive.{File}
-use Rattle.store_model.specs.Store.{with_session, want_reader, reader}
+use Rattle.store_model.specs.Store.{with_session, reader}
 use Rattle.store_model.specs.ReaderSteps.{note}
 use Rattle.plain_snapshots.specs.Contents.{shown_content}
-use Rattle.plain_sessions.specs.declared.stop.Stop.TheVariants.{Refused}
 use Rattle.wire_commands.specs.declared.reply.Reply.{Reply}
 use Rattle.plain_store.specs.Parts.{file_part}
 use Rattle.plain_store.proofs.Stopping.{does_refuse, refusal_fits, does_stop, stop_fits}
@@ -14,17 +13,15 @@ use Rattle.plain_store.proofs.plain.Plain.download.Goals as goal
 pub returns-in_err-r-clause-does : goal.returns-in_err-r-clause-does
 returns-in_err-r-clause-does c =
     let r = c.in_err-r.field-0.0 in
-    let is : c.from_residual.result ≡ Err (Refused r) = search rules in
-    does_refuse _ _ r _ is (not_reader c.args.self.now c.args.lane c.args.name.now c.args.offset r (ap want_reader (sym c.held.ensures) ∙ c.in_err-r.ensures.test))
+    does_refuse _ c.from_residual.result r _ c.from_residual.ensures.1 (not_reader c.args.self.now c.args.lane c.args.name.now c.args.offset r (c.in_err-r.ensures.test))
 
 pub returns-in_err-r-clause-spelled : goal.returns-in_err-r-clause-spelled
 returns-in_err-r-clause-spelled c =
-    let is : c.from_residual.result ≡ Err (Refused c.in_err-r.field-0.0) = search rules in
-    refusal_fits _ _ is c.in_err-r.ensures.fits
+    refusal_fits c.from_residual.result c.in_err-r.field-0.0 c.from_residual.ensures.1 c.in_err-r.ensures.fits
 
 pub returns-in_default-clause-does : goal.returns-in_default-clause-does
 returns-in_default-clause-does c =
-    let reads = ap want_reader (sym c.held.ensures) ∙ c.in_ok-r.ensures.test in
+    let reads = c.in_ok-r.ensures.test in
     let bad : is_file_name c.args.name.now ≡ false = search rules in
     (no_name c.args.self.now c.args.lane c.args.name.now c.args.offset c.in_ok-r.r.now reads bad, refl)
 
@@ -36,25 +33,23 @@ returns-in_err-file-clause-does c =
     let s = c.args.self.now in
     let x = c.in_ok-r.r.now in
     let name = c.args.name.now in
-    let reads = ap want_reader (sym c.held.ensures) ∙ c.in_ok-r.ensures.test in
+    let reads = c.in_ok-r.ensures.test in
     let good : is_file_name name ≡ true = search rules in
     let same : c.in-Ok.name ≡ name = search rules in
-    let is : c.from_residual-in_err-file.result ≡ Err c.in_err-file.field-0.0 = search rules in
-    does_stop {A = File × Reply} (λ x. x) _ _ c.in_err-file.field-0.0 (file_part c.reader_files.result.now c.in-Ok.name c.args.offset) _ is c.in_err-file.ensures.gives
+    does_stop {A = File × Reply} (λ x. x) _ c.from_residual-in_err-file.result c.in_err-file.field-0.0 (file_part c.reader_files.result.now c.in-Ok.name c.args.offset) _ c.from_residual-in_err-file.ensures.1 c.in_err-file.ensures.gives
     (λ r h. no_part s c.args.lane name c.args.offset x reads good r
     (ap (λ fs. file_part fs name c.args.offset) (sym c.reader_files.ensures) ∙ ap (λ n. file_part c.reader_files.result.now n c.args.offset) (sym same) ∙ h))
 
 pub returns-in_err-file-clause-spelled : goal.returns-in_err-file-clause-spelled
 returns-in_err-file-clause-spelled c =
-    let is : c.from_residual-in_err-file.result ≡ Err c.in_err-file.field-0.0 = search rules in
-    stop_fits _ _ is c.in_err-file.ensures.fits
+    stop_fits c.from_residual-in_err-file.result c.in_err-file.field-0.0 c.from_residual-in_err-file.ensures.1 c.in_err-file.ensures.fits
 
 pub returns-clause-does : goal.returns-clause-does
 returns-clause-does c =
     let s = c.args.self.now in
     let x = c.in_ok-r.r.now in
     let name = c.args.name.now in
-    let reads = ap want_reader (sym c.held.ensures) ∙ c.in_ok-r.ensures.test in
+    let reads = c.in_ok-r.ensures.test in
     let good : is_file_name name ≡ true = search rules in
     let same : c.in-Ok.name ≡ name = search rules in
     let found = ap (λ fs. file_part fs name c.args.offset) (sym c.reader_files.ensures) ∙ ap (λ n. file_part c.reader_files.result.now n c.args.offset) (sym same) ∙ c.in_ok-file.ensures.gives in

@@ -2,7 +2,6 @@ use Rattle.std.proofs.Common.{◌≡◌, ◌∙◌, ap, refl, Ok, Err, Some, Non
 use Rattle.store_types.specs.Names.{key_of}
 use Rattle.store_model.specs.Store.{session, want_idle, without_snapshot}
 use Rattle.store_model.specs.AdminSteps.{want_free}
-use Rattle.plain_sessions.specs.declared.stop.Stop.TheVariants.{Refused}
 use Rattle.plain_store.proofs.Spelled.{done_spelled}
 use Rattle.plain_store.proofs.Stopping.{does_refuse, refusal_fits}
 use Rattle.plain_store.proofs.AdminLemmas.{forget_not_idle, forget_no_name, forget_not_free, forget_as}
@@ -11,14 +10,12 @@ use Rattle.plain_store.proofs.plain.Plain.forget.Goals as goal
 pub returns-in_err-want_idle-clause-does : goal.returns-in_err-want_idle-clause-does
 returns-in_err-want_idle-clause-does c =
     let r = c.in_err-want_idle.field-0.0 in
-    let is : c.from_residual.result ≡ Err (Refused r) = search rules in
     let busy : want_idle (session c.args.self.now c.args.lane) ≡ Err r = search rules in
-    does_refuse _ _ r _ is (forget_not_idle c.args.self.now c.args.lane c.args.snapshot.now r busy)
+    does_refuse _ c.from_residual.result r _ c.from_residual.ensures.1 (forget_not_idle c.args.self.now c.args.lane c.args.snapshot.now r busy)
 
 pub returns-in_err-want_idle-clause-spelled : goal.returns-in_err-want_idle-clause-spelled
 returns-in_err-want_idle-clause-spelled c =
-    let is : c.from_residual.result ≡ Err (Refused c.in_err-want_idle.field-0.0) = search rules in
-    refusal_fits _ _ is c.in_err-want_idle.ensures.fits
+    refusal_fits c.from_residual.result c.in_err-want_idle.field-0.0 c.from_residual.ensures.1 c.in_err-want_idle.ensures.fits
 
 pub returns-in_default-clause-does : goal.returns-in_default-clause-does
 returns-in_default-clause-does c =
@@ -34,16 +31,14 @@ returns-in_err-want_free-clause-does c =
     let s = c.args.self.now in
     let r = c.in_err-want_free.field-0.0 in
     let key = c.in-Ok.key in
-    let is : c.from_residual-in_err-want_free.result ≡ Err (Refused r) = search rules in
     let idle : want_idle (session s c.args.lane) ≡ Ok tt = search rules in
     let named : key_of c.args.snapshot.now ≡ Some key = search rules in
     let busy : want_free s key ≡ Err r = search rules in
-    does_refuse _ _ r _ is (forget_not_free s c.args.lane c.args.snapshot.now idle key named r busy)
+    does_refuse _ c.from_residual-in_err-want_free.result r _ c.from_residual-in_err-want_free.ensures.1 (forget_not_free s c.args.lane c.args.snapshot.now idle key named r busy)
 
 pub returns-in_err-want_free-clause-spelled : goal.returns-in_err-want_free-clause-spelled
 returns-in_err-want_free-clause-spelled c =
-    let is : c.from_residual-in_err-want_free.result ≡ Err (Refused c.in_err-want_free.field-0.0) = search rules in
-    refusal_fits _ _ is c.in_err-want_free.ensures.fits
+    refusal_fits c.from_residual-in_err-want_free.result c.in_err-want_free.field-0.0 c.from_residual-in_err-want_free.ensures.1 c.in_err-want_free.ensures.fits
 
 pub returns-clause-does : goal.returns-clause-does
 returns-clause-does c =

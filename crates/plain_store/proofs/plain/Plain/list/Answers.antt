@@ -1,4 +1,4 @@
-use Rattle.std.proofs.Common.{◌≡◌, ◌∙◌, ap, Err, rules}
+use Rattle.std.proofs.Common.{◌≡◌, ◌∙◌, ap, rules}
 use Rattle.std.specs.Prelude.{option_map}
 use Rattle.store_model.specs.Store.{Store}
 use Rattle.store_model.specs.AdminSteps.{want_after, listed}
@@ -9,13 +9,11 @@ use Rattle.plain_store.proofs.plain.Plain.list.Goals as goal
 
 pub returns-in_err-after-clause-does : goal.returns-in_err-after-clause-does
 returns-in_err-after-clause-does c =
-    let is : c.from_residual.result ≡ Err c.in_err-after.field-0.0 = search rules in
-    does_stop (λ key. key) _ _ c.in_err-after.field-0.0 (want_after c.args.after.now) _ is c.in_err-after.ensures.gives (list_refused c.args.self.now c.args.after.now)
+    does_stop (λ key. key) _ c.from_residual.result c.in_err-after.field-0.0 (want_after c.args.after.now) _ c.from_residual.ensures.1 c.in_err-after.ensures.gives (list_refused c.args.self.now c.args.after.now)
 
 pub returns-in_err-after-clause-spelled : goal.returns-in_err-after-clause-spelled
 returns-in_err-after-clause-spelled c =
-    let is : c.from_residual.result ≡ Err c.in_err-after.field-0.0 = search rules in
-    stop_fits _ _ is c.in_err-after.ensures.fits
+    stop_fits c.from_residual.result c.in_err-after.field-0.0 c.from_residual.ensures.1 c.in_err-after.ensures.fits
 
 pub returns-clause-does : goal.returns-clause-does
 returns-clause-does c =

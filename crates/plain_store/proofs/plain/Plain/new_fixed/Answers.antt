@@ -1,7 +1,6 @@
-use Rattle.std.proofs.Common.{◌≡◌, ◌∙◌, ap, sym, Ok, Err, rules, arith}
-use Rattle.store_model.specs.Store.{Begun, want_writer}
+use Rattle.std.proofs.Common.{◌∙◌, ap, sym, Ok, arith}
+use Rattle.store_model.specs.Store.{Begun}
 use Rattle.wire_commands.specs.declared.reply.Reply.TheVariants.{Number}
-use Rattle.plain_sessions.specs.declared.stop.Stop.TheVariants.{Refused}
 use Rattle.plain_sessions.specs.declared.changes.Change.TheVariants.{Begin}
 use Rattle.plain_sessions.specs.Archiving.{fixed_begun_of}
 use Rattle.plain_store.proofs.Spelled.{number_spelled}
@@ -12,37 +11,33 @@ use Rattle.plain_store.proofs.plain.Plain.new_fixed.Goals as goal
 pub returns-in_err-w-clause-does : goal.returns-in_err-w-clause-does
 returns-in_err-w-clause-does c =
     let r = c.in_err-w.field-0.0 in
-    let is : c.from_residual.result ≡ Err (Refused r) = search rules in
-    does_refuse _ _ r _ is (fixed_not_writer c.args.self.now c.args.lane c.args.moment c.args.name.now c.args.size c.args.chunk_size r (ap want_writer (sym c.held.ensures) ∙ c.in_err-w.ensures.test))
+    does_refuse _ c.from_residual.result r _ c.from_residual.ensures.1 (fixed_not_writer c.args.self.now c.args.lane c.args.moment c.args.name.now c.args.size c.args.chunk_size r (c.in_err-w.ensures.test))
 
 pub returns-in_err-w-clause-spelled : goal.returns-in_err-w-clause-spelled
 returns-in_err-w-clause-spelled c =
-    let is : c.from_residual.result ≡ Err (Refused c.in_err-w.field-0.0) = search rules in
-    refusal_fits _ _ is c.in_err-w.ensures.fits
+    refusal_fits c.from_residual.result c.in_err-w.field-0.0 c.from_residual.ensures.1 c.in_err-w.ensures.fits
 
 pub returns-in_err-begun-clause-does : goal.returns-in_err-begun-clause-does
 returns-in_err-begun-clause-does c =
     let w = c.in_ok-w.w.now in
-    let is : c.from_residual-in_err-begun.result ≡ Err c.in_err-begun.field-0.0 = search rules in
-    let writes = ap want_writer (sym c.held.ensures) ∙ c.in_ok-w.ensures.test in
-    does_stop (λ b. b) _ _ c.in_err-begun.field-0.0 (fixed_begun_of w c.args.name.now c.args.size c.args.chunk_size c.args.moment) _ is c.in_err-begun.ensures.gives
+    let writes = c.in_ok-w.ensures.test in
+    does_stop (λ b. b) _ c.from_residual-in_err-begun.result c.in_err-begun.field-0.0 (fixed_begun_of w c.args.name.now c.args.size c.args.chunk_size c.args.moment) _ c.from_residual-in_err-begun.ensures.1 c.in_err-begun.ensures.gives
     (fixed_refused c.args.self.now c.args.lane c.args.moment c.args.name.now c.args.size c.args.chunk_size w writes)
 
 pub returns-in_err-begun-clause-spelled : goal.returns-in_err-begun-clause-spelled
 returns-in_err-begun-clause-spelled c =
-    let is : c.from_residual-in_err-begun.result ≡ Err c.in_err-begun.field-0.0 = search rules in
-    stop_fits _ _ is c.in_err-begun.ensures.fits
+    stop_fits c.from_residual-in_err-begun.result c.in_err-begun.field-0.0 c.from_residual-in_err-begun.ensures.1 c.in_err-begun.ensures.fits
 
 pub change-requires-clause-fits : goal.change-requires-clause-fits
 change-requires-clause-fits c =
     let w = c.in_ok-w.w.now in
-    let writes = ap want_writer (sym c.held.ensures) ∙ c.in_ok-w.ensures.test in
+    let writes = c.in_ok-w.ensures.test in
     writer_fits c.args.self.now c.args.lane w writes (Begin c.in_ok-begun.begun) c.in_ok-begun.ensures.room
 
 pub returns-clause-does : goal.returns-clause-does
 returns-clause-does c =
     let w = c.in_ok-w.w.now in
-    let writes = ap want_writer (sym c.held.ensures) ∙ c.in_ok-w.ensures.test in
+    let writes = c.in_ok-w.ensures.test in
     fixed_goes c.args.self.now c.args.lane c.args.moment c.args.name.now c.args.size c.args.chunk_size w writes c.in_ok-begun.begun c.in_ok-begun.ensures.gives
     ∙ ap (λ a. Ok (a, Number c.in_ok-begun.begun.number)) (sym (c.in_ok-change.ensures.ok ∙ writer_changed c.args.self.now c.args.lane w writes (Begin c.in_ok-begun.begun)))
     ∙ ap (λ (b : Begun). Ok (c.change.new.self, Number b.number)) (sym c.begun.view_is)

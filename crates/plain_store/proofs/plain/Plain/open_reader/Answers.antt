@@ -2,7 +2,6 @@ use Rattle.std.proofs.Common.{◌≡◌, ◌∙◌, ap, refl, sym, Ok, Err, Some
 use Rattle.std.specs.Prelude.{option_map}
 use Rattle.store_types.specs.Names.{key_of}
 use Rattle.store_model.specs.Store.{Store, session, snapshot_named, want_idle}
-use Rattle.plain_sessions.specs.declared.stop.Stop.TheVariants.{Refused}
 use Rattle.plain_store.proofs.Spelled.{done_spelled}
 use Rattle.plain_store.proofs.Stopping.{does_refuse, refusal_fits}
 use Rattle.plain_store.proofs.WriterLemmas.{is_there, is_absent}
@@ -12,14 +11,12 @@ use Rattle.plain_store.proofs.plain.Plain.open_reader.Goals as goal
 pub returns-in_err-want_idle-clause-does : goal.returns-in_err-want_idle-clause-does
 returns-in_err-want_idle-clause-does c =
     let r = c.in_err-want_idle.field-0.0 in
-    let is : c.from_residual.result ≡ Err (Refused r) = search rules in
     let busy : want_idle (session c.args.self.now c.args.lane) ≡ Err r = search rules in
-    does_refuse _ _ r _ is (open_not_idle c.args.self.now c.args.lane c.args.snapshot.now r busy)
+    does_refuse _ c.from_residual.result r _ c.from_residual.ensures.1 (open_not_idle c.args.self.now c.args.lane c.args.snapshot.now r busy)
 
 pub returns-in_err-want_idle-clause-spelled : goal.returns-in_err-want_idle-clause-spelled
 returns-in_err-want_idle-clause-spelled c =
-    let is : c.from_residual.result ≡ Err (Refused c.in_err-want_idle.field-0.0) = search rules in
-    refusal_fits _ _ is c.in_err-want_idle.ensures.fits
+    refusal_fits c.from_residual.result c.in_err-want_idle.field-0.0 c.from_residual.ensures.1 c.in_err-want_idle.ensures.fits
 
 pub returns-in_default-clause-does : goal.returns-in_default-clause-does
 returns-in_default-clause-does c =

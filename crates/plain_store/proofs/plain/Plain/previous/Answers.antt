@@ -1,10 +1,9 @@
-use Rattle.std.proofs.Common.{◌≡◌, ◌∙◌, ap, refl, sym, true, false, Err, None, rules}
+use Rattle.std.proofs.Common.{◌≡◌, ◌∙◌, ap, refl, sym, true, false, None, rules}
 use Rattle.std.specs.Prelude.{option_map}
 use Rattle.store_types.specs.FileNames.{is_file_name}
 use Rattle.store_files.specs.Archive.{File, Snapshot, pieces_of}
-use Rattle.store_model.specs.Store.{session, want_writer}
+use Rattle.store_model.specs.Store.{session}
 use Rattle.store_model.specs.WriterSteps.{base_of}
-use Rattle.plain_sessions.specs.declared.stop.Stop.TheVariants.{Refused}
 use Rattle.plain_sessions.specs.declared.changes.Change.TheVariants.{Pool}
 use Rattle.wire_commands.specs.declared.reply.Reply.{Reply}
 use Rattle.plain_store.specs.Parts.{file_part}
@@ -16,17 +15,15 @@ use Rattle.plain_store.proofs.plain.Plain.previous.Goals as goal
 pub returns-in_err-w-clause-does : goal.returns-in_err-w-clause-does
 returns-in_err-w-clause-does c =
     let r = c.in_err-w.field-0.0 in
-    let is : c.from_residual.result ≡ Err (Refused r) = search rules in
-    does_refuse _ _ r _ is (previous_not_writer c.args.self.now c.args.lane c.args.name.now c.args.offset r (ap want_writer (sym c.held.ensures) ∙ c.in_err-w.ensures.test))
+    does_refuse _ c.from_residual.result r _ c.from_residual.ensures.1 (previous_not_writer c.args.self.now c.args.lane c.args.name.now c.args.offset r (c.in_err-w.ensures.test))
 
 pub returns-in_err-w-clause-spelled : goal.returns-in_err-w-clause-spelled
 returns-in_err-w-clause-spelled c =
-    let is : c.from_residual.result ≡ Err (Refused c.in_err-w.field-0.0) = search rules in
-    refusal_fits _ _ is c.in_err-w.ensures.fits
+    refusal_fits c.from_residual.result c.in_err-w.field-0.0 c.from_residual.ensures.1 c.in_err-w.ensures.fits
 
 pub returns-in_default-clause-does : goal.returns-in_default-clause-does
 returns-in_default-clause-does c =
-    let writes = ap want_writer (sym c.held.ensures) ∙ c.in_ok-w.ensures.test in
+    let writes = c.in_ok-w.ensures.test in
     let bad : is_file_name c.args.name.now ≡ false = search rules in
     (previous_no_name c.args.self.now c.args.lane c.args.name.now c.args.offset c.in_ok-w.w.now writes bad, refl)
 
@@ -37,7 +34,7 @@ pub returns-in_default-base_snapshot-clause-does : goal.returns-in_default-base_
 returns-in_default-base_snapshot-clause-does c =
     let s = c.args.self.now in
     let w = c.in_ok-w.w.now in
-    let writes = ap want_writer (sym c.held.ensures) ∙ c.in_ok-w.ensures.test in
+    let writes = c.in_ok-w.ensures.test in
     let good : is_file_name c.args.name.now ≡ true = search rules in
     let none : base_of s w ≡ None = sym c.base_snapshot.ensures ∙ ap (option_map (λ x. x.now)) c.in_default-base_snapshot.is in
     (previous_no_base s c.args.lane c.args.name.now c.args.offset w writes good none, refl)
@@ -51,20 +48,18 @@ returns-in_err-file-clause-does c =
     let w = c.in_ok-w.w.now in
     let name = c.args.name.now in
     let base = c.in-Some.base.now in
-    let writes = ap want_writer (sym c.held.ensures) ∙ c.in_ok-w.ensures.test in
+    let writes = c.in_ok-w.ensures.test in
     let good : is_file_name name ≡ true = search rules in
     let same : c.in-Ok.name ≡ name = search rules in
     let there = sym c.base_snapshot.ensures ∙ ap (option_map (λ x. x.now)) c.in-Some.is in
-    let is : c.from_residual-in_err-file.result ≡ Err c.in_err-file.field-0.0 = search rules in
     let files = c.deref.ensures.value ∙ ap (λ (x : Snapshot). x.files) c.base.view_is in
-    does_stop {A = File × Reply} (λ x. x) _ _ c.in_err-file.field-0.0 (file_part c.deref.result.now c.in-Ok.name c.args.offset) _ is c.in_err-file.ensures.gives
+    does_stop {A = File × Reply} (λ x. x) _ c.from_residual-in_err-file.result c.in_err-file.field-0.0 (file_part c.deref.result.now c.in-Ok.name c.args.offset) _ c.from_residual-in_err-file.ensures.1 c.in_err-file.ensures.gives
     (λ r h. previous_refused s c.args.lane name c.args.offset w writes good base there r
     (ap (λ fs. file_part fs name c.args.offset) (sym files) ∙ ap (λ n. file_part c.deref.result.now n c.args.offset) (sym same) ∙ h))
 
 pub returns-in_err-file-clause-spelled : goal.returns-in_err-file-clause-spelled
 returns-in_err-file-clause-spelled c =
-    let is : c.from_residual-in_err-file.result ≡ Err c.in_err-file.field-0.0 = search rules in
-    stop_fits _ _ is c.in_err-file.ensures.fits
+    stop_fits c.from_residual-in_err-file.result c.in_err-file.field-0.0 c.from_residual-in_err-file.ensures.1 c.in_err-file.ensures.fits
 
 pub change-requires-clause-fits : goal.change-requires-clause-fits
 change-requires-clause-fits c = fits_anyway (Pool c.in_ok-pieces.pieces) (session c.args.self.now c.args.lane) (λ w. tt)
@@ -75,7 +70,7 @@ returns-clause-does c =
     let w = c.in_ok-w.w.now in
     let name = c.args.name.now in
     let base = c.in-Some.base.now in
-    let writes = ap want_writer (sym c.held.ensures) ∙ c.in_ok-w.ensures.test in
+    let writes = c.in_ok-w.ensures.test in
     let good : is_file_name name ≡ true = search rules in
     let same : c.in-Ok.name ≡ name = search rules in
     let there = sym c.base_snapshot.ensures ∙ ap (option_map (λ x. x.now)) c.in-Some.is in

@@ -3,7 +3,6 @@ use Rattle.store_types.specs.Names.{group_of}
 use Rattle.wire_commands.specs.declared.reply.Reply.TheVariants.{Keys}
 use Rattle.store_model.specs.Store.{Store, session, want_idle}
 use Rattle.store_model.specs.AdminSteps.{group_texts}
-use Rattle.plain_sessions.specs.declared.stop.Stop.TheVariants.{Refused}
 use Rattle.plain_store.proofs.Stopping.{does_refuse, refusal_fits}
 use Rattle.plain_store.proofs.AdminLemmas.{prune_not_idle, prune_no_name, prune_too_many, prune_goes}
 use Rattle.plain_store.proofs.plain.Plain.prune_group.Goals as goal
@@ -11,14 +10,12 @@ use Rattle.plain_store.proofs.plain.Plain.prune_group.Goals as goal
 pub returns-in_err-want_idle-clause-does : goal.returns-in_err-want_idle-clause-does
 returns-in_err-want_idle-clause-does c =
     let r = c.in_err-want_idle.field-0.0 in
-    let is : c.from_residual.result ≡ Err (Refused r) = search rules in
     let busy : want_idle (session c.args.self.now c.args.lane) ≡ Err r = search rules in
-    does_refuse _ _ r _ is (prune_not_idle c.args.self.now c.args.lane c.args.group.now c.args.keep.now r busy)
+    does_refuse _ c.from_residual.result r _ c.from_residual.ensures.1 (prune_not_idle c.args.self.now c.args.lane c.args.group.now c.args.keep.now r busy)
 
 pub returns-in_err-want_idle-clause-spelled : goal.returns-in_err-want_idle-clause-spelled
 returns-in_err-want_idle-clause-spelled c =
-    let is : c.from_residual.result ≡ Err (Refused c.in_err-want_idle.field-0.0) = search rules in
-    refusal_fits _ _ is c.in_err-want_idle.ensures.fits
+    refusal_fits c.from_residual.result c.in_err-want_idle.field-0.0 c.from_residual.ensures.1 c.in_err-want_idle.ensures.fits
 
 pub returns-in_default-clause-does : goal.returns-in_default-clause-does
 returns-in_default-clause-does c =

@@ -1,10 +1,8 @@
-use Rattle.std.proofs.Common.{◌≡◌, ◌∙◌, ap, refl, sym, true, false, Err, rules, arith}
+use Rattle.std.proofs.Common.{◌≡◌, ◌∙◌, ap, refl, sym, true, false, rules, arith}
 use Rattle.std.specs.Prelude.{option_map}
 use Rattle.store_types.specs.FileNames.{is_index_name, is_file_name}
 use Rattle.store_files.specs.Archive.{file_named}
-use Rattle.store_model.specs.Store.{want_reader}
 use Rattle.store_model.specs.ReaderSteps.{range_of}
-use Rattle.plain_sessions.specs.declared.stop.Stop.TheVariants.{Refused}
 use Rattle.plain_store.proofs.Spelled.{data_spelled}
 use Rattle.plain_store.proofs.Stopping.{does_refuse, refusal_fits, does_stop, stop_fits}
 use Rattle.plain_store.proofs.WriterLemmas.{is_there, is_absent}
@@ -14,17 +12,15 @@ use Rattle.plain_store.proofs.plain.Plain.range.Goals as goal
 pub returns-in_err-r-clause-does : goal.returns-in_err-r-clause-does
 returns-in_err-r-clause-does c =
     let r = c.in_err-r.field-0.0 in
-    let is : c.from_residual.result ≡ Err (Refused r) = search rules in
-    does_refuse _ _ r _ is (range_not_reader c.args.self.now c.args.lane c.args.name.now c.args.offset c.args.length r (ap want_reader (sym c.held.ensures) ∙ c.in_err-r.ensures.test))
+    does_refuse _ c.from_residual.result r _ c.from_residual.ensures.1 (range_not_reader c.args.self.now c.args.lane c.args.name.now c.args.offset c.args.length r (c.in_err-r.ensures.test))
 
 pub returns-in_err-r-clause-spelled : goal.returns-in_err-r-clause-spelled
 returns-in_err-r-clause-spelled c =
-    let is : c.from_residual.result ≡ Err (Refused c.in_err-r.field-0.0) = search rules in
-    refusal_fits _ _ is c.in_err-r.ensures.fits
+    refusal_fits c.from_residual.result c.in_err-r.field-0.0 c.from_residual.ensures.1 c.in_err-r.ensures.fits
 
 pub returns-in_default-clause-does : goal.returns-in_default-clause-does
 returns-in_default-clause-does c =
-    let reads = ap want_reader (sym c.held.ensures) ∙ c.in_ok-r.ensures.test in
+    let reads = c.in_ok-r.ensures.test in
     let bad : is_file_name c.args.name.now ≡ false = search rules in
     (range_no_name c.args.self.now c.args.lane c.args.name.now c.args.offset c.args.length c.in_ok-r.r.now reads (no_index_name c.args.name.now bad), refl)
 
@@ -33,7 +29,7 @@ returns-in_default-clause-spelled c = tt
 
 pub returns-then-not-is_index-clause-does : goal.returns-then-not-is_index-clause-does
 returns-then-not-is_index-clause-does c =
-    let reads = ap want_reader (sym c.held.ensures) ∙ c.in_ok-r.ensures.test in
+    let reads = c.in_ok-r.ensures.test in
     let bad : is_index_name c.args.name.now ≡ false = search rules in
     (range_no_name c.args.self.now c.args.lane c.args.name.now c.args.offset c.args.length c.in_ok-r.r.now reads bad, refl)
 
@@ -44,7 +40,7 @@ pub returns-then-is_none-clause-does : goal.returns-then-is_none-clause-does
 returns-then-is_none-clause-does c =
     let s = c.args.self.now in
     let name = c.args.name.now in
-    let reads = ap want_reader (sym c.held.ensures) ∙ c.in_ok-r.ensures.test in
+    let reads = c.in_ok-r.ensures.test in
     let good : is_index_name name ≡ true = search rules in
     let same : c.in-Ok.name ≡ name = search rules in
     let asked = c.file_named.ensures ∙ ap (λ n. file_named n c.reader_files-files.result.now) (c.as_slice.ensures.value ∙ same) ∙ ap (file_named name) c.reader_files-files.ensures in
@@ -59,29 +55,27 @@ returns-in_err-bytes-clause-does c =
     let s = c.args.self.now in
     let x = c.in_ok-r.r.now in
     let name = c.args.name.now in
-    let reads = ap want_reader (sym c.held.ensures) ∙ c.in_ok-r.ensures.test in
+    let reads = c.in_ok-r.ensures.test in
     let good : is_index_name name ≡ true = search rules in
     let same : c.in-Ok.name ≡ name = search rules in
     let asked = c.file_named.ensures ∙ ap (λ n. file_named n c.reader_files-files.result.now) (c.as_slice.ensures.value ∙ same) ∙ ap (file_named name) c.reader_files-files.ensures in
     let there = is_there c.file_named.result c.if-is_none.ensures in
     let found = sym asked ∙ ap (option_map (λ f. f.now)) there.1 in
-    let is : c.from_residual-in_err-bytes.result ≡ Err c.in_err-bytes.field-0.0 = search rules in
-    does_stop (λ b. b) _ _ c.in_err-bytes.field-0.0 (range_of c.reader_files-files.result.now x c.in-Ok.name c.args.offset c.args.length) _ is c.in_err-bytes.ensures.gives
+    does_stop (λ b. b) _ c.from_residual-in_err-bytes.result c.in_err-bytes.field-0.0 (range_of c.reader_files-files.result.now x c.in-Ok.name c.args.offset c.args.length) _ c.from_residual-in_err-bytes.ensures.1 c.in_err-bytes.ensures.gives
     (λ r h. range_refused s c.args.lane name c.args.offset c.args.length x reads there.0.now good found r
     (ap (λ fs. range_of fs x name c.args.offset c.args.length) (sym c.reader_files-files.ensures)
     ∙ ap (λ n. range_of c.reader_files-files.result.now x n c.args.offset c.args.length) (sym same) ∙ h))
 
 pub returns-in_err-bytes-clause-spelled : goal.returns-in_err-bytes-clause-spelled
 returns-in_err-bytes-clause-spelled c =
-    let is : c.from_residual-in_err-bytes.result ≡ Err c.in_err-bytes.field-0.0 = search rules in
-    stop_fits _ _ is c.in_err-bytes.ensures.fits
+    stop_fits c.from_residual-in_err-bytes.result c.in_err-bytes.field-0.0 c.from_residual-in_err-bytes.ensures.1 c.in_err-bytes.ensures.fits
 
 pub returns-clause-does : goal.returns-clause-does
 returns-clause-does c =
     let s = c.args.self.now in
     let x = c.in_ok-r.r.now in
     let name = c.args.name.now in
-    let reads = ap want_reader (sym c.held.ensures) ∙ c.in_ok-r.ensures.test in
+    let reads = c.in_ok-r.ensures.test in
     let good : is_index_name name ≡ true = search rules in
     let same : c.in-Ok.name ≡ name = search rules in
     let asked = c.file_named.ensures ∙ ap (λ n. file_named n c.reader_files-files.result.now) (c.as_slice.ensures.value ∙ same) ∙ ap (file_named name) c.reader_files-files.ensures in

@@ -1,9 +1,7 @@
-use Rattle.std.proofs.Common.{◌≡◌, ◌∙◌, ap, sym, refl, true, false, None, Some, Err, rules}
+use Rattle.std.proofs.Common.{◌≡◌, ◌∙◌, ap, sym, refl, true, false, None, Some, rules}
 use Rattle.store_types.specs.FileNames.{is_index_name}
 use Rattle.store_files.specs.Archive.{file_named, pieces_of}
-use Rattle.store_model.specs.Store.{want_reader}
 use Rattle.store_model.specs.ReaderSteps.{reader_files}
-use Rattle.plain_sessions.specs.declared.stop.Stop.TheVariants.{Refused}
 use Rattle.plain_sessions.specs.Reading.{entry_blob}
 use Rattle.plain_store.proofs.Spelled.{data_spelled}
 use Rattle.plain_store.proofs.Stopping.{does_refuse, refusal_fits, does_stop, stop_fits}
@@ -13,17 +11,15 @@ use Rattle.plain_store.proofs.plain.Plain.read_chunk.Goals as goal
 pub returns-in_err-r-clause-does : goal.returns-in_err-r-clause-does
 returns-in_err-r-clause-does c =
     let r = c.in_err-r.field-0.0 in
-    let is : c.from_residual.result ≡ Err (Refused r) = search rules in
-    does_refuse _ _ r _ is (entry_not_reader c.args.self.now c.args.lane c.args.name.now c.args.entry r (ap want_reader (sym c.held.ensures) ∙ c.in_err-r.ensures.test))
+    does_refuse _ c.from_residual.result r _ c.from_residual.ensures.1 (entry_not_reader c.args.self.now c.args.lane c.args.name.now c.args.entry r (c.in_err-r.ensures.test))
 
 pub returns-in_err-r-clause-spelled : goal.returns-in_err-r-clause-spelled
 returns-in_err-r-clause-spelled c =
-    let is : c.from_residual.result ≡ Err (Refused c.in_err-r.field-0.0) = search rules in
-    refusal_fits _ _ is c.in_err-r.ensures.fits
+    refusal_fits c.from_residual.result c.in_err-r.field-0.0 c.from_residual.ensures.1 c.in_err-r.ensures.fits
 
 pub returns-then-not-is_index-clause-does : goal.returns-then-not-is_index-clause-does
 returns-then-not-is_index-clause-does c =
-    let reads = ap want_reader (sym c.held.ensures) ∙ c.in_ok-r.ensures.test in
+    let reads = c.in_ok-r.ensures.test in
     let bad : is_index_name c.args.name.now ≡ false = search rules in
     (entry_no_index c.args.self.now c.args.lane c.args.name.now c.args.entry c.in_ok-r.r.now reads bad, refl)
 
@@ -32,7 +28,7 @@ returns-in_default-clause-does c =
     let s = c.args.self.now in
     let x = c.in_ok-r.r.now in
     let name = c.args.name.now in
-    let reads = ap want_reader (sym c.held.ensures) ∙ c.in_ok-r.ensures.test in
+    let reads = c.in_ok-r.ensures.test in
     let good : is_index_name name ≡ true = search rules in
     let none : file_named name (reader_files s x) ≡ None = search rules in
     (entry_no_file s c.args.lane name c.args.entry x reads good none, refl)
@@ -43,18 +39,16 @@ returns-in_err-blob-clause-does c =
     let x = c.in_ok-r.r.now in
     let name = c.args.name.now in
     let f = c.in-Some.file.now in
-    let reads = ap want_reader (sym c.held.ensures) ∙ c.in_ok-r.ensures.test in
+    let reads = c.in_ok-r.ensures.test in
     let good : is_index_name name ≡ true = search rules in
     let there : file_named name (reader_files s x) ≡ Some f = search rules in
     let pieces : c.pieces.result.now ≡ pieces_of f.content = search rules in
-    let is : c.from_residual-in_err-blob.result ≡ Err c.in_err-blob.field-0.0 = search rules in
-    does_stop (λ b. b) _ _ c.in_err-blob.field-0.0 (entry_blob c.pieces.result.now c.args.entry) _ is c.in_err-blob.ensures.gives
+    does_stop (λ b. b) _ c.from_residual-in_err-blob.result c.in_err-blob.field-0.0 (entry_blob c.pieces.result.now c.args.entry) _ c.from_residual-in_err-blob.ensures.1 c.in_err-blob.ensures.gives
     (λ r h. entry_refused s c.args.lane name c.args.entry x reads f good there r (ap (λ ps. entry_blob ps c.args.entry) (sym pieces) ∙ h))
 
 pub returns-in_err-blob-clause-spelled : goal.returns-in_err-blob-clause-spelled
 returns-in_err-blob-clause-spelled c =
-    let is : c.from_residual-in_err-blob.result ≡ Err c.in_err-blob.field-0.0 = search rules in
-    stop_fits _ _ is c.in_err-blob.ensures.fits
+    stop_fits c.from_residual-in_err-blob.result c.in_err-blob.field-0.0 c.from_residual-in_err-blob.ensures.1 c.in_err-blob.ensures.fits
 
 pub returns-clause-does : goal.returns-clause-does
 returns-clause-does c =
@@ -62,7 +56,7 @@ returns-clause-does c =
     let x = c.in_ok-r.r.now in
     let name = c.args.name.now in
     let f = c.in-Some.file.now in
-    let reads = ap want_reader (sym c.held.ensures) ∙ c.in_ok-r.ensures.test in
+    let reads = c.in_ok-r.ensures.test in
     let good : is_index_name name ≡ true = search rules in
     let there : file_named name (reader_files s x) ≡ Some f = search rules in
     let pieces : c.pieces.result.now ≡ pieces_of f.content = search rules in

@@ -1,9 +1,7 @@
-use Rattle.std.proofs.Common.{◌≡◌, ◌∙◌, ap, sym, true, Err, rules}
+use Rattle.std.proofs.Common.{◌≡◌, ◌∙◌, ap, sym, true, rules}
 use Rattle.store_types.specs.FileNames.{is_file_name}
 use Rattle.store_files.specs.Archive.{File}
 use Rattle.wire_commands.specs.declared.reply.Reply.{Reply}
-use Rattle.store_model.specs.Store.{want_reader}
-use Rattle.plain_sessions.specs.declared.stop.Stop.TheVariants.{Refused}
 use Rattle.plain_store.specs.Parts.{file_part}
 use Rattle.plain_store.proofs.Stopping.{does_refuse, refusal_fits, does_stop, stop_fits}
 use Rattle.plain_store.proofs.ReaderLemmas.{file_not_reader, file_refused, file_given}
@@ -12,36 +10,32 @@ use Rattle.plain_store.proofs.plain.Plain.read_file.Goals as goal
 pub returns-in_err-r-clause-does : goal.returns-in_err-r-clause-does
 returns-in_err-r-clause-does c =
     let r = c.in_err-r.field-0.0 in
-    let is : c.from_residual.result ≡ Err (Refused r) = search rules in
-    does_refuse _ _ r _ is (file_not_reader c.args.self.now c.args.lane c.args.name.now c.args.offset r (ap want_reader (sym c.held.ensures) ∙ c.in_err-r.ensures.test))
+    does_refuse _ c.from_residual.result r _ c.from_residual.ensures.1 (file_not_reader c.args.self.now c.args.lane c.args.name.now c.args.offset r (c.in_err-r.ensures.test))
 
 pub returns-in_err-r-clause-spelled : goal.returns-in_err-r-clause-spelled
 returns-in_err-r-clause-spelled c =
-    let is : c.from_residual.result ≡ Err (Refused c.in_err-r.field-0.0) = search rules in
-    refusal_fits _ _ is c.in_err-r.ensures.fits
+    refusal_fits c.from_residual.result c.in_err-r.field-0.0 c.from_residual.ensures.1 c.in_err-r.ensures.fits
 
 pub returns-in_err-read-clause-does : goal.returns-in_err-read-clause-does
 returns-in_err-read-clause-does c =
     let s = c.args.self.now in
     let x = c.in_ok-r.r.now in
     let name = c.args.name.now in
-    let reads = ap want_reader (sym c.held.ensures) ∙ c.in_ok-r.ensures.test in
+    let reads = c.in_ok-r.ensures.test in
     let good : is_file_name name ≡ true = search rules in
-    let is : c.from_residual-in_err-read.result ≡ Err c.in_err-read.field-0.0 = search rules in
-    does_stop {A = File × Reply} (λ x. x) _ _ c.in_err-read.field-0.0 (file_part c.reader_files.result.now name c.args.offset) _ is c.in_err-read.ensures.gives
+    does_stop {A = File × Reply} (λ x. x) _ c.from_residual-in_err-read.result c.in_err-read.field-0.0 (file_part c.reader_files.result.now name c.args.offset) _ c.from_residual-in_err-read.ensures.1 c.in_err-read.ensures.gives
     (λ r h. file_refused s c.args.lane name c.args.offset x reads good r (ap (λ fs. file_part fs name c.args.offset) (sym c.reader_files.ensures) ∙ h))
 
 pub returns-in_err-read-clause-spelled : goal.returns-in_err-read-clause-spelled
 returns-in_err-read-clause-spelled c =
-    let is : c.from_residual-in_err-read.result ≡ Err c.in_err-read.field-0.0 = search rules in
-    stop_fits _ _ is c.in_err-read.ensures.fits
+    stop_fits c.from_residual-in_err-read.result c.in_err-read.field-0.0 c.from_residual-in_err-read.ensures.1 c.in_err-read.ensures.fits
 
 pub returns-clause-does : goal.returns-clause-does
 returns-clause-does c =
     let s = c.args.self.now in
     let x = c.in_ok-r.r.now in
     let name = c.args.name.now in
-    let reads = ap want_reader (sym c.held.ensures) ∙ c.in_ok-r.ensures.test in
+    let reads = c.in_ok-r.ensures.test in
     let good : is_file_name name ≡ true = search rules in
     file_given s c.args.lane name c.args.offset x reads good _ _ (ap (λ fs. file_part fs name c.args.offset) (sym c.reader_files.ensures) ∙ c.in_ok-read.ensures.gives)
 

@@ -1,6 +1,6 @@
 use Rattle.plain_store.proofs.Spelled.{refusal_spelled}
 use Rattle.plain_store.proofs.Answering.{step_done, step_refused}
-use Rattle.plain_store.proofs.plain.Plain.answer.Goals as goal
+use Rattle.plain_store.proofs.plain.Plain.step.Goals as goal
 
 pub returns-in-Ok-clause-step : goal.returns-in-Ok-clause-step
 returns-in-Ok-clause-step c =
