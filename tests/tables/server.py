@@ -1,5 +1,5 @@
-"""Sessions that want memory or whose ports fail, and long and large ones, by `serve`, and sessions on one lane: commands, and the
-replies that each must get."""
+"""Sessions that want memory or whose ports fail, and long and large ones, by `serve`, and sessions on lanes, alone and at once: commands, and
+the replies that each must get."""
 from session import *
 from tables.common import *
 
@@ -31,19 +31,32 @@ TWO = [
 ]
 
 
+# Snapshots of four groups.
+FOUR = [A, B, "host/c/2020-01-15T06:30:03Z", "host/d/2020-01-15T06:30:03Z"]
+# A backup without its FINISH.
+UPLOAD = [(open_writer(A), base()), (put_manifest(A), done())]
+
+
 def talk(*turns):
     """What is sent, and what is told."""
     return [frames(*(command for command, _ in turns)), frames(*(reply for _, reply in turns))]
 
 
+SENT, TOLD = talk(*UPLOAD)
+# No command behind it, a frame that the input's end cuts, and BYE.
+BEHIND = [(frame(b"c"), frame(bad_frame(len(SENT)))), (frame(finish())[:3], frame(bad_frame(len(SENT)))), (frame(bye()), frame(done()))]
+
+# The same of another group, with a blob in place of the manifest.
+B_SENT, B_TOLD = talk((open_writer(B), base()), (put("a.conf.blob", b"123456789"), done()))
+
 TABLES = {
+    "server_tests/src/at_once.rt": {
+        "UPLOAD": [SENT],
+        "UPLOADED": [TOLD],
+        "ENDINGS": [TOLD[:1], TOLD[:8], *(it for sent, told in BEHIND for it in (SENT + sent, TOLD + told))],
+        "AGAIN": talk((open_writer(A), base()), (list_after(), rows((B, 1)))),
+    },
     "server_tests/src/lanes.rt": {
-        "GATED": [
-            frame(bye()),
-            frames(gc(), finish()),
-            frames(finish(), b"c"),
-            frames(*(command for command, _ in TWO), prune("host/a", last=1, dry=1), prune("host/a", last=1), group("host/a"), bye()),
-        ],
         "TWO_SENT": talk(*TWO)[:1],
         "TWO_TOLD": talk(*TWO)[1:],
         "PRUNED": [frames(prune("host/a", last=1), group("host/a"))],
@@ -65,6 +78,19 @@ TABLES = {
             ),
         ],
         "UNFINISHED_REPLIES": [frames(base(), done(), done(), base(A), done(), done(), done())],
+    },
+    "server_tests/src/serving/gated.rt": {
+        "BACKUP_A": [frames(open_writer(A), put_manifest(A), finish())],
+        "BACKUPS": [frames(open_writer(it), put_manifest(it), finish()) for it in FOUR[1:]],
+        "BACKED_UP": [frames(base(), done(), done())],
+        "LIST": [frames(list_after())],
+        "FOUR_LISTED": [frames(rows(*((it, 1) for it in FOUR)))],
+        "GATED": [
+            frame(bye()),
+            frames(gc(), finish()),
+            frames(finish(), b"c"),
+            frames(*(command for command, _ in TWO), prune("host/a", last=1, dry=1), prune("host/a", last=1), group("host/a"), bye()),
+        ],
     },
     "server_tests/src/serving/long.rt": {
         "LARGE": [
@@ -185,5 +211,13 @@ TABLES = {
         "OPENED": [blob(b"123456789")],
         "ROOT_LISTED": [blob(manifest(A, listed("root.didx", 5, BOTH_CSUM)))],
         "LISTED": talk((list_after(), rows((A, 2)))),
+    },
+    "server_tests/src/serving/together.rt": {
+        "OPENED": [frame(open_writer(B))],
+        "STARTED": [B_SENT],
+        "BROKEN": [B_SENT + frame(b"")],
+        "CUT": [B_SENT + frame(finish())[:3]],
+        "BROKEN_REPLIES": [B_TOLD + frame(bad_frame(len(B_SENT)))],
+        "NO_BASE": [frame(base())],
     },
 }

@@ -5,7 +5,8 @@ use Rattle.core_state.specs.declared.journal.Journal.{Journal}
 use Rattle.core_state.specs.declared.state.Core.{Core}
 use Rattle.core_state.specs.Entering.{Fills, held_by}
 use Rattle.std.specs.Prelude.{slice_index}
-use Rattle.core_laws.specs.Playing.{AllWhole, SameCore}
+use Rattle.core_laws.specs.Playing.{AllWhole}
+use Rattle.shared_store.specs.Comes.{SameCore}
 
 pub same_core : {D E C : Type 0} (core : Core D E C) → SameCore core core
 same_core core = record {

@@ -1,5 +1,4 @@
 mod Filling
-mod Reserving
 mod Played
 mod LeftChunks
 mod SavedBook

@@ -17,8 +17,9 @@ use Rattle.core_state.specs.Records.{Reaches}
 use Rattle.core_state.specs.Remotes.{reads_remote}
 use Rattle.core_state.specs.Reserved.{ClassKeeps, Keeps, KeepsSpare}
 use Rattle.core_state.proofs.Reaching.{reaches_more}
-use Rattle.core_laws.specs.Playing.{AllWhole, HasPlayed, SameCore, asked_in, with_more}
-use Rattle.core_laws.proofs.Reserving.{reserved_reaches}
+use Rattle.core_laws.specs.Playing.{AllWhole, HasPlayed, asked_in, with_more}
+use Rattle.shared_store.specs.Comes.{SameCore}
+use Rattle.shared_store.proofs.Reserving.{reserved_reaches}
 
 -- ---- the events
 

@@ -9,7 +9,7 @@ use Rattle.store_history.specs.declared.act.Event.{Event}
 use Rattle.store_history.specs.Acts.{IsWellFormed}
 use Rattle.store_history.specs.History.{lane}
 use Rattle.core_state.specs.declared.state.Core.{Core}
-use Rattle.core_state.specs.Entering.{SameEntries, held_by}
+use Rattle.core_state.specs.Entering.{held_by}
 use Rattle.core_state.specs.History.{History}
 use Rattle.core_state.specs.Records.{Reaches}
 
@@ -37,14 +37,3 @@ pub record HasPlayed {D E C : Type 0} (d : Ghosts D) (e : Ghosts E) (clock : clo
   pub asked : map asked_in events ≡ acts
   pub answered : map (λ e. e.answer) events ≡ answers
   pub leads : (first : Core D E C) (began h : History) → Reaches d e clock.readings first began old h → Reaches d e clock.readings first began new (with_more h events)
-
--- but for entries that are to be had without memory
-pub record SameCore {D E C : Type 0} (old new : Core D E C) : Type 0 where
-  pub parts : new.parts ≡ old.parts
-  pub remote : new.remote ≡ old.remote
-  pub clock : new.clock ≡ old.clock
-  pub entries : SameEntries old.journal new.journal
-  pub upkeep : new.upkeep ≡ old.upkeep
-  pub collector : new.collector ≡ old.collector
-  pub last : new.last ≡ old.last
-  pub fault : new.fault ≡ old.fault

@@ -1,7 +1,8 @@
 //! Lists of acts, done one after another.
 
 ghost use Rattle.std.specs.Prelude.{◌≡◌, ◌≤◌, IfErr, IfOk, OnOk};
-ghost use Rattle.core_laws.specs.Playing.{AllWhole, ArePlayable, HasPlayed, SameCore};
+ghost use Rattle.core_laws.specs.Playing.{AllWhole, ArePlayable, HasPlayed};
+ghost use Rattle.shared_store.specs.Comes.{SameCore};
 
 use core_state::{Act, Answer, Core};
 use disk_trait::Disk;

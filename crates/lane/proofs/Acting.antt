@@ -1,12 +1,16 @@
 -- What the answer of an act tells.
-use Rattle.disk_trait.specs.declared.disk.Disk.{Ghosts}
-use Rattle.std.proofs.Common.{◌≡◌, ◌+◌, ◌⊎◌, inl, inr, ℕ, true, List, [], ◌∷◌, ◌++◌, Option, Some, None, IsSome, IsTrue, refl, sym, ap, subst, ◌∙◌, arith}
+use Rattle.std.proofs.Common.{◌≡◌, ◌+◌, ◌⊎◌, inl, inr, ℕ, zero, suc, Bool, true, false, ◌==◌, List, [], ◌∷◌, ◌++◌, length, if◌then◌else◌, Option, Some, None, IsSome, IsTrue, refl, sym, ap, subst, ◌∙◌, arith, append_assoc}
+use Rattle.std.proofs.lemmas.Bool.{eqb-true, eqb-false}
+use Rattle.turn_lock.specs.Places.{RisesWithin}
+use Rattle.turn_lock.specs.State.{SeatState}
+use Rattle.seat_history.specs.Entered.{HasEntered, event_at}
+use Rattle.seat_history.proofs.Picking.{grown_more}
+use Rattle.shared_store.specs.Comes.{AreAnswered}
 use Rattle.std.specs.Option.{unwrap_or}
 use Rattle.wire_commands.specs.declared.command.Command.{Command}
 use Rattle.wire_commands.specs.declared.command.Command.TheVariants as commands
 use Rattle.store_types.specs.declared.refusal.Refusal.{Refusal}
 use Rattle.store_types.specs.declared.refusal.Refusal.TheVariants.{NoMemory}
-use Rattle.store_types.specs.declared.order.TheConstants.{PART_KIND, MEMORY_KIND, FAULT_KIND}
 use Rattle.wire_commands.specs.declared.reply.Reply.{Reply}
 use Rattle.wire_commands.specs.declared.reply.Reply.TheVariants.{Refused}
 use Rattle.store_model.specs.declared.step.Step.{Step}
@@ -15,19 +19,16 @@ use Rattle.store_history.specs.declared.act.Act.{Act}
 use Rattle.store_history.specs.declared.act.Act.TheVariants as acts
 use Rattle.store_history.specs.declared.act.Answer.{Answer}
 use Rattle.store_history.specs.declared.act.Event.{Event}
-use Rattle.store_history.specs.Acts.{act_of_command, act_of_step, ending, class_of}
-use Rattle.store_history.specs.History.{moment, kind}
+use Rattle.store_history.specs.Acts.{Class, stepping, reaching, starting, sweeping, wanting, ending, act_of_command, act_of_step, class_of}
+use Rattle.store_history.specs.History.{moment, kind, kind_of, reply}
 use Rattle.store_model.specs.Weave.{first_fault}
 use Rattle.store_model.specs.declared.ending.Ending.{Ending}
 use Rattle.store_model.specs.declared.ending.Ending.TheVariants as endings
-use Rattle.core_state.specs.declared.state.Core.{Core}
-use Rattle.core_state.specs.Answers.{IsTold, IsCaused, HasCause, StartHasCause, start_opens, start_as_any, ReachHasCause, reach_reads, reach_failed, reach_as_any, done, short, failed, halted, fault_after}
+use Rattle.core_state.specs.Answers.{IsTold, fault_after}
 use Rattle.core_state.specs.Replies.{may_answer, may_give}
-use Rattle.core_state.specs.Records.{FitsKind, AreKept}
-use Rattle.core_state.specs.Closing.{is_closing}
-use Rattle.core_state.specs.Reserved.{Keeps, KeepsReserve}
+use Rattle.core_state.specs.Records.{AreKept, FitsKind, FitsReply, GivesReply, IsKept}
 use Rattle.lane.specs.declared.acts.Told.{Told}
-use Rattle.lane.specs.Acting.{HasReply, IsWant, IsRefused, MayTell, LeavesReserve, short_ending}
+use Rattle.lane.specs.Acting.{HasReply, IsRefused, IsWant, MayTell, SeatDid, short_ending}
 
 -- ---- acts that have a reply
 
@@ -57,45 +58,11 @@ is_told acts.Step x h told = absurd h
 is_told acts.Short x h told = told
 is_told acts.End x h told = absurd h
 
-pub keeps : {D E C : Type 0} (a : Act) (old new : Core D E C) (k : ℕ) (x : Answer) → HasReply a → Keeps a old new k x → KeepsReserve old new k (is_closing old k a) x
-keeps (acts.Plain c) old new k x h kept = kept
-keeps (acts.JobGroup c) old new k x h kept = kept
-keeps (acts.Blob name checked) old new k x h kept = kept
-keeps (acts.Chunk digest checked) old new k x h kept = kept
-keeps (acts.ReadFile name offset) old new k x h kept = kept
-keeps (acts.ReadChunk name entry) old new k x h kept = kept
-keeps (acts.RemoteList c) old new k x h kept = kept
-keeps (acts.RemoteFile snapshot name offset) old new k x h kept = kept
-keeps (acts.RemoteChunk digest) old new k x h kept = kept
-keeps acts.Start old new k x h kept = absurd h
-keeps acts.Step old new k x h kept = absurd h
-keeps acts.Short old new k x h kept = kept
-keeps acts.End old new k x h kept = absurd h
-
-pub leaves : {D E C : Type 0} (a : Act) (old new : Core D E C) (k : ℕ) (x : Answer) → HasReply a → Keeps a old new k x → LeavesReserve old new k x.last
-leaves a old new k x h kept = let r = keeps a old new k x h kept in record { left = r.left; kept = r.kept }
-
 pub none_some : (o : Option Reply) → o ≡ None → IsSome o → ⊥
 none_some None is some = cc
 none_some (Some r) is some = cc
 
 -- ---- what is told
-
--- a read of the remote gives something or fails, and any other act is answered by a cause of its own
-pub caused : {D E C : Type 0} (d : Ghosts D) (a : Act) (old new : Core D E C) (x : Answer) → HasReply a → IsCaused d old new a x → ReachHasCause d old new a x
-caused d (acts.Plain c) old new x h cause = reach_as_any cause
-caused d (acts.JobGroup c) old new x h cause = reach_as_any cause
-caused d (acts.Blob name checked) old new x h cause = reach_as_any cause
-caused d (acts.Chunk digest checked) old new x h cause = reach_as_any cause
-caused d (acts.ReadFile name offset) old new x h cause = reach_as_any cause
-caused d (acts.ReadChunk name entry) old new x h cause = reach_as_any cause
-caused d (acts.RemoteList c) old new x h cause = cause
-caused d (acts.RemoteFile snapshot name offset) old new x h cause = cause
-caused d (acts.RemoteChunk digest) old new x h cause = cause
-caused d acts.Start old new x h cause = absurd h
-caused d acts.Step old new x h cause = absurd h
-caused d acts.Short old new x h cause = reach_as_any (short cause.0 cause.1)
-caused d acts.End old new x h cause = absurd h
 
 pub same_reply : (o : Option Reply) (r s : Reply) → o ≡ Some r → o ≡ Some s → r ≡ s
 same_reply o r s is also = inner (sym is ∙ also)
@@ -106,73 +73,133 @@ same_reply o r s is also = inner (sym is ∙ also)
 as_refused : (r : Reply) (refusal : Refusal) → r ≡ Refused refusal → IsRefused r
 as_refused r refusal is = subst IsRefused (sym is) tt
 
+-- ---- by what its event may be
+
+-- an event has its place in some history
+pub record HasPlace (v : Event) : Type 0 where
+  pub place : ℕ
+  pub fault : Option ℕ
+  pub before : ℕ
+  pub kept : IsKept place fault before v
+
+last_placed : (place : ℕ) (fault : Option ℕ) (before : ℕ) (h : List Event) (v : Event) → AreKept place fault before (h ++ v ∷ []) → HasPlace v
+last_placed place fault before [] v kept = record { place = place; fault = fault; before = before; kept = kept.0 }
+last_placed place fault before (w ∷ h) v kept = last_placed (place + 1) (fault_after place (kind w) fault) (moment w) h v kept.1
+
+-- the last event of a history
+pub placed_last : (h : List Event) (v : Event) → AreAnswered (h ++ v ∷ []) → HasPlace v
+placed_last h v answered = last_placed 0 None answered.0 h v answered.1
+
 -- want of memory has its kind
-pub want_kind : (a : Act) (x : Answer) (told : Told) → (a ≡ acts.Short → (x.entry).kind ≡ MEMORY_KIND) → (x.last ≡ true → (x.entry).kind ≡ MEMORY_KIND) → x.last ≡ told.last → IsWant a told → (x.entry).kind ≡ MEMORY_KIND
-want_kind a x told wanting last same (inl is) = wanting is
-want_kind a x told wanting last same (inr is) = last (same ∙ is)
+pub want_kind : (v : Event) (told : Told) → HasPlace v → (v.answer).last ≡ told.last → IsWant v.act told → kind v ≡ 2
+want_kind v told at same (inl is) = subst (λ c. FitsKind c at.fault (kind v)) (ap class_of is) (at.kept).kind_is
+want_kind v told at same (inr is) = (at.kept).last (same ∙ is)
 
-want_reply : {D E C : Type 0} (d : Ghosts D) (old new : Core D E C) (a : Act) (x : Answer) (r : Reply) → ReachHasCause d old new a x → x.reply ≡ Some r → (x.entry).kind ≡ MEMORY_KIND → r ≡ Refused NoMemory
-want_reply d old new a x r (reach_reads before is reply told may) tells two = absurd (omega (arith, is, two))
-want_reply d old new a x r (reach_failed before is told) tells two = absurd (omega (arith, is, two))
-want_reply d old new a x r (reach_as_any (done before is reply told may)) tells two = absurd (omega (arith, is, two))
-want_reply d old new a x r (reach_as_any (short is told)) tells two = same_reply x.reply r _ tells told
-want_reply d old new a x r (reach_as_any (failed before is told first rose)) tells two = absurd (omega (arith, is, two))
-want_reply d old new a x r (reach_as_any (halted place before is told)) tells two = absurd (omega (arith, is, two))
+want_reply : (v : Event) (r : Reply) → HasPlace v → reply v ≡ Some r → kind v ≡ 2 → r ≡ Refused NoMemory
+want_reply v r at tells two = same_reply (reply v) r _ tells (subst (λ n. FitsReply at.fault v.act (kind_of n) (reply v)) two (at.kept).tells)
 
--- what was told, but by a read
-any_reply : {D E C : Type 0} (d : Ghosts D) (old new : Core D E C) (a : Act) (x : Answer) (r : Reply) → HasCause d old new a x → x.reply ≡ Some r → IsTrue (may_answer a r) ⊎ IsRefused r
-any_reply d old new a x r (done before is reply told may) tells = inl (subst (λ s. IsTrue (may_answer a s)) (same_reply x.reply reply r told tells) may)
-any_reply d old new a x r (short is told) tells = inr (as_refused r _ (same_reply x.reply r _ tells told))
-any_reply d old new a x r (failed before is told first rose) tells = inr (as_refused r _ (same_reply x.reply r _ tells told))
-any_reply d old new a x r (halted place before is told) tells = inr (as_refused r _ (same_reply x.reply r _ tells told))
+some_none : (r : Reply) → Some r ≡ None → ⊥
+some_none r e = cc
 
--- its entry is of no read's kind
-pub any_kind : {D E C : Type 0} (d : Ghosts D) (old new : Core D E C) (a : Act) (x : Answer) → HasCause d old new a x → (x.entry).kind ≡ PART_KIND → ⊥
-any_kind d old new a x (done before is reply told may) one = omega (arith, is, one)
-any_kind d old new a x (short is told) one = omega (arith, is, one)
-any_kind d old new a x (failed before is told first rose) one = omega (arith, is, one)
-any_kind d old new a x (halted place before is told) one = omega (arith, is, one)
+same_some : (r s : Reply) → Some r ≡ Some s → r ≡ s
+same_some r s e = cc
 
-pub gave_by : {D E C : Type 0} (d : Ghosts D) (old new : Core D E C) (a : Act) (x : Answer) (r : Reply) → ReachHasCause d old new a x → x.reply ≡ Some r → (x.entry).kind ≡ PART_KIND → IsTrue (may_give a r)
-gave_by d old new a x r (reach_reads before is reply told may) tells one = subst (λ s. IsTrue (may_give a s)) (same_reply x.reply reply r told tells) may
-gave_by d old new a x r (reach_failed before is told) tells one = absurd (omega (arith, is, one))
-gave_by d old new a x r (reach_as_any cause) tells one = absurd (any_kind d old new a x cause one)
+-- only a read of the remote has an entry of a read and a reply
+gives_by : (c : Class) (a : Act) (r : Reply) → GivesReply c a (Some r) → IsTrue (may_give a r)
+gives_by reaching a r gives = gives.0
+gives_by stepping a r gives = absurd (some_none r gives)
+gives_by starting a r gives = absurd (some_none r gives)
+gives_by sweeping a r gives = absurd (some_none r gives)
+gives_by wanting a r gives = absurd (some_none r gives)
+gives_by ending a r gives = absurd (some_none r gives)
 
-pub other_by : {D E C : Type 0} (d : Ghosts D) (old new : Core D E C) (a : Act) (x : Answer) (r : Reply) → ReachHasCause d old new a x → x.reply ≡ Some r → ((x.entry).kind ≡ PART_KIND → ⊥)
+pub gave_by : (v : Event) (r : Reply) → HasPlace v → reply v ≡ Some r → kind v ≡ 1 → IsTrue (may_give v.act r)
+gave_by v r at tells one =
+    gives_by (class_of v.act) v.act r (subst (λ o. GivesReply (class_of v.act) v.act o) tells (subst (λ n. FitsReply at.fault v.act (kind_of n) (reply v)) one (at.kept).tells))
+
+-- no act but one of a collector that is open has an entry of its end
+no_close : (c : Class) (fault : Option ℕ) → (c ≡ sweeping → ⊥) → FitsKind c fault 4 → ⊥
+no_close sweeping fault other fits = other refl
+no_close stepping fault other (inl p) = let e = p.0 in absurd (omega (arith, e))
+no_close stepping fault other (inr (inl e)) = absurd (omega (arith, e))
+no_close stepping fault other (inr (inr e)) = absurd (omega (arith, e))
+no_close reaching fault other (inl (inl e, f)) = absurd (omega (arith, e))
+no_close reaching fault other (inl (inr (inl e), f)) = absurd (omega (arith, e))
+no_close reaching fault other (inl (inr (inr e), f)) = absurd (omega (arith, e))
+no_close reaching fault other (inr (inl e)) = absurd (omega (arith, e))
+no_close reaching fault other (inr (inr e)) = absurd (omega (arith, e))
+no_close starting fault other (inl (inl e, f)) = absurd (omega (arith, e))
+no_close starting fault other (inl (inr e, f)) = absurd (omega (arith, e))
+no_close starting fault other (inr (inl e)) = absurd (omega (arith, e))
+no_close starting fault other (inr (inr e)) = absurd (omega (arith, e))
+no_close wanting fault other e = absurd (omega (arith, e))
+no_close ending fault other (inl e) = absurd (omega (arith, e))
+no_close ending fault other (inr p) = let e = p.0 in absurd (omega (arith, e))
+
+-- what is told, but by a read
+other_kind : (n : ℕ) (a : Act) (fault : Option ℕ) (r : Reply) → (class_of a ≡ sweeping → ⊥) → FitsKind (class_of a) fault n → FitsReply fault a (kind_of n) (Some r) → (n ≡ 1 → ⊥)
     → IsTrue (may_answer a r) ⊎ IsRefused r
-other_by d old new a x r (reach_reads before is reply told may) tells other = absurd (other is)
-other_by d old new a x r (reach_failed before is told) tells other = inr (as_refused r _ (same_reply x.reply r _ tells told))
-other_by d old new a x r (reach_as_any cause) tells other = any_reply d old new a x r cause tells
+other_kind zero a fault r apart fits tells other = inl tells.0
+other_kind (suc zero) a fault r apart fits tells other = absurd (other refl)
+other_kind (suc (suc zero)) a fault r apart fits tells other = inr (as_refused r _ (same_some r _ tells))
+other_kind (suc (suc (suc zero))) a fault r apart fits tells other = absurd (some_none r tells)
+other_kind (suc (suc (suc (suc zero)))) a fault r apart fits tells other = absurd (no_close (class_of a) fault apart fits)
+other_kind (suc (suc (suc (suc (suc zero))))) a fault r apart fits tells other = inr (as_refused r _ (same_some r _ tells))
+other_kind (suc (suc (suc (suc (suc (suc zero)))))) a fault r apart fits tells other = absurd (some_none r tells)
+other_kind (suc (suc (suc (suc (suc (suc (suc zero))))))) a fault r apart fits tells other = inr (as_refused r _ (same_some r _ tells))
+other_kind (suc (suc (suc (suc (suc (suc (suc (suc n)))))))) a fault r apart fits tells other = absurd tells
 
--- a collector's start that is told something
-pub start_any : {D E C : Type 0} (d : Ghosts D) (old new : Core D E C) (x : Answer) (r : Reply) → StartHasCause d old new acts.Start x → x.reply ≡ Some r → HasCause d old new acts.Start x
-start_any d old new x r (start_opens before is none) tells = absurd (none_some x.reply none (subst IsSome (sym tells) refl))
-start_any d old new x r (start_as_any cause) tells = cause
+pub other_by : (v : Event) (r : Reply) → (class_of v.act ≡ sweeping → ⊥) → HasPlace v → reply v ≡ Some r → (kind v ≡ 1 → ⊥) → IsTrue (may_answer v.act r) ⊎ IsRefused r
+other_by v r apart at tells other = other_kind (kind v) v.act at.fault r apart (at.kept).kind_is (subst (λ o. FitsReply at.fault v.act (kind_of (kind v)) o) tells (at.kept).tells) other
 
-pub start_gave : {D E C : Type 0} (d : Ghosts D) (old new : Core D E C) (x : Answer) (r : Reply) → StartHasCause d old new acts.Start x → x.reply ≡ Some r → (x.entry).kind ≡ PART_KIND
-    → IsTrue (may_give acts.Start r)
-start_gave d old new x r cause tells one = absurd (any_kind d old new acts.Start x (start_any d old new x r cause tells) one)
+-- an act that has a reply is none of an open collector
+pub no_sweep : (a : Act) → HasReply a → class_of a ≡ sweeping → ⊥
+no_sweep acts.Start h is = absurd h
+no_sweep acts.Step h is = absurd h
+no_sweep acts.End h is = absurd h
+no_sweep a h is = cc
 
-pub start_other : {D E C : Type 0} (d : Ghosts D) (old new : Core D E C) (x : Answer) (r : Reply) → StartHasCause d old new acts.Start x → x.reply ≡ Some r → ((x.entry).kind ≡ PART_KIND → ⊥)
-    → IsTrue (may_answer acts.Start r) ⊎ IsRefused r
-start_other d old new x r cause tells other = any_reply d old new acts.Start x r (start_any d old new x r cause tells) tells
+pub start_sweep : class_of acts.Start ≡ sweeping → ⊥
+start_sweep is = cc
 
-may_reply : {D E C : Type 0} (d : Ghosts D) (old new : Core D E C) (a : Act) (x : Answer) (r : Reply) → ReachHasCause d old new a x → x.reply ≡ Some r
-    → IsTrue (may_answer a r) ⊎ (IsTrue (may_give a r) ⊎ IsRefused r)
-may_reply d old new a x r (reach_reads before is reply told may) tells = inr (inl (subst (λ s. IsTrue (may_give a s)) (same_reply x.reply reply r told tells) may))
-may_reply d old new a x r (reach_failed before is told) tells = inr (inr (as_refused r _ (same_reply x.reply r _ tells told)))
-may_reply d old new a x r (reach_as_any cause) tells = by_any (any_reply d old new a x r cause tells)
+-- ---- an act by a seat
+
+pub did_by : (old new : SeatState Event) (k : ℕ) (act : Act) (x : Answer) (told : Told) → (class_of act ≡ sweeping → ⊥) → HasEntered act x old new → AreAnswered new.seen
+    → RisesWithin 0 (length new.seen) new.mine → (x.entry).lane ≡ k → x.reply ≡ Some told.reply → x.last ≡ told.last → SeatDid old new k act told
+did_by old new k act x told apart e answered rises is tells last = λ start.
+    let v : Event = event_at act x e.calls in
+    let at : HasPlace v = placed_last e.before v (subst AreAnswered (ap (λ s. s.seen) e.now) answered) in record {
+      event = v;
+      asks = refl;
+      lane_is = is;
+      tells = tells;
+      last = last;
+      kind_is = want_kind v told at last;
+      gave = gave_by v told.reply at tells;
+      other = other_by v told.reply apart at tells;
+      history = λ h g. grown_more start old new h.events act x e rises g;
+    }
+
+-- an act's own place
+pub placed_kept : (old new : SeatState Event) (act : Act) (x : Answer) (e : HasEntered act x old new) → AreAnswered new.seen → HasPlace (event_at act x e.calls)
+placed_kept old new act x e answered = placed_last e.before (event_at act x e.calls) (subst AreAnswered (ap (λ s. s.seen) e.now) answered)
+
+pub may_tell_by : (old new : SeatState Event) (act : Act) (x : Answer) (told : Told) → (class_of act ≡ sweeping → ⊥) → HasEntered act x old new → AreAnswered new.seen
+    → x.reply ≡ Some told.reply → x.last ≡ told.last → MayTell act told
+may_tell_by old new act x told apart e answered tells last =
+    let v : Event = event_at act x e.calls in
+    let at : HasPlace v = placed_last e.before v (subst AreAnswered (ap (λ s. s.seen) e.now) answered) in record {
+      reply_is = by_kind at (kind v == 1) refl;
+      want = λ wants. want_reply v told.reply at tells (want_kind v told at last wants);
+    }
   where
-    by_any : IsTrue (may_answer a r) ⊎ IsRefused r → IsTrue (may_answer a r) ⊎ (IsTrue (may_give a r) ⊎ IsRefused r)
-    by_any (inl may) = inl may
-    by_any (inr refused) = inr (inr refused)
-
-pub may_tell : {D E C : Type 0} (d : Ghosts D) (old new : Core D E C) (a : Act) (x : Answer) (told : Told) → HasReply a → IsCaused d old new a x
-    → x.reply ≡ Some told.reply → (IsWant a told → (x.entry).kind ≡ MEMORY_KIND) → MayTell a told
-may_tell d old new a x told replied cause tells two = let has = caused d a old new x replied cause in record {
-  reply_is = may_reply d old new a x told.reply has tells;
-  want = λ wants. want_reply d old new a x told.reply has tells (two wants);
-}
+    by_kind : HasPlace (event_at act x e.calls) → (b : Bool) → ((x.entry).kind == 1) ≡ b → IsTrue (may_answer act told.reply) ⊎ (IsTrue (may_give act told.reply) ⊎ IsRefused told.reply)
+    by_kind at true is = inr (inl (gave_by (event_at act x e.calls) told.reply at tells (eqb-true (x.entry).kind 1 is)))
+    by_kind at false is = of_other (other_by (event_at act x e.calls) told.reply apart at tells (eqb-false (x.entry).kind 1 is))
+      where
+        of_other : IsTrue (may_answer act told.reply) ⊎ IsRefused told.reply → IsTrue (may_answer act told.reply) ⊎ (IsTrue (may_give act told.reply) ⊎ IsRefused told.reply)
+        of_other (inl may) = inl may
+        of_other (inr refused) = inr (inr refused)
 
 -- ---- an end that met a fault
 
@@ -180,16 +207,47 @@ has_first : (place : ℕ) (o : Option ℕ) → first_fault place o ≡ None → 
 has_first place None is = cc
 has_first place (Some first) is = cc
 
--- it meets none again
-pub second_end : (place : ℕ) (fault : Option ℕ) (before : ℕ) (h : List Event) (v u : Event) → AreKept place fault before ((h ++ v ∷ []) ++ u ∷ []) → kind v ≡ FAULT_KIND → u.act ≡ acts.End → kind u ≡ FAULT_KIND → ⊥
-second_end place fault before [] v u kept five asks again =
-    by_kind (subst (λ c. FitsKind c (fault_after place (kind v) fault) (kind u)) (ap class_of asks) ((kept.1).0).kind_is)
+none_some_place : (o : Option ℕ) → o ≡ None → IsSome o → ⊥
+none_some_place None is some = cc
+none_some_place (Some n) is some = cc
+
+first_some : (place : ℕ) (o : Option ℕ) → IsSome (first_fault place o)
+first_some place None = refl
+first_some place (Some first) = refl
+
+fault_stays : (place n : ℕ) (o : Option ℕ) → IsSome o → IsSome (fault_after place n o)
+fault_stays place n o some = by_test (n == 5)
   where
-    by_kind : FitsKind ending (fault_after place (kind v) fault) (kind u) → ⊥
-    by_kind (inl six) = omega (arith, six, again)
-    by_kind (inr p) = has_first place fault (subst (λ n. fault_after place n fault ≡ None) five p.1)
-second_end place fault before (w ∷ h) v u kept five asks again =
-    second_end (place + 1) (fault_after place (kind w) fault) (moment w) h v u kept.1 five asks again
+    by_test : (b : Bool) → IsSome (if b then first_fault place o else o)
+    by_test true = first_some place o
+    by_test false = some
+
+-- after a fault no end meets one
+later_end : (place : ℕ) (fault : Option ℕ) (before : ℕ) (h : List Event) (u : Event) → IsSome fault → AreKept place fault before (h ++ u ∷ []) → u.act ≡ acts.End → kind u ≡ 5 → ⊥
+later_end place fault before [] u some kept asks five = by_kind (subst (λ c. FitsKind c fault (kind u)) (ap class_of asks) (kept.0).kind_is)
+  where
+    by_kind : FitsKind ending fault (kind u) → ⊥
+    by_kind (inl six) = omega (arith, six, five)
+    by_kind (inr p) = none_some_place fault p.1 some
+later_end place fault before (w ∷ h) u some kept asks five =
+    later_end (place + 1) (fault_after place (kind w) fault) (moment w) h u (fault_stays place (kind w) fault some) kept.1 asks five
+
+second_end : (place : ℕ) (fault : Option ℕ) (before : ℕ) (h : List Event) (v : Event) (m : List Event) (u : Event) → AreKept place fault before ((h ++ v ∷ m) ++ u ∷ []) → kind v ≡ 5 → u.act ≡ acts.End → kind u ≡ 5 → ⊥
+second_end place fault before [] v m u kept five asks again =
+    later_end (place + 1) (fault_after place (kind v) fault) (moment v) m u
+    (subst (λ n. IsSome (fault_after place n fault)) (sym five) (first_some place fault)) kept.1 asks again
+second_end place fault before (w ∷ h) v m u kept five asks again =
+    second_end (place + 1) (fault_after place (kind w) fault) (moment w) h v m u kept.1 five asks again
+
+-- an end that met a fault meets none again, whatever others did meanwhile
+pub ends_once : (a b c : SeatState Event) (x y : Answer) → HasEntered acts.End x a b → HasEntered acts.End y b c → AreAnswered c.seen → (x.entry).kind ≡ 5 → (y.entry).kind ≡ 5 → ⊥
+ends_once a b c x y first second answered five again =
+    let v : Event = event_at acts.End x first.calls in
+    let u : Event = event_at acts.End y second.calls in
+    let m = second.seen.0 in
+    let seen_is : second.before ≡ first.before ++ v ∷ m = sym second.seen.1 ∙ ap (λ s. s.seen ++ m) first.now ∙ append_assoc first.before (v ∷ []) m in
+    let all : AreAnswered ((first.before ++ v ∷ m) ++ u ∷ []) = subst (λ es. AreAnswered (es ++ u ∷ [])) seen_is (subst AreAnswered (ap (λ s. s.seen) second.now) answered) in
+    second_end 0 None all.0 first.before v m u all.1 five refl again
 
 -- ---- want of memory that ends a lane
 

@@ -1,7 +1,7 @@
 -- The last of a lane: its end, and the reply behind it.
 use Rattle.std.proofs.Common.{◌≡◌, ◌≢◌, ℕ, true, false, List, [], ◌∷◌, ◌++◌, length, Option, Some, None, refl, sym, ap, subst, ◌∙◌, arith, append-nil, append_assoc, option_to_list, ◌⊎◌, inl, inr}
 use Rattle.std.proofs.lemmas.List.{length-append}
-use Rattle.store_types.specs.declared.order.TheConstants.{FAULT_KIND, END_KIND}
+use Rattle.store_types.specs.declared.order.TheConstants.{END_KIND}
 use Rattle.port_traits.specs.Bytes.{TakesFrom, WritesCounted}
 use Rattle.port_traits.proofs.BytesLemmas.{WritesCounted-stopped}
 use Rattle.wire_frames.specs.Frames.{frame}
@@ -23,12 +23,13 @@ use Rattle.store_history.proofs.Ending.{end_runs, end_again_runs, faulted_same}
 use Rattle.store_history.proofs.Longer.{of_more}
 use Rattle.core_state.specs.History.{History, then_event, event_of}
 use Rattle.core_state.specs.Answers.{EndIsTold}
-use Rattle.core_state.specs.Records.{AreKept}
+use Rattle.shared_store.specs.Comes.{with_events}
 use Rattle.lane.specs.Acting.{gave_all}
 use Rattle.lane.specs.Closing.{AreEndOf, EndsLane}
 use Rattle.lane.specs.Progress.{Start, HasStopped, HasWords}
-use Rattle.lane.specs.Ran.{with_events, Took, AreEnds, ReadsOut, RanAlone}
-use Rattle.lane.proofs.Acting.{second_end}
+use Rattle.lane.specs.AtOnce.{AreEnds, EndsAtOnce, GaveAllButOne, HasEndedAtOnce}
+use Rattle.lane.specs.Ran.{Took, ReadsOut, RanAlone}
+use Rattle.lane.proofs.AtOnce.{all_before}
 use Rattle.lane.proofs.Turning.{gave_more, no_words}
 
 -- ---- what the end tells
@@ -293,6 +294,30 @@ closing before after start k left taken size given e words ends s =
     let found = ends (with_events start.history s.events) s.stands_for in
     record { vs = found.0; stands_for = found.1.0; ends = found.1.1 }
 
+-- nothing comes but the end
+ended_at_once : (start : Start) (k : ℕ) (left taken : Option (List ℕ)) (size given : ℕ) (e : Ending) (words : Option Reply) (before : History → Type 0) (s : HasStopped before start k left taken size given e words) (given' : ℕ) (vs : List Event)
+    → AreEndOf k vs → GaveAllButOne (s.last).told given' → HasEndedAtOnce s.input (s.events ++ vs) given'
+ended_at_once start k left taken size given e words before s given' vs ends gave = record {
+  before = s.events;
+  ends = vs;
+  split = refl;
+  ended = are_ends k vs ends;
+  last = s.last;
+  leads = s.comes;
+  off = s.off;
+  idle = s.idle;
+  shut = s.shut;
+  gave = gave;
+}
+
+not_at_once : (e : Ending) (input : List ℕ) (events : List Event) (given : ℕ) → e ≢ endings.SinkFault → EndsAtOnce e input events given
+not_at_once endings.SinkFault input events given ne = absurd (ne refl)
+not_at_once endings.Clean input events given ne = tt
+not_at_once (endings.Broken place) input events given ne = tt
+not_at_once endings.SourceFault input events given ne = tt
+not_at_once endings.SourceTooLong input events given ne = tt
+not_at_once endings.NoMemory input events given ne = tt
+
 -- all that was told was given, and the ending is what it was to be
 all_given : (before after : History → Type 0) (start : Start) (k : ℕ) (left taken taken' : Option (List ℕ)) (size given given' : ℕ) (e : Ending) (words : Option Reply)
     → EndsLane before after k → (s : HasStopped before start k left taken size given e words) → e ≢ endings.SinkFault
@@ -312,6 +337,7 @@ all_given before after start k left taken taken' size given given' e words ends 
       took = s.took;
       gave = gave;
       read_out = record { before = s.events; ends = c.vs; split = refl; read = read_before e s.input s.events c.vs left (are_ends k c.vs c.ends) s.read_out };
+      at_once = not_at_once e s.input (s.events ++ c.vs) given' ne;
     }
 
 -- the sink had failed before
@@ -333,6 +359,7 @@ sink_failed before after start k left taken size given words ends s =
       gave = subst (λ xs. WritesCounted start.taken taken 0 given xs false) (sym (ap text r.begins ∙ text_append (s.last).told r.more))
           (WritesCounted-stopped start.taken taken 0 given (text (s.last).told) (text r.more) s.gave);
       read_out = record { before = s.events; ends = c.vs; split = refl; read = tt };
+      at_once = ended_at_once start k left taken size given endings.SinkFault words before s given c.vs c.ends s.all_but_one;
     }
 
 -- no reply comes behind the end
@@ -383,6 +410,7 @@ closed_in_fault before after start k left taken taken' size given given' e words
       took = all_taken e s.last w start.left left s.input s.says s.took;
       gave = gave_more start.taken taken taken' given given' (s.last).told w false (subst (λ b. WritesCounted start.taken taken 0 given (text (s.last).told) b) (gives_all e ne) s.gave) wrote;
       read_out = record { before = s.events; ends = c.vs; split = refl; read = tt };
+      at_once = ended_at_once start k left taken size given e (Some w) before s given' c.vs c.ends (all_before start.taken taken taken' given given' (s.last).told (frame (reply_text w)) false (subst (λ b. WritesCounted start.taken taken 0 given (text (s.last).told) b) (gives_all e ne) s.gave) wrote);
     }
 
 -- ---- the end
@@ -400,20 +428,19 @@ ends_here before after k a n entered of other told h s =
 -- one that met a fault comes again
 pub ends_again : (before between after : History → Type 0) (k : ℕ) (a b : Answer) (m n : ℕ)
     → ((h : History) → before h → between (then_event h (event_of acts.End a m))) → ((h : History) → between h → after (then_event h (event_of acts.End b n)))
-    → ((h : History) → after h → AreKept 0 None (h.opening).moment h.events)
-    → (a.entry).lane ≡ k → (b.entry).lane ≡ k → (a.entry).kind ≡ FAULT_KIND → EndIsTold b → EndsLane before after k
-ends_again before between after k a b m n first second kept of also five told h s =
+    → ((b.entry).kind ≡ 5 → ⊥)
+    → (a.entry).lane ≡ k → (b.entry).lane ≡ k → (a.entry).kind ≡ 5 → EndIsTold b → EndsLane before after k
+ends_again before between after k a b m n first second once of also five told h s =
     let v = event_of acts.End a m in
     let u = event_of acts.End b n in
-    let stands = second (then_event h v) (first h s) in
-    let right = kept (then_event (then_event h v) u) stands in (
+    let stands = second (then_event h v) (first h s) in (
       v ∷ u ∷ [],
       (
         subst (λ es. after (with_events h es)) (append_assoc h.events (v ∷ []) (u ∷ [])) stands,
-        (record { asks = refl; lane_is = of; kind_is = five }, record { asks = refl; lane_is = also; kind_is = six right told }),
+        (record { asks = refl; lane_is = of; kind_is = five }, record { asks = refl; lane_is = also; kind_is = six told }),
       ),
     )
   where
-    six : AreKept 0 None (h.opening).moment ((h.events ++ event_of acts.End a m ∷ []) ++ event_of acts.End b n ∷ []) → EndIsTold b → (b.entry).kind ≡ END_KIND
-    six right (inl p) = p.0
-    six right (inr p) = absurd (second_end 0 None (h.opening).moment h.events (event_of acts.End a m) (event_of acts.End b n) right five refl p.0)
+    six : EndIsTold b → (b.entry).kind ≡ 6
+    six (inl p) = p.0
+    six (inr p) = absurd (once p.0)

@@ -1,5 +1,5 @@
 -- GC on a lane: its collector's acts, and where they lead.
-use Rattle.std.proofs.Common.{◌≡◌, ◌+◌, inl, inr, ℕ, Bool, true, false, ◌||◌, ◌==◌, List, [], ◌∷◌, ◌++◌, Option, Some, None, IsSome, refl, sym, ap, subst, ◌∙◌, arith, append-nil, append_assoc}
+use Rattle.std.proofs.Common.{◌≡◌, inl, inr, ℕ, Bool, true, false, ◌||◌, ◌==◌, List, [], ◌∷◌, ◌++◌, Option, Some, None, IsSome, refl, sym, ap, subst, ◌∙◌, arith, append-nil, append_assoc}
 use Rattle.std.proofs.lemmas.Bool.{eqb-true}
 use Rattle.store_types.specs.declared.order.TheConstants.{MEMORY_KIND, START_KIND}
 use Rattle.wire_commands.specs.declared.command.Command.TheVariants as commands
@@ -9,7 +9,7 @@ use Rattle.store_history.specs.declared.act.Act.TheVariants as acts
 use Rattle.store_history.specs.declared.act.Answer.{Answer}
 use Rattle.store_history.specs.declared.act.Event.{Event}
 use Rattle.store_history.specs.History.{kind, lane, reply}
-use Rattle.store_history.specs.LaneRun.{Position, tells, wants, heard_at, heard}
+use Rattle.store_history.specs.LaneRun.{Position, wants, heard_at, heard}
 use Rattle.store_history.specs.SoFar.{Leads}
 use Rattle.store_history.proofs.Collecting.{flag, follows_step, leads_start, leads_gc, leads_close}
 use Rattle.store_history.proofs.Ending.{next_shut, next_collecting}
@@ -18,11 +18,11 @@ use Rattle.store_history.proofs.Idling.{heard_idle}
 use Rattle.store_history.proofs.Longer.{of_more}
 use Rattle.core_state.specs.Answers.{IsToldBut}
 use Rattle.core_state.specs.History.{History, then_event}
+use Rattle.shared_store.specs.Comes.{with_events}
 use Rattle.lane.specs.declared.acts.Told.{Told}
 use Rattle.lane.specs.Acting.{Did}
 use Rattle.lane.specs.Collecting.{TellsEnd, HasPassed, sweeping_at, HasSwept, Sweeps}
 use Rattle.lane.specs.Doing.{answered, Does}
-use Rattle.lane.specs.Ran.{with_events}
 use Rattle.lane.proofs.Doing.{leads_then, or_false, read_on}
 
 -- ---- what an answer leaves of an open collector

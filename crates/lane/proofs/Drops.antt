@@ -1,5 +1,5 @@
 -- A SYNC's acts by what its job asks, and a reply for which there is no memory.
-use Rattle.std.proofs.Common.{◌≡◌, ◌<◌, inl, inr, ℕ, Bool, true, false, ◌||◌, List, [], ◌∷◌, ◌++◌, length, Option, Some, None, Result, Ok, Err, OnOk, OnErr, if◌then◌else◌, nat_le, nat_lt, refl, sym, ap, subst, ◌∙◌, arith}
+use Rattle.std.proofs.Common.{◌≡◌, inl, inr, ℕ, Bool, true, false, ◌||◌, List, [], ◌∷◌, ◌++◌, length, Option, Some, None, Result, Ok, Err, OnOk, OnErr, if◌then◌else◌, nat_le, nat_lt, refl, sym, ap, subst, ◌∙◌}
 use Rattle.store_types.specs.declared.refusal.Refusal.TheVariants.{NoMemory}
 use Rattle.store_types.specs.declared.append.AppendEntry.{AppendEntry}
 use Rattle.store_types.specs.FileNames.{manifest_name}
@@ -25,7 +25,7 @@ use Rattle.pull_steps.specs.Asked.{IsOver, MayWant, report_of}
 use Rattle.pull_steps.specs.Taken.{IsReadOf, IsReplyTo}
 use Rattle.lane.specs.declared.acts.Told.{Told}
 use Rattle.lane.specs.Acting.{Did, HasReply, MayTell}
-use Rattle.lane.specs.Pulling.{IsActOf, IsNearer, IsNextAct, IsSound, IsStopped, PullsOn, rank}
+use Rattle.lane.specs.Pulling.{IsActOf, IsNextAct, IsSound, IsStopped, PullsOn}
 use Rattle.lane.proofs.Formed.{given, of_either}
 use Rattle.lane.proofs.Pulls.{pulls_once, pulls_then}
 
@@ -166,7 +166,6 @@ pub record IsDroppedTo (job after : SyncJob) : Type 0 where
   pub wants : IsActOf after acts.Short
   pub ends : take_more after (replies.Refused NoMemory) ≡ asks (aborting NoMemory)
   pub same : take_more job (replies.Refused NoMemory) ≡ asks (aborting NoMemory)
-  pub nearer : rank (asks (aborting NoMemory)) < rank job
   pub again : IsActOf job acts.Short
 
 abbrev pub IsDropped : SyncJob → Reply → Type 0
@@ -178,7 +177,6 @@ manifest_dropped c bytes (replies.Part total more) h = let d = manifest_part_ali
   wants = d.wants;
   ends = d.ends;
   same = refl;
-  nearer = omega arith;
   again = inr (refl, refl);
 }
 manifest_dropped c bytes r h = absurd h
@@ -189,7 +187,6 @@ file_dropped c s name bytes (replies.Part total more) h = let d = file_part_alik
   wants = d.wants;
   ends = d.ends;
   same = refl;
-  nearer = omega arith;
   again = inr (refl, refl);
 }
 file_dropped c s name bytes r h = absurd h
@@ -203,7 +200,6 @@ chunk_dropped c s x e later (replies.Data blob) h =
       wants = inr (refl, refl);
       ends = refl;
       same = refl;
-      nearer = omega arith;
       again = inr (refl, refl);
     })
 chunk_dropped c s x e later r h = absurd h
@@ -223,10 +219,6 @@ pub dropped_is : (job kept new : SyncJob) (r want : Reply) → IsReadOf job r �
     → new ≡ take_more (take_more job r) want
 dropped_is job kept new r want read same wants is =
     dropped_ends job kept new r want read same wants is ∙ sym (dropped job r read).ends ∙ ap (λ w. take_more (take_more job r) w) (sym wants)
-
-pub dropped_nearer : (job kept new : SyncJob) (r want : Reply) → IsReadOf job r → kept ≡ job → want ≡ replies.Refused NoMemory → new ≡ take_more kept want → IsNearer job new
-dropped_nearer job kept new r want read same wants is =
-    subst (λ x. rank x < rank job) (sym (dropped_ends job kept new r want read same wants is)) (dropped job r read).nearer
 
 -- a refusal is taken without memory
 pub taken_short : {E : Type 0} (result : Result (Unit {0}) E) (P Q : Type 0) (job : SyncJob) (r : Reply) → OnOk result P → OnErr result (Q × IsReadOf job r)

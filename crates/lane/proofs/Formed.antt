@@ -1,5 +1,5 @@
 -- What holds of a SYNC at each point.
-use Rattle.std.proofs.Common.{◌≡◌, ◌≤◌, ◌+◌, ◌^◌, ◌⊎◌, inl, inr, ℕ, suc, Bool, true, false, List, [], ◌∷◌, ◌++◌, length, filter, map, drop, nat_le, nat_lt, Option, Some, None, Result, Ok, Err, IsTrue, if◌then◌else◌, refl, ap, subst, arith, ◌==◌}
+use Rattle.std.proofs.Common.{◌≡◌, ◌≤◌, ◌+◌, ◌^◌, ◌⊎◌, inl, inr, ℕ, suc, Bool, true, false, List, [], ◌∷◌, ◌++◌, length, filter, drop, nat_le, nat_lt, Option, Some, None, Result, Ok, Err, IsTrue, if◌then◌else◌, refl, ap, subst, arith, ◌==◌}
 use Rattle.std.specs.List.{All}
 use Rattle.std.proofs.lemmas.Bool.{leb-true}
 use Rattle.std.proofs.lemmas.List.{length-map}

@@ -4,10 +4,8 @@ pub mod Acting
 pub mod Replies
 pub mod Formed
 pub mod Doing
-pub mod Ranks
-pub mod Readers
-pub mod PullRanks
-pub mod Writers
+pub mod Going
+pub mod PullingOn
 pub mod Pulls
 pub mod Drops
 pub mod Stepping
@@ -15,6 +13,8 @@ pub mod Collections
 pub mod Sweeping
 pub mod Caused
 pub mod Entries
+pub mod AtOnce
 pub mod Turning
 pub mod Serving
 pub mod Closings
+pub mod Seated

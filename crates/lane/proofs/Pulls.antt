@@ -24,11 +24,11 @@ use Rattle.store_history.proofs.Idling.{flagged, heard_idle, asks_idle, further_
 use Rattle.store_history.proofs.Wanting.{wants_pulling}
 use Rattle.core_state.specs.Replies.{may_answer, may_give}
 use Rattle.core_state.specs.History.{History}
+use Rattle.shared_store.specs.Comes.{with_events}
 use Rattle.lane.specs.declared.acts.Told.{Told}
 use Rattle.lane.specs.Acting.{Did, IsRefused, MayTell}
 use Rattle.lane.specs.Doing.{IsNext, answered, Does}
 use Rattle.lane.specs.Pulling.{IsActOf, IsAt, IsFormed, IsSound, IsStopped, HasPulled, PullsOn, left_at}
-use Rattle.lane.specs.Ran.{with_events}
 use Rattle.lane.proofs.Doing.{leads_then, of_both, read_on}
 use Rattle.lane.proofs.Formed.{IsOn, IsOpen, take_on}
 

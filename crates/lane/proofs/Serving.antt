@@ -5,11 +5,12 @@ use Rattle.std.proofs.lemmas.List.{length-append}
 use Rattle.store_types.specs.declared.refusal.Refusal.TheVariants.{NoMemory}
 use Rattle.store_types.specs.declared.order.TheConstants.{MEMORY_KIND}
 use Rattle.port_traits.specs.Bytes.{TakesFrom, WritesCounted}
-use Rattle.wire_frames.specs.Frames.{Tail, short, cut, advanced}
+use Rattle.wire_frames.specs.Frames.{Tail, frame, short, cut, advanced}
 use Rattle.wire_commands.specs.declared.command.Command.{Command}
 use Rattle.wire_commands.specs.declared.command.Command.TheVariants as commands
 use Rattle.wire_commands.specs.declared.reply.Reply.{Reply}
 use Rattle.wire_commands.specs.declared.reply.Reply.TheVariants.{Refused}
+use Rattle.wire_commands.specs.ReplyText.{reply_text}
 use Rattle.wire_commands.specs.Inputs as inputs
 use Rattle.wire_commands.specs.Inputs.{InputFront, front}
 use Rattle.store_model.specs.declared.ending.Ending.{Ending}
@@ -29,18 +30,21 @@ use Rattle.store_history.proofs.Longer.{of_more}
 use Rattle.store_history.proofs.Placed.{open_at, open_is}
 use Rattle.store_history.proofs.Wanting.{Goes, want_goes, wants_frame}
 use Rattle.core_state.specs.History.{History}
+use Rattle.shared_store.specs.Comes.{with_events}
 use Rattle.lane.specs.declared.acts.Told.{Told}
 use Rattle.lane.specs.declared.input.Input.{Input}
 use Rattle.lane.specs.declared.ending.Last.{Last}
 use Rattle.lane.specs.Acting.{AnswersShort, Gives, IsEndedBy, went_on, gave_all, short_ending}
+use Rattle.lane.specs.AtOnce.{GaveSo}
 use Rattle.lane.specs.Doing.{IsNext, Does}
 use Rattle.lane.specs.Fronts.{IsCommandAhead}
 use Rattle.lane.specs.Progress.{Start, position, HasServed, HasStopped, HasWords}
-use Rattle.lane.specs.Ran.{with_events, Took, ReadsOut}
+use Rattle.lane.specs.Ran.{Took, ReadsOut}
 use Rattle.lane.specs.Taking.{TakesInVain}
 use Rattle.lane.specs.Turns.{HasDone}
 use Rattle.lane.proofs.Doing.{of_both, leads_then, step_is_job}
 use Rattle.lane.proofs.Pulls.{heard_refused}
+use Rattle.lane.proofs.AtOnce.{given_but_one, gave_but_one, leads_then_one, leads_to, wanted_after}
 use Rattle.lane.proofs.Entries.{first_true, second_true}
 use Rattle.lane.proofs.Fronts.{part_wants}
 use Rattle.lane.proofs.Stepping.{EndsByWant, want_first}
@@ -160,6 +164,8 @@ command_stops before after start k left taken taken' tail size size' given given
       so = ends_so e p refl g.ended;
       says = calm.says;
       read_out = calm.out;
+      comes = leads_to endings.SinkFault (s.events ++ d.events) (begin s.input) p (led_on before after start k left taken tail size given c told s ahead d);
+      all_but_one = gave_but_one e (s.told ++ told.reply ∷ []) given' (given_but_one start.taken taken taken' given given' s.told told.reply (frame (reply_text told.reply)) (gave_all e) s.gave g.gave);
     }
 
 -- ---- want of memory
@@ -292,6 +298,11 @@ short_stops before after start k left left' taken taken' tail size size' given g
       so = short_so e answers.stop q (answers.told).last answers.ending_is g.ended h.is_out_of_memory h.off;
       says = calm.says;
       read_out = calm.out;
+      comes = leads_then_one endings.SinkFault s.events v (begin input) p
+          (leads_to endings.SinkFault s.events (begin input) p (leads_further s.input tail.bytes piece s.is_out_of_memory s.told s.events s.leads))
+          ∙ wanted_after endings.SinkFault p v d.asks;
+      all_but_one = subst (λ ts. GaveSo e ts given') (sym h.told)
+          (gave_but_one e (s.told ++ r ∷ []) given' (given_but_one start.taken taken taken' given given' s.told r (frame (reply_text r)) (went_on answers.stop) s.gave g.gave));
     }
 
 -- ---- the same by what the code has

@@ -1,5 +1,5 @@
 -- What a job's steps do, one after another, and where it ends.
-use Rattle.std.proofs.Common.{◌≡◌, ◌<◌, inl, inr, ℕ, Bool, true, false, not, ◌-◌, ◌||◌, ◌==◌, List, [], ◌∷◌, ◌++◌, length, Option, Some, None, Result, Ok, Err, OnOk, OnErr, IsSome, IfSome, IsNone, refl, sym, ap, subst, ◌∙◌, append-nil, append_assoc}
+use Rattle.std.proofs.Common.{◌≡◌, inl, inr, ℕ, Bool, true, false, not, ◌-◌, ◌||◌, ◌==◌, List, [], ◌∷◌, ◌++◌, length, Option, Some, None, Result, Ok, Err, OnOk, OnErr, IsSome, IfSome, IsNone, refl, sym, ap, subst, ◌∙◌, append-nil, append_assoc}
 use Rattle.store_types.specs.declared.refusal.Refusal.TheVariants.{NoMemory}
 use Rattle.store_types.specs.declared.order.TheConstants.{MEMORY_KIND}
 use Rattle.wire_commands.specs.Inputs.{front}
@@ -30,15 +30,14 @@ use Rattle.store_history.proofs.Jobs.{job_begun, step_formed, at_job, at_job_nex
 use Rattle.job_steps.specs.Checks.{stops}
 use Rattle.job_steps.specs.Visits.{IsPartRead}
 use Rattle.core_state.specs.History.{History, then_event}
+use Rattle.shared_store.specs.Comes.{with_events}
 use Rattle.lane.specs.declared.acts.Told.{Told}
 use Rattle.lane.specs.Acting.{HasReply, Did, MayTell}
 use Rattle.lane.specs.Doing.{IsNext, answered, Does}
-use Rattle.lane.specs.Ran.{with_events}
-use Rattle.lane.specs.Stepping.{IsActOf, TellsNothing, IsAt, HasStepped, has_reader, IsStopped, rank, IsNearer, StepsOn}
+use Rattle.lane.specs.Stepping.{IsActOf, TellsNothing, IsAt, HasStepped, IsStopped, StepsOn}
 use Rattle.lane.proofs.Acting.{step_replied}
 use Rattle.lane.proofs.Doing.{leads_then, of_both, does_job}
-use Rattle.lane.proofs.Ranks.{want_less}
-use Rattle.lane.proofs.Readers.{goes_stays}
+use Rattle.lane.proofs.Going.{goes_stays}
 use Rattle.lane.proofs.Replies.{replies_to}
 
 false_true : false ≡ true → ⊥
@@ -68,14 +67,14 @@ want_first (commands.Prune group keep dry) j is = subst FirstEnds is refl
 want_first (commands.Verify snapshot) j is = subst FirstEnds is refl
 want_first c j is = cc
 
--- nothing was refused so far, and it has no reader
+-- nothing was refused so far
 abbrev IsFirst : Option Asking → Type 0
 IsFirst None = Unit {0}
-IsFirst (Some j) = (is_stopping j ≡ false) × (has_reader (asking j) ≡ false)
+IsFirst (Some j) = is_stopping j ≡ false
 
-is_first : (c : Command) (j : Asking) → job_of c ≡ Some j → (is_stopping j ≡ false) × (has_reader (asking j) ≡ false)
-is_first (commands.Prune group keep dry) j is = subst IsFirst is (refl, refl)
-is_first (commands.Verify snapshot) j is = subst IsFirst is (refl, refl)
+is_first : (c : Command) (j : Asking) → job_of c ≡ Some j → is_stopping j ≡ false
+is_first (commands.Prune group keep dry) j is = subst IsFirst is refl
+is_first (commands.Verify snapshot) j is = subst IsFirst is refl
 is_first c j is = cc
 
 -- ---- from where its step is next
@@ -221,7 +220,6 @@ pub record IsDropped (job : Job) (r : Reply) : Type 0 where
   pub same : take_more job (replies.Refused NoMemory) ≡ asking (closing (replies.Refused NoMemory))
   pub on : IsStopped job → ⊥
   pub part : r ≡ replies.Refused NoMemory → ⊥
-  pub nearer : rank (asking (closing (replies.Refused NoMemory))) < rank job
   pub wants : IsActOf job acts.Short
 
 part_no_refusal : (total : ℕ) (bytes : List ℕ) → replies.Part total bytes ≡ replies.Refused NoMemory → ⊥
@@ -235,7 +233,6 @@ dropped (asking (reading v row bytes)) (replies.Part total more) h = let d = par
   same = refl;
   on = λ stops. false_true stops;
   part = part_no_refusal total more;
-  nearer = want_less v row bytes;
   wants = inr (refl, refl);
 }
 dropped job r h = absurd h
@@ -250,11 +247,6 @@ pub dropped_is : (job kept new : Job) (told want : Told) → IsPartRead (next jo
     → new ≡ take_more (take_more job told.reply) want.reply
 dropped_is job kept new told want part same wants is =
     dropped_closes job kept new told want part same wants is ∙ sym (dropped job told.reply part).ends ∙ ap (λ r. take_more (take_more job told.reply) r) (sym wants)
-
-pub dropped_nearer : (job kept new : Job) (told want : Told) → IsPartRead (next job) told.reply → kept ≡ job → want.reply ≡ replies.Refused NoMemory → new ≡ take_more kept want.reply
-    → IsNearer job new
-dropped_nearer job kept new told want part same wants is =
-    subst (λ x. rank x < rank job) (sym (dropped_closes job kept new told want part same wants is)) (dropped job told.reply part).nearer
 
 -- a refusal is taken without memory
 pub taken_short : {E : Type 0} (result : Result (Unit {0}) E) (P Q : Type 0) (step : Option Step) (r : Reply) → OnOk result P → OnErr result (Q × IsPartRead step r)
@@ -352,7 +344,7 @@ pub job_short : (before after : History → Type 0) (k : ℕ) (c : Command) (tol
     → Does before after k (command_next c) told
 job_short before after k c told some d tells =
     let j = some_is (job_of c) some in
-    does_job before after k c j.0 told j.1 (ends_short before after k j.0 told (is_first c j.0 j.1).0 (want_first c j.0 j.1) d tells)
+    does_job before after k c j.0 told j.1 (ends_short before after k j.0 told (is_first c j.0 j.1) (want_first c j.0 j.1) d tells)
 
 -- one that is over
 pub job_told : (before after : History → Type 0) (k : ℕ) (c : Command) (job : Job) (told : Told) → IsSome (job_of c)
@@ -366,7 +358,7 @@ job_told before after k c job told some s none tells =
 pub job_begins : (before : History → Type 0) (k : ℕ) (c : Command) (job : Job) → IfSome (job_of c) (λ j. job ≡ asking j) → (begun : Asking) → job_of c ≡ Some begun
     → HasStepped before before k begun job false
 job_begins before k c job started begun is =
-    subst (λ j. HasStepped before before k begun j false) (sym (subst (λ o. IfSome o (λ j. job ≡ asking j)) is started)) (begins before k begun (is_first c begun is).0)
+    subst (λ j. HasStepped before before k begun j false) (sym (subst (λ o. IfSome o (λ j. job ≡ asking j)) is started)) (begins before k begun (is_first c begun is))
 
 job_is_first : (c : Command) (job : Job) → IsJob c → IfSome (job_of c) (λ j. job ≡ asking j) → (j : Asking) × ((job_of c ≡ Some j) × (job ≡ asking j))
 job_is_first c job is started =
@@ -375,12 +367,6 @@ job_is_first c job is started =
 
 pub job_is_begun : (c : Command) (job : Job) → IsJob c → IfSome (job_of c) (λ j. job ≡ asking j) → IsBegun job
 job_is_begun c job is started = let j = job_is_first c job is started in subst IsBegun (sym j.1.1) (job_begun c j.0 is j.1.0)
-
--- it has no reader
-pub job_reads_none : (c : Command) (job : Job) → IsJob c → IfSome (job_of c) (λ j. job ≡ asking j) → has_reader job ≡ true → ⊥
-job_reads_none c job is started reads =
-    let j = job_is_first c job is started in
-    false_true (sym (is_first c j.0 j.1.0).1 ∙ ap has_reader (sym j.1.1) ∙ reads)
 
 -- ---- its next act
 

@@ -21,14 +21,16 @@ use Rattle.store_history.specs.SoFar.{Leads, grown}
 use Rattle.store_history.proofs.Ending.{next_is, next_end}
 use Rattle.store_history.proofs.Growing.{leads_grown, leads_runs}
 use Rattle.core_state.specs.History.{History}
+use Rattle.shared_store.specs.Comes.{with_events}
 use Rattle.lane.specs.declared.input.Input.{Input}
 use Rattle.lane.specs.declared.ending.Last.{Last}
 use Rattle.lane.specs.Acting.{gave_all}
 use Rattle.lane.specs.Fronts.{next_in, IsLastAhead}
 use Rattle.lane.specs.Progress.{Start, position, HasServed, HasStopped, HasWords}
-use Rattle.lane.specs.Ran.{with_events, Took, ReadsOut}
+use Rattle.lane.specs.Ran.{Took, ReadsOut}
 use Rattle.lane.specs.Taking.{TakesMore, TakesNothing, TakesTooLong, Stays}
 use Rattle.lane.specs.Turns.{HasEnded, between, within_frame}
+use Rattle.lane.proofs.AtOnce.{gave_so, leads_to}
 
 -- ---- bytes
 
@@ -190,6 +192,8 @@ stopped stands start k left left' taken tail size given e words s all took so sa
   so = so;
   says = says;
   read_out = out;
+  comes = leads_to endings.SinkFault s.events (begin s.input) (position s.input tail.bytes s.is_out_of_memory s.told) s.leads;
+  all_but_one = gave_so e s.told given all;
 }
 
 pub at_next : (stands : History → Type 0) (start : Start) (k : ℕ) (left taken : Option (List ℕ)) (tail : Tail) (size given : ℕ)

@@ -1,31 +1,23 @@
 -- What one act of a lane does, and how its reply is given.
 use Rattle.std.specs.Prelude.{ℕ, ◌≡◌, ◌⊎◌, Bool, true, false, List, Option, Some, None, IsTrue}
-use Rattle.disk_trait.specs.declared.disk.Disk.{Ghosts}
-use Rattle.port_traits.specs.declared.clock.Clock as clocks
 use Rattle.port_traits.specs.declared.sink.Sink as sinks
 use Rattle.port_traits.specs.Bytes.{WritesCounted}
 use Rattle.wire_frames.specs.Frames.{frame}
-use Rattle.store_types.specs.declared.refusal.Refusal.TheVariants.{NoMemory, DiskFault, Halted}
+use Rattle.store_types.specs.declared.refusal.Refusal.TheVariants.{NoMemory}
 use Rattle.store_types.specs.declared.order.TheConstants.{PART_KIND, MEMORY_KIND}
 use Rattle.wire_commands.specs.declared.reply.Reply.{Reply}
-use Rattle.wire_commands.specs.declared.command.Command.TheVariants.{OpenReader}
-use Rattle.wire_commands.specs.declared.reply.Reply.TheVariants.{Done, Refused}
+use Rattle.wire_commands.specs.declared.reply.Reply.TheVariants.{Refused}
 use Rattle.wire_commands.specs.ReplyText.{reply_text}
-use Rattle.store_model.specs.Job.{leaves_open}
 use Rattle.store_model.specs.declared.ending.Ending.{Ending}
 use Rattle.store_model.specs.declared.ending.Ending.TheVariants as endings
 use Rattle.store_history.specs.declared.act.Act.{Act}
 use Rattle.store_history.specs.declared.act.Act.TheVariants as acts
 use Rattle.store_history.specs.declared.act.Event.{Event}
 use Rattle.store_history.specs.History.{reply, lane, kind}
-use Rattle.core_state.specs.declared.state.Core.{Core}
-use Rattle.core_state.specs.Closing.{is_closing, is_reader, is_writer}
-use Rattle.core_state.specs.Commands.{IsNoRefusal, is_still, leaves_writer}
 use Rattle.core_state.specs.Replies.{may_answer, may_give}
-use Rattle.core_state.specs.Wanted.{session_at}
-use Rattle.core_state.specs.Reserved.{CanEnd, Reserved}
-use Rattle.core_state.specs.Records.{Reaches}
 use Rattle.core_state.specs.History.{History, then_event}
+use Rattle.turn_lock.specs.State.{SeatState}
+use Rattle.seat_history.specs.Entered.{HasGrown}
 use Rattle.lane.specs.declared.acts.Told.{Told}
 
 -- an act that has a reply, whatever comes: neither a collector's nor a lane's end
@@ -61,42 +53,6 @@ pub record Did (before after : History → Type 0) (k : ℕ) (act : Act) (told :
 pub record MayTell (act : Act) (told : Told) : Type 0 where
   pub reply_is : IsTrue (may_answer act told.reply) ⊎ (IsTrue (may_give act told.reply) ⊎ IsRefused told.reply)
   pub want : IsWant act told → told.reply ≡ Refused NoMemory
-
--- what the lane's reserve of entries is after an answer, which may be the last
-pub record LeavesReserve {D E C : Type 0} (old new : Core D E C) (k : ℕ) (is_last : Bool) : Type 0 where
-  pub left : Reserved old k → CanEnd new k
-  pub kept : is_last ≡ false → Reserved old k → Reserved new k
-
--- ---- the session of a job
-
--- the lane has a reader, and the disk has not failed
-abbrev pub IsReading : {D E C : Type 0} → Core D E C → ℕ → Type 0
-IsReading core k = (core.fault ≡ None) × (is_reader (session_at core.parts k) ≡ true)
-
--- the disk failed, in this act or before
-abbrev pub tells_fault : Reply → Bool
-tells_fault (Refused DiskFault) = true
-tells_fault (Refused (Halted place)) = true
-tells_fault r = false
-
--- What an act leaves of the lane's reader: OPEN_READER that is done makes it, FILES, a VERIFY's reads and want of memory keep it, and
--- CLOSE_READER ends it, or meets a fault of the disk. Its entry is in the lane's reserve, and behind it the lane's end has its own.
-pub record KeepsReader {D E C : Type 0} (old new : Core D E C) (k : ℕ) (act : Act) (told : Told) : Type 0 where
-  pub opens : (snapshot : List ℕ) → act ≡ acts.Plain (OpenReader snapshot) → told.reply ≡ Done → IsReading new k
-  pub still : is_still act ≡ true → tells_fault told.reply ≡ false → IsReading old k → IsReading new k
-  pub short : told.reply ≡ Refused NoMemory → IsReading old k → IsReading new k
-  pub closing : is_closing old k act ≡ true → (leaves_open told.reply ≡ false) × (CanEnd old k → CanEnd new k)
-
--- the lane has a writer, and the disk has not failed
-abbrev pub IsWriting : {D E C : Type 0} → Core D E C → ℕ → Type 0
-IsWriting core k = (core.fault ≡ None) × (is_writer (session_at core.parts k) ≡ true)
-
--- What an act leaves of the lane's writer: the commands of one that are done make it or keep it, and so do a refusal but by a fault of the disk, and
--- the reads of the remote.
-pub record KeepsWriter {D E C : Type 0} (old new : Core D E C) (k : ℕ) (act : Act) (told : Told) : Type 0 where
-  pub writes : leaves_writer act ≡ true → IsNoRefusal told.reply → IsWriting new k
-  pub refused : IsRefused told.reply → tells_fault told.reply ≡ false → IsWriting old k → IsWriting new k
-  pub still : is_still act ≡ true → tells_fault told.reply ≡ false → IsWriting old k → IsWriting new k
 
 -- ---- its reply
 
@@ -140,12 +96,15 @@ pub record AnswersShort (before after : History → Type 0) (k : ℕ) (taken tak
   pub gives : Gives told taken taken' given given' stop
   pub ending_is : ending ≡ short_ending stop
 
--- ---- of cores, from each first one and its history
+-- ---- of seats, by what they have of their own since another
 
-abbrev pub CoreDid : {D E C : Type 0} → Ghosts D → Ghosts E → clocks.Ghosts C → Core D E C → Core D E C → ℕ → Act → Told → Type 0
-CoreDid {D} {E} {C} d e clock old new k act told =
-    (first : Core D E C) (began : History) → Did (Reaches d e clock.readings first began old) (Reaches d e clock.readings first began new) k act told
+-- the seat's own events since this one are the history's
+abbrev pub Has : SeatState Event → SeatState Event → History → Type 0
+Has start now h = HasGrown start now h.events
 
-abbrev pub CoreAnswersShort : {D E C K : Type 0} → Ghosts D → Ghosts E → clocks.Ghosts C → sinks.Ghosts K → Core D E C → Core D E C → ℕ → K → K → ℕ → ℕ → Ending → Type 0
-CoreAnswersShort {D} {E} {C} d e clock sink old new k into later given given' ending =
-    (first : Core D E C) (began : History) → AnswersShort (Reaches d e clock.readings first began old) (Reaches d e clock.readings first began new) k (sink.taken into) (sink.taken later) given given' ending
+abbrev pub SeatDid : SeatState Event → SeatState Event → ℕ → Act → Told → Type 0
+SeatDid old new k act told = (start : SeatState Event) → Did (Has start old) (Has start new) k act told
+
+abbrev pub SeatAnswersShort : {K : Type 0} → sinks.Ghosts K → SeatState Event → SeatState Event → ℕ → K → K → ℕ → ℕ → Ending → Type 0
+SeatAnswersShort sink old new k into later given given' ending =
+    (start : SeatState Event) → AnswersShort (Has start old) (Has start new) k (sink.taken into) (sink.taken later) given given' ending

@@ -1,17 +1,16 @@
 -- What a lane's end does.
 use Rattle.std.specs.Prelude.{ℕ, ◌≡◌, List, [], ◌∷◌, ◌++◌, Option}
-use Rattle.disk_trait.specs.declared.disk.Disk.{Ghosts}
-use Rattle.port_traits.specs.declared.clock.Clock as clocks
 use Rattle.port_traits.specs.declared.sink.Sink as sinks
 use Rattle.store_model.specs.declared.ending.Ending.{Ending}
 use Rattle.store_history.specs.declared.act.Act.TheVariants as acts
 use Rattle.store_history.specs.declared.act.Event.{Event}
 use Rattle.store_history.specs.History.{kind, lane}
 use Rattle.core_state.specs.History.{History}
-use Rattle.core_state.specs.Records.{Reaches}
-use Rattle.core_state.specs.declared.state.Core.{Core}
+use Rattle.shared_store.specs.Comes.{with_events}
 use Rattle.lane.specs.declared.ending.Last.{Last}
-use Rattle.lane.specs.Ran.{with_events, RanAlone}
+use Rattle.turn_lock.specs.State.{SeatState}
+use Rattle.lane.specs.Acting.{Has}
+use Rattle.lane.specs.Ran.{RanAlone}
 use Rattle.lane.specs.Progress.{Start, HasStopped}
 
 pub record IsEndOf (k : ℕ) (v : Event) (n : ℕ) : Type 0 where
@@ -34,12 +33,12 @@ Closes before after k taken taken' given given' last ending =
     (start : Start) (left : Option (List ℕ)) (size : ℕ) → HasStopped before start k left taken size given last.ending last.words
     → RanAlone after start.history k start.left left start.taken taken' (record { taken = size; given = given'; ending = ending })
 
--- ---- of cores, from each first one and its history
+-- ---- of seats, from whatever they had before
 
-abbrev pub CoreEnds : {D E C : Type 0} → Ghosts D → Ghosts E → clocks.Ghosts C → Core D E C → Core D E C → ℕ → Type 0
-CoreEnds {D} {E} {C} d e clock old new k =
-    (first : Core D E C) (began : History) → EndsLane (Reaches d e clock.readings first began old) (Reaches d e clock.readings first began new) k
+abbrev pub SeatEnds : SeatState Event → SeatState Event → ℕ → Type 0
+SeatEnds old new k =
+    (start : SeatState Event) → EndsLane (Has start old) (Has start new) k
 
-abbrev pub CoreCloses : {D E C K : Type 0} → Ghosts D → Ghosts E → clocks.Ghosts C → sinks.Ghosts K → Core D E C → Core D E C → ℕ → K → K → ℕ → ℕ → Last → Ending → Type 0
-CoreCloses {D} {E} {C} d e clock sink old new k into later given given' last ending =
-    (first : Core D E C) (began : History) → Closes (Reaches d e clock.readings first began old) (Reaches d e clock.readings first began new) k (sink.taken into) (sink.taken later) given given' last ending
+abbrev pub SeatCloses : {K : Type 0} → sinks.Ghosts K → SeatState Event → SeatState Event → ℕ → K → K → ℕ → ℕ → Last → Ending → Type 0
+SeatCloses sink old new k into later given given' last ending =
+    (start : SeatState Event) → Closes (Has start old) (Has start new) k (sink.taken into) (sink.taken later) given given' last ending

@@ -1,7 +1,5 @@
 -- What a command of a lane does, or the whole job of one.
 use Rattle.std.specs.Prelude.{ℕ, ◌≡◌, Bool, true, false, List, [], ◌∷◌, ◌++◌, None}
-use Rattle.disk_trait.specs.declared.disk.Disk.{Ghosts}
-use Rattle.port_traits.specs.declared.clock.Clock as clocks
 use Rattle.wire_commands.specs.declared.command.Command.{Command}
 use Rattle.wire_commands.specs.declared.reply.Reply.{Reply}
 use Rattle.store_model.specs.Lanes.{Next, command_next, job_step, sync}
@@ -10,10 +8,10 @@ use Rattle.store_history.specs.LaneRun.{Position, next_at, is_stopping, may_want
 use Rattle.store_history.specs.Seats.{AreOf}
 use Rattle.store_history.specs.SoFar.{Leads}
 use Rattle.core_state.specs.History.{History}
-use Rattle.core_state.specs.Records.{Reaches}
-use Rattle.core_state.specs.declared.state.Core.{Core}
+use Rattle.shared_store.specs.Comes.{with_events}
 use Rattle.lane.specs.declared.acts.Told.{Told}
-use Rattle.lane.specs.Ran.{with_events}
+use Rattle.turn_lock.specs.State.{SeatState}
+use Rattle.lane.specs.Acting.{Has}
 
 -- a step of a job, or a SYNC that has not begun
 abbrev pub IsStep : Next → Type 0
@@ -48,7 +46,7 @@ pub record Does (before after : History → Type 0) (k : ℕ) (n : List ℕ → 
   pub lanes : AreOf k events
   pub leads : (p : Position) (left : List ℕ) → IsNext (n left) p → Leads p events (answered p left told.reply is_out_of_memory told.last)
 
--- so a command did between two cores, from each first one and its history
-abbrev pub CoreDoes : {D E C : Type 0} → Ghosts D → Ghosts E → clocks.Ghosts C → Core D E C → Core D E C → ℕ → Command → Told → Type 0
-CoreDoes {D} {E} {C} d e clock old new k command told =
-    (first : Core D E C) (began : History) → Does (Reaches d e clock.readings first began old) (Reaches d e clock.readings first began new) k (command_next command) told
+-- so a command did between two states of a seat, whatever it had before
+abbrev pub SeatDoes : SeatState Event → SeatState Event → ℕ → Command → Told → Type 0
+SeatDoes old new k command told =
+    (start : SeatState Event) → Does (Has start old) (Has start new) k (command_next command) told

@@ -3,6 +3,7 @@ pub mod Taking
 pub mod Causes
 pub mod Entries
 pub mod Acting
+pub mod AtOnce
 pub mod Ran
 pub mod Doing
 pub mod Stepping

@@ -10,8 +10,10 @@ use Rattle.store_history.specs.LaneRun.{Position, begin, text, next_at, last_wor
 use Rattle.store_history.specs.Seats.{AreOf}
 use Rattle.store_history.specs.SoFar.{Leads}
 use Rattle.core_state.specs.History.{History}
+use Rattle.shared_store.specs.Comes.{with_events}
 use Rattle.lane.specs.Acting.{gave_all}
-use Rattle.lane.specs.Ran.{Took, with_events, ReadsOut}
+use Rattle.lane.specs.AtOnce.{GaveSo, position_by}
+use Rattle.lane.specs.Ran.{Took, ReadsOut}
 
 -- what a lane began with: the history without its events, what its source had left, and what its sink had taken
 pub record Start : Type 0 where
@@ -60,3 +62,5 @@ pub record HasStopped (stands : History → Type 0) (start : Start) (k : ℕ) (l
   pub so : EndsSo e last (next_at last)
   pub says : HasWords e last words
   pub read_out : ReadsOut e input events [] left
+  pub comes : position_by endings.SinkFault (begin input) events ≡ last
+  pub all_but_one : GaveSo e last.told given

@@ -1,7 +1,5 @@
--- What a lane that was served alone did.
-use Rattle.std.specs.Prelude.{ℕ, ◌≡◌, List, [], ◌∷◌, ◌++◌, length, Option, IfSome}
-use Rattle.disk_trait.specs.declared.disk.Disk.{Ghosts}
-use Rattle.port_traits.specs.declared.clock.Clock as clocks
+-- What a lane did.
+use Rattle.std.specs.Prelude.{ℕ, ◌≡◌, List, [], ◌++◌, length, Option, IfSome}
 use Rattle.port_traits.specs.declared.source.Source as sources
 use Rattle.port_traits.specs.declared.sink.Sink as sinks
 use Rattle.port_traits.specs.Bytes.{TakesFrom, WritesCounted}
@@ -9,30 +7,22 @@ use Rattle.wire_frames.specs.Frames.{short, cut}
 use Rattle.wire_commands.specs.declared.reply.Reply.{Reply}
 use Rattle.store_model.specs.declared.ending.Ending.{Ending}
 use Rattle.store_model.specs.declared.ending.Ending.TheVariants as endings
-use Rattle.store_history.specs.declared.act.Act.TheVariants as acts
 use Rattle.store_history.specs.declared.act.Event.{Event}
 use Rattle.store_history.specs.LaneRun.{Position, begin, text, LaneRan}
 use Rattle.store_history.specs.Seats.{AreOf}
 use Rattle.store_history.specs.SoFar.{Leads}
 use Rattle.core_state.specs.History.{History}
-use Rattle.core_state.specs.Records.{Reaches, Records}
-use Rattle.core_state.specs.declared.state.Core.{Core}
+use Rattle.turn_lock.specs.State.{SeatState}
+use Rattle.shared_store.specs.Comes.{with_events}
 use Rattle.lane.specs.declared.port.LaneReport.{LaneReport}
 use Rattle.lane.specs.declared.port.Port.{Port}
-use Rattle.lane.specs.Acting.{gave_all}
-
-abbrev pub with_events : History → List Event → History
-with_events h events = record h { events = events }
+use Rattle.lane.specs.Acting.{Has, gave_all}
+use Rattle.lane.specs.AtOnce.{AreEnds, EndsAtOnce}
 
 -- The source gave the input. What it has left after a fault is open.
 abbrev pub Took : Ending → Option (List ℕ) → Option (List ℕ) → List ℕ → Type 0
 Took endings.SourceFault left left' input = IfSome left (λ xs. (rest : List ℕ) × (xs ≡ input ++ rest))
 Took e left left' input = TakesFrom left left' input
-
--- each is a lane's end
-abbrev pub AreEnds : List Event → Type 0
-AreEnds [] = Unit {0}
-AreEnds (v ∷ vs) = (v.act ≡ acts.End) × AreEnds vs
 
 -- The events before the lane's end led to where the input was read. Where no more than a part of a frame stands there, the
 -- source has nothing left.
@@ -68,10 +58,9 @@ pub record RanAlone (stands : History → Type 0) (h : History) (k : ℕ) (left 
   pub took : Took report.ending left left' input
   pub gave : WritesCounted taken taken' 0 report.given (text told) (gave_all report.ending)
   pub read_out : EndsRead report.ending input events left'
+  pub at_once : EndsAtOnce report.ending input events report.given
 
--- so it ran between two cores, from a history of the first that has no events
-abbrev pub CoreRan : {D E C S K : Type 0} → Ghosts D → Ghosts E → clocks.Ghosts C → sources.Ghosts S → sinks.Ghosts K → Core D E C → Core D E C → ℕ
-    → Port S K → Port S K → LaneReport → Type 0
-CoreRan d e clock source sink old new k port later report =
-    (h : History) → Records clock.readings old h → h.events ≡ []
-    → RanAlone (Reaches d e clock.readings old h new) h k (source.left port.source) (source.left later.source) (sink.taken port.sink) (sink.taken later.sink) report
+-- so it ran between two states of its seat, by what the seat has of its own since the first
+abbrev pub SeatRan : {S K : Type 0} → sources.Ghosts S → sinks.Ghosts K → SeatState Event → SeatState Event → ℕ → Port S K → Port S K → LaneReport → Type 0
+SeatRan source sink old new k port later report =
+    (h : History) → h.events ≡ [] → RanAlone (Has old new) h k (source.left port.source) (source.left later.source) (sink.taken port.sink) (sink.taken later.sink) report

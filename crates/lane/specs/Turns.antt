@@ -1,7 +1,5 @@
 -- What a turn of a lane's loop does.
 use Rattle.std.specs.Prelude.{ℕ, ◌≡◌, ◌+◌, ◌<◌, List, Option, Some, None}
-use Rattle.disk_trait.specs.declared.disk.Disk.{Ghosts}
-use Rattle.port_traits.specs.declared.clock.Clock as clocks
 use Rattle.port_traits.specs.declared.source.Source as sources
 use Rattle.port_traits.specs.declared.sink.Sink as sinks
 use Rattle.store_types.specs.declared.refusal.Refusal.{Refusal}
@@ -9,14 +7,14 @@ use Rattle.store_types.specs.declared.refusal.Refusal.TheVariants.{BadFrame}
 use Rattle.wire_commands.specs.declared.reply.Reply.TheVariants.{Refused}
 use Rattle.store_model.specs.declared.ending.Ending.{Ending}
 use Rattle.store_model.specs.declared.ending.Ending.TheVariants as endings
-use Rattle.core_state.specs.declared.state.Core.{Core}
-use Rattle.core_state.specs.Reserved.{CanEnd, Reserved}
 use Rattle.core_state.specs.History.{History}
-use Rattle.core_state.specs.Records.{Reaches}
+use Rattle.turn_lock.specs.State.{SeatState}
+use Rattle.store_history.specs.declared.act.Event.{Event}
 use Rattle.lane.specs.declared.ending.Last.{Last}
 use Rattle.lane.specs.declared.input.Input.{Input}
 use Rattle.lane.specs.declared.port.Port.{Port}
 use Rattle.lane.specs.declared.run.Progress.{Progress}
+use Rattle.lane.specs.Acting.{Has}
 use Rattle.lane.specs.Causes.{HasCauses}
 use Rattle.lane.specs.Progress.{Start, HasServed, HasStopped}
 
@@ -34,23 +32,17 @@ abbrev pub GoesOn : (History → Type 0) → (History → Type 0) → ℕ → Op
 GoesOn before after k left left' taken taken' old new given given' outcome =
     (start : Start) → HasServed before start k left taken old.cutter old.taken given → HasDone after start k left' taken' new given' outcome
 
--- the lane has what it must have in reserve while it goes on, and then what its end must have
-abbrev pub LeavesHeld : {D E C : Type 0} → Core D E C → ℕ → Option Last → Type 0
-LeavesHeld core k None = Reserved core k
-LeavesHeld core k (Some last) = CanEnd core k
-
 -- The end of an input: between two frames it is clean, else the last frame is cut.
 pub data HasEnded (input : Input) (last : Last) : Type 0 where
   between : input.front ≡ input.taken → last ≡ record { ending = endings.Clean; words = None } → HasEnded input last
   within_frame : (input.front ≡ input.taken → ⊥) → last ≡ record { ending = endings.Broken input.front; words = Some (Refused (BadFrame input.front)) } → HasEnded input last
 
--- ---- of cores and ports
+-- ---- of seats and ports
 
--- from each first core and its history
-abbrev pub CoreGoesOn : {D E C S K : Type 0} → Ghosts D → Ghosts E → clocks.Ghosts C → sources.Ghosts S → sinks.Ghosts K → Core D E C → Core D E C → ℕ
-    → Port S K → Port S K → Progress → Progress → Option Last → Type 0
-CoreGoesOn {D} {E} {C} d e clock source sink old new k port later did further outcome =
-    (first : Core D E C) (began : History) → GoesOn (Reaches d e clock.readings first began old) (Reaches d e clock.readings first began new) k
+-- whatever the seat had before
+abbrev pub SeatGoesOn : {S K : Type 0} → sources.Ghosts S → sinks.Ghosts K → SeatState Event → SeatState Event → ℕ → Port S K → Port S K → Progress → Progress → Option Last → Type 0
+SeatGoesOn source sink old new k port later did further outcome =
+    (start : SeatState Event) → GoesOn (Has start old) (Has start new) k
     (source.left port.source) (source.left later.source) (sink.taken port.sink) (sink.taken later.sink)
     did.input further.input did.given further.given outcome
 
@@ -58,10 +50,6 @@ CoreGoesOn {D} {E} {C} d e clock source sink old new k port later did further ou
 abbrev pub TurnHasCauses : {S K : Type 0} → sources.Ghosts S → sinks.Ghosts K → Port S K → Port S K → Progress → Option Last → Type 0
 TurnHasCauses source sink port later did outcome =
     HasCauses (source.faults port.source) (source.faults later.source) (sink.faults port.sink) (sink.faults later.sink) (did.input).taken (ending_of outcome)
-
--- they came to an end by want of memory
-abbrev pub IsEndedByMemory : Option Last → Type 0
-IsEndedByMemory outcome = ending_of outcome ≡ Some endings.NoMemory
 
 -- more of the input was taken, or its front has moved
 abbrev pub IsFurther : Input → Input → Type 0

@@ -1,19 +1,18 @@
 //! What a lane asks of the core, and what it tells its sink.
 
-ghost use Rattle.std.specs.Prelude.{◌≡◌, ◌<◌};
+ghost use Rattle.std.specs.Prelude.{◌<◌};
 ghost use Rattle.wire_commands.specs.HasText.{ReplyHasText};
+ghost use Rattle.shared_store.specs.Comes.{CanAct};
 ghost use Rattle.store_history.specs.Acts.{IsWellFormed};
-ghost use Rattle.core_state.specs.Remotes.{RemoteServes};
-ghost use Rattle.core_state.specs.Reserved.{HasRoom};
-ghost use Rattle.lane.specs.Acting.{HasReply, IsWant, CoreDid, GivesTo, KeepsReader, KeepsWriter, LeavesReserve, MayTell};
+ghost use Rattle.lane.specs.Acting.{SeatDid, GivesTo, HasReply, MayTell};
 ghost use Rattle.lane.specs.Causes.{SinkHasCauses};
-ghost use Rattle.lane.specs.Entries.{HasEntered};
 
 use core_state::{Act, Answer, Core};
 use disk_trait::Disk;
 use port_traits::{Clock, Sink};
-use shared_store::apply;
+use shared_store::{Origin, Seat, Shared};
 use std::alloc::Global;
+use std::sync::Wait;
 use store_model::Ending;
 use wire_commands::Reply;
 
@@ -26,26 +25,24 @@ pub struct Told {
 }
 
 /// Does an act that has a reply in any case: neither a collector's nor a lane's end.
-pub fn ask<D: Disk, E: Disk, C: Clock>(
-    core: &mut Core<D, E, C>,
+pub fn ask<R: Wait, D: Disk, E: Disk, C: Clock, N: Origin<Core<D, E, C>>>(
+    rt: &R,
     alloc: Global,
+    shared: &Shared<D, E, C, N>,
+    seat: &mut Seat<D, E, C, N>,
     lane: u32,
     act: Act,
 ) -> Told
     requires lane { lane < 64 }
-    requires room { HasRoom core.old lane }
+    requires can { CanAct shared.now.turn.id seat.old }
     requires formed { IsWellFormed act }
     requires replied { HasReply act }
-    ensures did { CoreDid D.Disk E.Disk C.Clock core.old core.new lane act result }
+    ensures did { SeatDid seat.old seat.new lane act result }
     ensures tells { MayTell act result }
     ensures text { ReplyHasText result.reply }
-    ensures room { LeavesReserve core.old core.new lane result.last }
-    ensures reader { KeepsReader core.old core.new lane act result }
-    ensures writer { KeepsWriter core.old core.new lane act result }
-    ensures remote { RemoteServes E.Disk core.old core.new }
-    ensures entered { HasEntered D.Disk core.old core.new lane (IsWant act result) }
+    ensures can { CanAct shared.now.turn.id seat.new }
 {
-    let Answer { reply, last, .. } = apply(core, alloc, lane, act);
+    let Answer { reply, last, .. } = shared.act(rt, alloc, seat, lane, act);
     let Some(reply) = reply else {
         unreachable!();
     };

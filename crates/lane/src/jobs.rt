@@ -2,16 +2,12 @@
 
 ghost use Rattle.std.specs.Prelude.{◌≡◌, ◌<◌, Some, true};
 ghost use Rattle.wire_commands.specs.HasText.{ReplyHasText};
+ghost use Rattle.shared_store.specs.Comes.{CanAct};
 ghost use Rattle.store_history.specs.Acts.{act_of_step};
 ghost use Rattle.store_history.specs.Begun.{IsBegun};
 ghost use Rattle.store_model.specs.Jobs.{IsJob};
-ghost use Rattle.core_state.specs.Remotes.{RemoteServes};
-ghost use Rattle.core_state.specs.Reserved.{Reserved};
-ghost use Rattle.lane.specs.Acting.{LeavesReserve};
-ghost use Rattle.lane.specs.Collecting.{IsSet};
-ghost use Rattle.lane.specs.Doing.{CoreDoes};
-ghost use Rattle.lane.specs.Entries.{HasEntered};
-ghost use Rattle.lane.specs.Stepping.{CoreHasStepped, IsNearer, IsNextAct, MayGoOn};
+ghost use Rattle.lane.specs.Doing.{SeatDoes};
+ghost use Rattle.lane.specs.Stepping.{SeatHasStepped, IsNextAct, MayGoOn};
 
 use crate::acts::{Told, ask};
 use crate::commands::act_of;
@@ -19,7 +15,9 @@ use core_state::{Act, Core};
 use disk_trait::Disk;
 use job_steps::Job;
 use port_traits::Clock;
+use shared_store::{Origin, Seat, Shared};
 use std::alloc::Global;
+use std::sync::Wait;
 use std::thread::Threads;
 use store_model::Step;
 use wire_commands::Command;
@@ -51,10 +49,11 @@ fn next_act(alloc: Global, job: &Job) -> Option<Act>
 ///
 /// `is_last` becomes true where NoMemory was entered at a place of the lane's reserve, there being no memory for another. The lane
 /// then ends after the job's report.
-fn step<R: Threads + Sync, D: Disk, E: Disk, C: Clock>(
-    core: &mut Core<D, E, C>,
+fn step<R: Threads + Wait + Sync, D: Disk, E: Disk, C: Clock, N: Origin<Core<D, E, C>>>(
     rt: &R,
     alloc: Global,
+    shared: &Shared<D, E, C, N>,
+    seat: &mut Seat<D, E, C, N>,
     lane: u32,
     job: &mut Job,
     is_last: &mut bool,
@@ -62,21 +61,19 @@ fn step<R: Threads + Sync, D: Disk, E: Disk, C: Clock>(
 )
     requires lane { lane < 64 }
     requires next { IsNextAct job.old (Some act) }
-    requires on { MayGoOn core.old lane job.old is_last.old }
-    ensures stepped { CoreHasStepped D.Disk E.Disk C.Clock core.old core.new lane
+    requires on { MayGoOn job.old is_last.old }
+    requires can { CanAct shared.now.turn.id seat.old }
+    ensures stepped { SeatHasStepped seat.old seat.new lane
         job.old job.new is_last.old is_last.new }
-    ensures goes { MayGoOn core.new lane job.new is_last.new }
-    // the next step is nearer to the end
-    ensures nearer { IsNearer job.old job.new }
-    ensures remote { RemoteServes E.Disk core.old core.new }
-    ensures entered { HasEntered D.Disk core.old core.new lane (IsSet is_last.old is_last.new) }
+    ensures goes { MayGoOn job.new is_last.new }
+    ensures can { CanAct shared.now.turn.id seat.new }
 {
-    let told = ask(core, alloc, lane, act);
+    let told = ask(rt, alloc, shared, seat, lane, act);
     *is_last = told.last | *is_last;
     let Err(_) = job.take(rt, alloc, told.reply) else {
         return;
     };
-    let short = ask(core, alloc, lane, Act::Short);
+    let short = ask(rt, alloc, shared, seat, lane, Act::Short);
     *is_last = short.last | *is_last;
     // a refusal is taken without memory
     let _ = job.take(rt, alloc, short.reply);
@@ -85,31 +82,33 @@ fn step<R: Threads + Sync, D: Disk, E: Disk, C: Clock>(
 /// Does the job of a PRUNE or a VERIFY, from its command to its report. Its steps are not told. Want of memory for one of them is
 /// entered, and the job takes it for that step's reply. Where the lane's reserve held it, the job's session is closed still,
 /// and the lane ends after its report.
-pub fn do_job<R: Threads + Sync, D: Disk, E: Disk, C: Clock>(
-    core: &mut Core<D, E, C>,
+pub fn do_job<R: Threads + Wait + Sync, D: Disk, E: Disk, C: Clock, N: Origin<Core<D, E, C>>>(
     rt: &R,
     alloc: Global,
+    shared: &Shared<D, E, C, N>,
+    seat: &mut Seat<D, E, C, N>,
     lane: u32,
     command: &Command,
 ) -> Told
     requires lane { lane < 64 }
-    requires room { Reserved core.old lane }
+    requires can { CanAct shared.now.turn.id seat.old }
     requires job { IsJob command.now }
-    ensures does { CoreDoes D.Disk E.Disk C.Clock core.old core.new lane command.now result }
+    ensures does { SeatDoes seat.old seat.new lane command.now result }
     ensures text { ReplyHasText result.reply }
-    ensures room { LeavesReserve core.old core.new lane result.last }
-    ensures remote { RemoteServes E.Disk core.old core.new }
-    ensures entered { HasEntered D.Disk core.old core.new lane (result.last ≡ true) }
+    ensures can { CanAct shared.now.turn.id seat.new }
 {
     let Ok(mut job) = Job::start(alloc, command) else {
-        return ask(core, alloc, lane, Act::Short);
+        return ask(rt, alloc, shared, seat, lane, Act::Short);
     };
     let mut last = false;
-    while let Some(act) = next_act(alloc, &job) {
-        step(core, rt, alloc, lane, &mut job, &mut last, act);
+    for _ in rt.forever() {
+        let Some(act) = next_act(alloc, &job) else {
+            return Told {
+                reply: job.report(),
+                last,
+            };
+        };
+        step(rt, alloc, shared, seat, lane, &mut job, &mut last, act);
     }
-    Told {
-        reply: job.report(),
-        last,
-    }
+    unreachable!()
 }

@@ -12,5 +12,5 @@ mod pulling;
 mod run;
 
 pub use port::{LaneReport, Port};
-pub use run::run_alone;
+pub use run::{run_lane, run_with};
 pub use store_model::Ending;

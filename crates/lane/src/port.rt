@@ -16,3 +16,14 @@ pub struct LaneReport {
     pub given: u64,
     pub ending: Ending,
 }
+
+impl Default for LaneReport {
+    /// Of a lane that took and gave nothing.
+    fn default() -> LaneReport {
+        LaneReport {
+            taken: 0,
+            given: 0,
+            ending: Ending::Clean,
+        }
+    }
+}

@@ -2,14 +2,10 @@
 
 ghost use Rattle.std.specs.Prelude.{◌≡◌, ◌<◌, Some, true};
 ghost use Rattle.wire_commands.specs.HasText.{ReplyHasText};
+ghost use Rattle.shared_store.specs.Comes.{CanAct};
 ghost use Rattle.wire_commands.specs.declared.command.Command.TheVariants.{Sync};
-ghost use Rattle.core_state.specs.Remotes.{RemoteServes};
-ghost use Rattle.core_state.specs.Reserved.{Reserved};
-ghost use Rattle.lane.specs.Acting.{LeavesReserve};
-ghost use Rattle.lane.specs.Collecting.{IsSet};
-ghost use Rattle.lane.specs.Doing.{CoreDoes};
-ghost use Rattle.lane.specs.Entries.{HasEntered};
-ghost use Rattle.lane.specs.Pulling.{CorePullsOn, IsNearer, IsNextAct, MayGoOn};
+ghost use Rattle.lane.specs.Doing.{SeatDoes};
+ghost use Rattle.lane.specs.Pulling.{SeatPullsOn, IsNextAct, MayGoOn};
 ghost use Rattle.pull_steps.specs.Asked.{act_of_ask};
 
 use crate::acts::{Told, ask};
@@ -18,7 +14,9 @@ use core_state::{Act, Core};
 use disk_trait::Disk;
 use port_traits::Clock;
 use pull_steps::{Ask, Pull};
+use shared_store::{Origin, Seat, Shared};
 use std::alloc::Global;
+use std::sync::Wait;
 use store_types::Bytes;
 use wire_commands::Command;
 
@@ -57,9 +55,11 @@ fn next_act(alloc: Global, job: &Pull) -> Option<Act>
 ///
 /// `is_last` becomes true where NoMemory was entered at a place of the lane's reserve, there being no memory for another. The lane
 /// then ends after the job's report.
-fn step<D: Disk, E: Disk, C: Clock>(
-    core: &mut Core<D, E, C>,
+fn step<R: Wait, D: Disk, E: Disk, C: Clock, N: Origin<Core<D, E, C>>>(
+    rt: &R,
     alloc: Global,
+    shared: &Shared<D, E, C, N>,
+    seat: &mut Seat<D, E, C, N>,
     lane: u32,
     job: &mut Pull,
     is_last: &mut bool,
@@ -67,21 +67,19 @@ fn step<D: Disk, E: Disk, C: Clock>(
 )
     requires lane { lane < 64 }
     requires next { IsNextAct job.old (Some act) }
-    requires on { MayGoOn core.old lane job.old is_last.old }
-    ensures pulls { CorePullsOn D.Disk E.Disk C.Clock core.old core.new lane
+    requires on { MayGoOn job.old is_last.old }
+    requires can { CanAct shared.now.turn.id seat.old }
+    ensures pulls { SeatPullsOn seat.old seat.new lane
         job.old job.new is_last.old is_last.new }
-    ensures goes { MayGoOn core.new lane job.new is_last.new }
-    // what is next is nearer to the end
-    ensures nearer { IsNearer job.old job.new }
-    ensures remote { RemoteServes E.Disk core.old core.new }
-    ensures entered { HasEntered D.Disk core.old core.new lane (IsSet is_last.old is_last.new) }
+    ensures goes { MayGoOn job.new is_last.new }
+    ensures can { CanAct shared.now.turn.id seat.new }
 {
-    let told = ask(core, alloc, lane, act);
+    let told = ask(rt, alloc, shared, seat, lane, act);
     *is_last = told.last | *is_last;
     let Err(_) = job.take(alloc, told.reply) else {
         return;
     };
-    let short = ask(core, alloc, lane, Act::Short);
+    let short = ask(rt, alloc, shared, seat, lane, Act::Short);
     *is_last = short.last | *is_last;
     // a refusal is taken without memory
     let _ = job.take(alloc, short.reply);
@@ -90,29 +88,32 @@ fn step<D: Disk, E: Disk, C: Clock>(
 /// Does a SYNC of a group, from its command to its report. Its steps are not told. Want of memory for one of them is entered,
 /// and the SYNC takes it for that step's reply. Where the lane's reserve held it, its writer is ended still, and the lane ends
 /// after its report.
-pub fn pull<D: Disk, E: Disk, C: Clock>(
-    core: &mut Core<D, E, C>,
+pub fn pull<R: Wait, D: Disk, E: Disk, C: Clock, N: Origin<Core<D, E, C>>>(
+    rt: &R,
     alloc: Global,
+    shared: &Shared<D, E, C, N>,
+    seat: &mut Seat<D, E, C, N>,
     lane: u32,
     group: Bytes,
 ) -> Told
     requires lane { lane < 64 }
-    requires room { Reserved core.old lane }
-    ensures does { CoreDoes D.Disk E.Disk C.Clock core.old core.new lane (Sync group) result }
+    requires can { CanAct shared.now.turn.id seat.old }
+    ensures does { SeatDoes seat.old seat.new lane (Sync group) result }
     ensures text { ReplyHasText result.reply }
-    ensures room { LeavesReserve core.old core.new lane result.last }
-    ensures remote { RemoteServes E.Disk core.old core.new }
-    ensures entered { HasEntered D.Disk core.old core.new lane (result.last ≡ true) }
+    ensures can { CanAct shared.now.turn.id seat.new }
 {
     let Ok(mut job) = Pull::start(alloc, group.as_slice()) else {
-        return ask(core, alloc, lane, Act::Short);
+        return ask(rt, alloc, shared, seat, lane, Act::Short);
     };
     let mut last = false;
-    while let Some(act) = next_act(alloc, &job) {
-        step(core, alloc, lane, &mut job, &mut last, act);
+    for _ in rt.forever() {
+        let Some(act) = next_act(alloc, &job) else {
+            return Told {
+                reply: job.report(),
+                last,
+            };
+        };
+        step(rt, alloc, shared, seat, lane, &mut job, &mut last, act);
     }
-    Told {
-        reply: job.report(),
-        last,
-    }
+    unreachable!()
 }

@@ -1,17 +1,15 @@
 //! The loop of a lane.
 
-ghost use Rattle.std.specs.Prelude.{◌≡◌, ◌≢◌, ◌≤◌, ◌<◌, ◌^◌, true, Some, IfSome, IfNone};
+ghost use Rattle.std.specs.Prelude.{◌≡◌, ◌≢◌, ◌≤◌, ◌<◌, ◌^◌, IfSome, IfNone};
+ghost use Rattle.seat_history.specs.Entered.{OwnRises};
 ghost use Rattle.wire_commands.specs.HasText.{ReplyHasText};
-ghost use Rattle.core_state.specs.Entering.{held_by};
-ghost use Rattle.core_state.specs.Remotes.{RemoteServes};
-ghost use Rattle.core_state.specs.Reserved.{CanEnd, Reserved};
-ghost use Rattle.lane.specs.Acting.{CoreAnswersShort, LeavesReserve};
+ghost use Rattle.shared_store.specs.Comes.{CanAct, HasCome};
+ghost use Rattle.lane.specs.Acting.{SeatAnswersShort};
 ghost use Rattle.lane.specs.Causes.{LaneHasCauses, SinkHasCauses};
-ghost use Rattle.lane.specs.Doing.{CoreDoes};
-ghost use Rattle.lane.specs.Entries.{HasEntered};
+ghost use Rattle.lane.specs.Doing.{SeatDoes};
 ghost use Rattle.lane.specs.Fronts.{IsAlone, IsCommandAhead};
-ghost use Rattle.lane.specs.Ran.{CoreRan};
-ghost use Rattle.lane.specs.Turns.{CoreGoesOn, HasEnded, IsEndedByMemory, IsFurther, LeavesHeld, TurnHasCauses, broken_at};
+ghost use Rattle.lane.specs.Ran.{SeatRan};
+ghost use Rattle.lane.specs.Turns.{HasEnded, IsFurther, SeatGoesOn, TurnHasCauses, broken_at};
 ghost use Rattle.wire_frames.specs.Frames.{short, cut};
 
 use crate::acts::{Told, ask};
@@ -25,7 +23,9 @@ use crate::pulling::pull;
 use core_state::{Act, Core};
 use disk_trait::Disk;
 use port_traits::{Clock, Gate, Sink, Source};
+use shared_store::{Origin, Seat, Shared};
 use std::alloc::Global;
+use std::sync::Wait;
 use std::thread::Threads;
 use store_model::Ending;
 use store_types::Refusal;
@@ -41,23 +41,70 @@ struct Progress {
     number: u64,
 }
 
-/// Serves one command session, from its first byte to its end.
-pub fn run_alone<R: Threads + Sync, D: Disk, E: Disk, C: Clock, S: Source, K: Sink, G: Gate>(
-    core: &mut Core<D, E, C>,
+/// Serves one command session, from its first byte to its end, while others act on the store too.
+pub fn run_lane<
+    R: Threads + Wait + Sync,
+    D: Disk,
+    E: Disk,
+    C: Clock,
+    N: Origin<Core<D, E, C>>,
+    S: Source,
+    K: Sink,
+    G: Gate,
+>(
     rt: &R,
     alloc: Global,
+    shared: &Shared<D, E, C, N>,
+    seat: Seat<D, E, C, N>,
+    lane: u32,
+    port: &mut Port<S, K>,
+    gate: &G,
+) -> (Seat<D, E, C, N>, LaneReport)
+    requires lane { lane < 64 }
+    requires can { CanAct shared.now.turn.id seat }
+    requires rises { OwnRises seat }
+    // it has seen and entered more, and is else as it was
+    ensures seat { result.0 ≡ record seat { seen = result.0.seen; mine = result.0.mine } }
+    ensures rises { OwnRises result.0 }
+    ensures ran { SeatRan S.Source K.Sink seat result.0 lane port.old port.new result.1 }
+    // the core behind the turn came to all that the seat has seen
+    ensures comes { HasCome D.Disk E.Disk C.Clock N.is result.0.seen }
+    ensures causes { LaneHasCauses S.Source K.Sink port.old port.new result.1 }
+    ensures budget { result.1.taken ≤ 2 ^ 40 }
+{
+    let mut seat = seat;
+    let report = run_with(rt, alloc, shared, &mut seat, lane, port, gate);
+    (seat, report)
+}
+
+/// The same, with a seat that is lent.
+pub fn run_with<
+    R: Threads + Wait + Sync,
+    D: Disk,
+    E: Disk,
+    C: Clock,
+    N: Origin<Core<D, E, C>>,
+    S: Source,
+    K: Sink,
+    G: Gate,
+>(
+    rt: &R,
+    alloc: Global,
+    shared: &Shared<D, E, C, N>,
+    seat: &mut Seat<D, E, C, N>,
     lane: u32,
     port: &mut Port<S, K>,
     gate: &G,
 ) -> LaneReport
     requires lane { lane < 64 }
-    requires room { 3 ≤ held_by core.old.journal lane }
-    ensures ran { CoreRan D.Disk E.Disk C.Clock S.Source K.Sink core.old core.new lane
-        port.old port.new result }
+    requires can { CanAct shared.now.turn.id seat.old }
+    requires rises { OwnRises seat.old }
+    ensures seat { seat.new ≡ record seat.old { seen = seat.new.seen; mine = seat.new.mine } }
+    ensures rises { OwnRises seat.new }
+    ensures ran { SeatRan S.Source K.Sink seat.old seat.new lane port.old port.new result }
+    ensures comes { HasCome D.Disk E.Disk C.Clock N.is seat.new.seen }
     ensures causes { LaneHasCauses S.Source K.Sink port.old port.new result }
     ensures budget { result.taken ≤ 2 ^ 40 }
-    ensures remote { RemoteServes E.Disk core.old core.new }
-    ensures entered { HasEntered D.Disk core.old core.new lane (result.ending ≡ Ending.NoMemory) }
 {
     let mut progress = Progress {
         input: Input::new(alloc),
@@ -65,8 +112,9 @@ pub fn run_alone<R: Threads + Sync, D: Disk, E: Disk, C: Clock, S: Source, K: Si
         number: 0,
     };
     loop {
-        if let Some(last) = turn(core, rt, alloc, lane, port, gate, &mut progress) {
-            let ending = close(core, alloc, lane, &mut port.sink, &mut progress.given, last);
+        if let Some(last) = turn(rt, alloc, shared, seat, lane, port, gate, &mut progress) {
+            let given = &mut progress.given;
+            let ending = close(rt, alloc, shared, seat, lane, &mut port.sink, given, last);
             return LaneReport {
                 taken: progress.input.taken,
                 given: progress.given,
@@ -77,36 +125,54 @@ pub fn run_alone<R: Threads + Sync, D: Disk, E: Disk, C: Clock, S: Source, K: Si
 }
 
 /// Answers what stands next, or takes more of the input. Some is how the commands came to an end.
-fn turn<R: Threads + Sync, D: Disk, E: Disk, C: Clock, S: Source, K: Sink, G: Gate>(
-    core: &mut Core<D, E, C>,
+fn turn<
+    R: Threads + Wait + Sync,
+    D: Disk,
+    E: Disk,
+    C: Clock,
+    N: Origin<Core<D, E, C>>,
+    S: Source,
+    K: Sink,
+    G: Gate,
+>(
     rt: &R,
     alloc: Global,
+    shared: &Shared<D, E, C, N>,
+    seat: &mut Seat<D, E, C, N>,
     lane: u32,
     port: &mut Port<S, K>,
     gate: &G,
     progress: &mut Progress,
 ) -> Option<Last>
     requires lane { lane < 64 }
-    requires room { Reserved core.old lane }
-    ensures goes { CoreGoesOn D.Disk E.Disk C.Clock S.Source K.Sink core.old core.new lane
+    requires can { CanAct shared.now.turn.id seat.old }
+    ensures goes { SeatGoesOn S.Source K.Sink seat.old seat.new lane
         port.old port.new progress.old progress.new result }
     ensures text { IfSome result (λ last. IfSome last.words ReplyHasText) }
-    ensures room { LeavesHeld core.new lane result }
     ensures causes { TurnHasCauses S.Source K.Sink port.old port.new progress.new result }
     ensures further { IfNone result (IsFurther progress.old.input progress.new.input) }
-    ensures remote { RemoteServes E.Disk core.old core.new }
-    ensures entered { HasEntered D.Disk core.old core.new lane (IsEndedByMemory result) }
+    ensures can { CanAct shared.now.turn.id seat.new }
 {
     match read_front(alloc, &progress.input.cutter) {
-        Ahead::Part => more(core, alloc, lane, port, progress),
-        Ahead::Command(command) => serve(core, rt, alloc, lane, port, gate, progress, command),
+        Ahead::Part => more(rt, alloc, shared, seat, lane, port, progress),
+        Ahead::Command(command) => serve(
+            rt, alloc, shared, seat, lane, port, gate, progress, command,
+        ),
         Ahead::Bye => Some(Last {
             ending: Ending::Clean,
             words: Some(Reply::Done),
         }),
         Ahead::Broken(refusal) => Some(broken(progress.input.front, refusal)),
         Ahead::NoMemory => {
-            let ending = short(core, alloc, lane, &mut port.sink, &mut progress.given);
+            let ending = short(
+                rt,
+                alloc,
+                shared,
+                seat,
+                lane,
+                &mut port.sink,
+                &mut progress.given,
+            );
             Some(untold(ending))
         }
     }
@@ -144,24 +210,24 @@ fn ended(input: &Input) -> Last
 }
 
 /// Takes more of the input.
-fn more<D: Disk, E: Disk, C: Clock, S: Source, K: Sink>(
-    core: &mut Core<D, E, C>,
+fn more<R: Wait, D: Disk, E: Disk, C: Clock, N: Origin<Core<D, E, C>>, S: Source, K: Sink>(
+    rt: &R,
     alloc: Global,
+    shared: &Shared<D, E, C, N>,
+    seat: &mut Seat<D, E, C, N>,
     lane: u32,
     port: &mut Port<S, K>,
     progress: &mut Progress,
 ) -> Option<Last>
     requires lane { lane < 64 }
-    requires room { Reserved core.old lane }
+    requires can { CanAct shared.now.turn.id seat.old }
     requires part { cut progress.old.input.cutter.bytes ≡ short }
-    ensures goes { CoreGoesOn D.Disk E.Disk C.Clock S.Source K.Sink core.old core.new lane
+    ensures goes { SeatGoesOn S.Source K.Sink seat.old seat.new lane
         port.old port.new progress.old progress.new result }
     ensures text { IfSome result (λ last. IfSome last.words ReplyHasText) }
-    ensures room { LeavesHeld core.new lane result }
     ensures causes { TurnHasCauses S.Source K.Sink port.old port.new progress.new result }
     ensures further { IfNone result (IsFurther progress.old.input progress.new.input) }
-    ensures remote { RemoteServes E.Disk core.old core.new }
-    ensures entered { HasEntered D.Disk core.old core.new lane (IsEndedByMemory result) }
+    ensures can { CanAct shared.now.turn.id seat.new }
 {
     match progress.input.take(&mut port.source) {
         Taken::More => None,
@@ -169,17 +235,35 @@ fn more<D: Disk, E: Disk, C: Clock, S: Source, K: Sink>(
         Taken::Fault => Some(untold(Ending::SourceFault)),
         Taken::TooLong => Some(untold(Ending::SourceTooLong)),
         Taken::NoMemory => {
-            let ending = short(core, alloc, lane, &mut port.sink, &mut progress.given);
+            let ending = short(
+                rt,
+                alloc,
+                shared,
+                seat,
+                lane,
+                &mut port.sink,
+                &mut progress.given,
+            );
             Some(untold(ending))
         }
     }
 }
 
 /// Does a command, gives its reply to the sink, and moves past it. Some is how the commands come to an end.
-fn serve<R: Threads + Sync, D: Disk, E: Disk, C: Clock, S: Source, K: Sink, G: Gate>(
-    core: &mut Core<D, E, C>,
+fn serve<
+    R: Threads + Wait + Sync,
+    D: Disk,
+    E: Disk,
+    C: Clock,
+    N: Origin<Core<D, E, C>>,
+    S: Source,
+    K: Sink,
+    G: Gate,
+>(
     rt: &R,
     alloc: Global,
+    shared: &Shared<D, E, C, N>,
+    seat: &mut Seat<D, E, C, N>,
     lane: u32,
     port: &mut Port<S, K>,
     gate: &G,
@@ -187,19 +271,17 @@ fn serve<R: Threads + Sync, D: Disk, E: Disk, C: Clock, S: Source, K: Sink, G: G
     command: Command,
 ) -> Option<Last>
     requires lane { lane < 64 }
-    requires room { Reserved core.old lane }
+    requires can { CanAct shared.now.turn.id seat.old }
     requires ahead { IsCommandAhead progress.old.input.cutter command }
-    ensures goes { CoreGoesOn D.Disk E.Disk C.Clock S.Source K.Sink core.old core.new lane
+    ensures goes { SeatGoesOn S.Source K.Sink seat.old seat.new lane
         port.old port.new progress.old progress.new result }
     ensures text { IfSome result (λ last. IfSome last.words ReplyHasText) }
-    ensures room { LeavesHeld core.new lane result }
     ensures causes { TurnHasCauses S.Source K.Sink port.old port.new progress.new result }
     ensures further { IfNone result (IsFurther progress.old.input progress.new.input) }
-    ensures remote { RemoteServes E.Disk core.old core.new }
-    ensures entered { HasEntered D.Disk core.old core.new lane (IsEndedByMemory result) }
+    ensures can { CanAct shared.now.turn.id seat.new }
 {
     gate.before(lane, progress.number);
-    let told = do_command(core, rt, alloc, lane, command);
+    let told = do_command(rt, alloc, shared, seat, lane, command);
     let ending = told.give(&mut port.sink, &mut progress.given);
     gate.after(lane, progress.number);
     progress.number = progress.number.saturating_add(1);
@@ -208,70 +290,69 @@ fn serve<R: Threads + Sync, D: Disk, E: Disk, C: Clock, S: Source, K: Sink, G: G
 }
 
 /// Does a command, or the whole job or collection of one.
-fn do_command<R: Threads + Sync, D: Disk, E: Disk, C: Clock>(
-    core: &mut Core<D, E, C>,
+fn do_command<R: Threads + Wait + Sync, D: Disk, E: Disk, C: Clock, N: Origin<Core<D, E, C>>>(
     rt: &R,
     alloc: Global,
+    shared: &Shared<D, E, C, N>,
+    seat: &mut Seat<D, E, C, N>,
     lane: u32,
     command: Command,
 ) -> Told
     requires lane { lane < 64 }
-    requires room { Reserved core.old lane }
+    requires can { CanAct shared.now.turn.id seat.old }
     requires other { command ≢ Command.Bye }
-    ensures does { CoreDoes D.Disk E.Disk C.Clock core.old core.new lane command result }
+    ensures does { SeatDoes seat.old seat.new lane command result }
     ensures text { ReplyHasText result.reply }
-    ensures room { LeavesReserve core.old core.new lane result.last }
-    ensures remote { RemoteServes E.Disk core.old core.new }
-    ensures entered { HasEntered D.Disk core.old core.new lane (result.last ≡ true) }
+    ensures can { CanAct shared.now.turn.id seat.new }
 {
     if is_job(&command) {
-        return do_job(core, rt, alloc, lane, &command);
+        return do_job(rt, alloc, shared, seat, lane, &command);
     }
     if is_gc(&command) {
-        return collect(core, alloc, lane);
+        return collect(rt, alloc, shared, seat, lane);
     }
-    do_alone(core, alloc, lane, command)
+    do_alone(rt, alloc, shared, seat, lane, command)
 }
 
 /// Does a SYNC, or a command of one act.
-fn do_alone<D: Disk, E: Disk, C: Clock>(
-    core: &mut Core<D, E, C>,
+fn do_alone<R: Wait, D: Disk, E: Disk, C: Clock, N: Origin<Core<D, E, C>>>(
+    rt: &R,
     alloc: Global,
+    shared: &Shared<D, E, C, N>,
+    seat: &mut Seat<D, E, C, N>,
     lane: u32,
     command: Command,
 ) -> Told
     requires lane { lane < 64 }
-    requires room { Reserved core.old lane }
+    requires can { CanAct shared.now.turn.id seat.old }
     requires alone { IsAlone command }
-    ensures does { CoreDoes D.Disk E.Disk C.Clock core.old core.new lane command result }
+    ensures does { SeatDoes seat.old seat.new lane command result }
     ensures text { ReplyHasText result.reply }
-    ensures room { LeavesReserve core.old core.new lane result.last }
-    ensures remote { RemoteServes E.Disk core.old core.new }
-    ensures entered { HasEntered D.Disk core.old core.new lane (result.last ≡ true) }
+    ensures can { CanAct shared.now.turn.id seat.new }
 {
     match command {
-        Command::Sync { group } => pull(core, alloc, lane, group),
-        command => ask(core, alloc, lane, act_of(command)),
+        Command::Sync { group } => pull(rt, alloc, shared, seat, lane, group),
+        command => ask(rt, alloc, shared, seat, lane, act_of(command)),
     }
 }
 
 /// Answers want of memory, which ends the commands.
-fn short<D: Disk, E: Disk, C: Clock, K: Sink>(
-    core: &mut Core<D, E, C>,
+fn short<R: Wait, D: Disk, E: Disk, C: Clock, N: Origin<Core<D, E, C>>, K: Sink>(
+    rt: &R,
     alloc: Global,
+    shared: &Shared<D, E, C, N>,
+    seat: &mut Seat<D, E, C, N>,
     lane: u32,
     sink: &mut K,
     given: &mut u64,
 ) -> Ending
     requires lane { lane < 64 }
-    requires room { Reserved core.old lane }
-    ensures answers { CoreAnswersShort D.Disk E.Disk C.Clock K.Sink core.old core.new lane
+    requires can { CanAct shared.now.turn.id seat.old }
+    ensures answers { SeatAnswersShort K.Sink seat.old seat.new lane
         sink.old sink.new given.old given.new result }
-    ensures room { CanEnd core.new lane }
     ensures causes { SinkHasCauses K.Sink sink.old sink.new (Some result) }
-    ensures remote { RemoteServes E.Disk core.old core.new }
-    ensures entered { HasEntered D.Disk core.old core.new lane (result ≡ Ending.NoMemory) }
+    ensures can { CanAct shared.now.turn.id seat.new }
 {
-    let told = ask(core, alloc, lane, Act::Short);
+    let told = ask(rt, alloc, shared, seat, lane, Act::Short);
     told.give(sink, given).unwrap_or(Ending::NoMemory)
 }

@@ -10,7 +10,8 @@ use Rattle.store_history.specs.Acts.{Class, stepping, reaching, starting, sweepi
 use Rattle.store_history.specs.LaneRun.{Position, begin, next_at, heard, heard_as, position_after, EndsSo, Does, Runs, LaneRan}
 use Rattle.store_history.specs.SoFar.{Follows, Leads}
 use Rattle.store_history.proofs.Rules.{goes_on}
-use Rattle.lane.specs.Ran.{AreEnds, EndsRead, IsReadOut}
+use Rattle.lane.specs.AtOnce.{AreEnds}
+use Rattle.lane.specs.Ran.{EndsRead, IsReadOut}
 use Rattle.pbs_server.specs.Causes.{ReachesNoCommand}
 
 clash : false ≡ true → ⊥

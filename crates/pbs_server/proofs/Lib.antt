@@ -1,11 +1,16 @@
+pub mod Tests
 pub mod Remotes
+pub mod Lanes
 pub mod Woven
 pub mod Statuses
+pub mod Endings
 pub mod Causes
 pub mod BookSaved
 pub mod Leaving
+pub mod Running
 pub mod Rules
 pub mod Broken
 pub mod Changes
 pub mod Orderly
 pub mod Acknowledged
+pub mod Words

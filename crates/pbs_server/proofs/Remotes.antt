@@ -1,6 +1,6 @@
 -- What an honest remote stands for is a list, and how its failed reads are counted.
 use Rattle.disk_trait.specs.declared.disk.Disk.{Ghosts}
-use Rattle.std.proofs.Common.{◌≡◌, ◌<◌, ◌≤◌, ◌+◌, ◌-◌, ◌^◌, ◌==◌, ◌⊎◌, inl, inr, ℕ, Bool, true, false, ◌||◌, List, [], ◌∷◌, length, filter, Option, Some, None, Ok, Result, is_some, if◌then◌else◌, nat_lt, refl, sym, ap, subst, ◌∙◌, arith}
+use Rattle.std.proofs.Common.{◌≡◌, ◌<◌, ◌≤◌, ◌+◌, ◌-◌, ◌^◌, ◌==◌, ◌⊎◌, inl, inr, ℕ, Bool, true, false, List, [], ◌∷◌, length, filter, Option, Some, None, Ok, Result, is_some, if◌then◌else◌, nat_lt, refl, sym, ap, subst, ◌∙◌, arith}
 use Rattle.std.proofs.lemmas.Bool.{ltb-true, ltb-false}
 use Rattle.std.specs.List.{All, flat_map}
 use Rattle.std.specs.FinMap.{get}
@@ -23,6 +23,7 @@ use Rattle.core_state.specs.Remotes.{ReadNoRemote, ShowsRead, ShowsRemote, faile
 use Rattle.store_history.specs.declared.act.Event.{Event}
 use Rattle.lane.specs.Entries.{has_kind}
 use Rattle.pbs_server.specs.Headline.{IsBeside}
+use Rattle.pbs_server.proofs.Tests.{either}
 
 -- ---- the pieces of a list
 
@@ -101,10 +102,6 @@ module _ {E : Type 0} (e : Ghosts E) where
   beside_first o first R events since handed same (inr unread) = inr (subst ReadNoRemote same unread.0)
 
 -- ---- its failed reads
-
-either : (a b : Bool) → (a || b) ≡ true → (a ≡ true) ⊎ (b ≡ true)
-either true b is = inl refl
-either false b is = inr is
 
 -- one was entered
 pub one_failed : (order : List Entry) → has_kind 7 order ≡ true → 1 ≤ failed_reads order

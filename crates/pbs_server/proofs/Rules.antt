@@ -1,5 +1,5 @@
--- The order of a session keeps the rules of order files, on any disk.
-use Rattle.std.proofs.Common.{◌≡◌, ◌<◌, ◌+◌, ◌&&◌, ◌==◌, inl, inr, ℕ, Bool, true, false, List, [], ◌∷◌, Option, None, cond, ap, refl, arith, nat_lt, nat_le}
+-- The order of sessions keeps the rules of order files, on any disk.
+use Rattle.std.proofs.Common.{◌≡◌, ◌<◌, ◌+◌, ◌&&◌, ◌==◌, inl, inr, ℕ, Bool, true, false, List, [], ◌∷◌, length, Option, None, cond, ap, refl, nat_lt, nat_le, slice_index_or}
 use Rattle.std.specs.List.{list_all}
 use Rattle.std.proofs.lemmas.Bool.{lt-ltb, le-leb}
 use Rattle.store_types.specs.Times.{last_moment}
@@ -10,9 +10,7 @@ use Rattle.store_history.specs.declared.act.Event.{Event}
 use Rattle.store_history.specs.Acts.{Class, stepping, reaching, starting, sweeping, wanting, ending, class_of}
 use Rattle.store_history.specs.History.{entries, own, lane, moment, kind}
 use Rattle.store_history.specs.LaneRun.{LaneRan}
-use Rattle.store_history.specs.Seats.{AreOf}
-use Rattle.store_history.specs.Woven.{FitsRules}
-use Rattle.store_history.proofs.Alone.{runs_alone}
+use Rattle.store_history.specs.Woven.{AreLanes, FitsRules, ending_at}
 use Rattle.store_history.proofs.Rules.{KindIs, KindsAre, rules_by}
 use Rattle.core_state.specs.Answers.{fault_after}
 use Rattle.core_state.specs.Records.{FitsKind, AreKept}
@@ -71,13 +69,12 @@ kinds_fit k place fault before (v ∷ vs) kept = by_test (lane v == k) (kinds_fi
     by_test true ih = (kind_fits (class_of v.act) fault (kind v) (kept.0).kind_is, ih)
     by_test false ih = ih
 
-all_fit : (place : ℕ) (fault : Option ℕ) (before : ℕ) (h : List Event) → AreKept place fault before h → AreOf 0 h → list_all (fits_entry 1) (entries h) ≡ true
-all_fit place fault before [] kept are = refl
-all_fit place fault before (v ∷ vs) kept are =
-    let low : lane v < 1 = omega (arith, are.0) in
-    each (nat_lt (lane v) 1) (nat_le (moment v) last_moment) (nat_lt (kind v) 8) (list_all (fits_entry 1) (entries vs)) (lt-ltb (lane v) 1 low) (le-leb (moment v) last_moment (kept.0).in_time)
+all_fit : (n place : ℕ) (fault : Option ℕ) (before : ℕ) (h : List Event) → AreKept place fault before h → AreLanes n h → list_all (fits_entry n) (entries h) ≡ true
+all_fit n place fault before [] kept are = refl
+all_fit n place fault before (v ∷ vs) kept are =
+    each (nat_lt (lane v) n) (nat_le (moment v) last_moment) (nat_lt (kind v) 8) (list_all (fits_entry n) (entries vs)) (lt-ltb (lane v) n are.0) (le-leb (moment v) last_moment (kept.0).in_time)
     (below_eight (class_of v.act) fault (kind v) (kept.0).kind_is)
-    (all_fit (place + 1) (fault_after place (kind v) fault) (moment v) vs kept.1 are.1)
+    (all_fit n (place + 1) (fault_after place (kind v) fault) (moment v) vs kept.1 are.1)
   where
     each : (a b c d : Bool) → a ≡ true → b ≡ true → c ≡ true → d ≡ true → ((a && b && c) && d) ≡ true
     each a b c d p q r s = rw (p, q, r, s) refl
@@ -92,6 +89,7 @@ all_rise place fault before (v ∷ u ∷ vs) kept =
     both : (a b : Bool) → a ≡ true → b ≡ true → (a && b) ≡ true
     both a b p q = rw (p, q) refl
 
-pub kept_rules : (before : ℕ) (h : List Event) (input : List ℕ) (e : Ending) (told : List Reply) → AreKept 0 None before h → AreOf 0 h → LaneRan input e h told → FitsRules h (input ∷ [])
-kept_rules before h input e told kept are ran =
-    rules_by h (input ∷ []) (e ∷ []) (told ∷ []) (all_fit 0 None before h kept are) (all_rise 0 None before h kept) (λ k. kinds_fit k 0 None before h kept) (runs_alone h input e told are ran)
+pub kept_rules : (before : ℕ) (h : List Event) (inputs : List (List ℕ)) (es : List Ending) (told : List (List Reply)) → AreKept 0 None before h → AreLanes (length inputs) h
+    → ((k : ℕ) → k < length inputs → LaneRan (slice_index_or inputs k []) (ending_at es k) (own k h) (slice_index_or told k [])) → FitsRules h inputs
+kept_rules before h inputs es told kept are runs =
+    rules_by h inputs es told (all_fit (length inputs) 0 None before h kept are) (all_rise 0 None before h kept) (λ k. kinds_fit k 0 None before h kept) runs

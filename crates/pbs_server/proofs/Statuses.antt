@@ -1,50 +1,213 @@
--- Which statuses a run of one lane has.
-use Rattle.std.proofs.Common.{◌≡◌, Bool, true, false, List, Option, if◌then◌else◌, ap, sym, ◌∙◌}
+-- Which statuses a run has whose sessions were served: the first that applies.
+use Rattle.std.proofs.Common.{◌≡◌, ◌⊎◌, inl, inr, Bool, true, false, ◌||◌, List, [], ◌∷◌, Option, Some, None, if◌then◌else◌, refl, ap, sym, ◌∙◌}
+use Rattle.std.specs.List.{list_any}
 use Rattle.disk_trait.specs.declared.disk.DiskError.{DiskError}
+use Rattle.disk_trait.specs.declared.disk.DiskError.TheVariants as disks
 use Rattle.store_types.specs.declared.order.Entry.{Entry}
 use Rattle.store_model.specs.declared.ending.Ending.{Ending}
-use Rattle.store_model.specs.declared.ending.Ending.TheVariants as endings
+use Rattle.lane.specs.declared.port.LaneReport.{LaneReport}
+use Rattle.lane.specs.Entries.{has_kind}
 use Rattle.pbs_server.specs.declared.status.Status.{Status}
 use Rattle.pbs_server.specs.declared.status.Status.TheVariants as statuses
-use Rattle.lane.specs.Entries.{has_kind}
-use Rattle.pbs_server.specs.Statuses.{status_by, status_of_ending, is_out_of_memory, is_wanting, is_failed}
+use Rattle.pbs_server.specs.Headline.{AsksNone}
+use Rattle.pbs_server.specs.Statuses.{endings_of, is_failed, is_wanting, some_tells, status_by, status_of_endings, tells}
 
-abbrev IsOther : Status → Type 0
-IsOther s = s ≡ statuses.Usage → ⊥
+-- ---- by how lanes ended
 
-memory_other : IsOther statuses.NoMemory
-memory_other e = cc
+-- a source's fault, a sink's, too long a source, a place without a command
+abbrev pub ended : Bool → Bool → Bool → Bool → Status
+ended source sink long broken =
+    if source then statuses.SourceFault else if sink then statuses.SinkFault else if long then statuses.SourceTooLong else if broken then statuses.BadFrame else statuses.Ok
 
-remote_other : IsOther statuses.RemoteFault
-remote_other e = cc
+-- nothing comes before a place without a command
+pub record IsPlace (source sink long : Bool) : Type 0 where
+  pub source_is : source ≡ false
+  pub sink_is : sink ≡ false
+  pub long_is : long ≡ false
 
-disk_other : IsOther statuses.DiskFault
-disk_other e = cc
+pub ended_ok : (s k l b : Bool) → ended s k l b ≡ statuses.Ok → IsPlace s k l × (b ≡ false)
+ended_ok true k l b is = cc
+ended_ok false true l b is = cc
+ended_ok false false true b is = cc
+ended_ok false false false true is = cc
+ended_ok false false false false is = (record { source_is = refl; sink_is = refl; long_is = refl }, refl)
 
-ending_other : (e : Ending) → IsOther (status_of_ending e)
-ending_other endings.Clean is = cc
-ending_other (endings.Broken place) is = cc
-ending_other endings.SourceFault is = cc
-ending_other endings.SinkFault is = cc
-ending_other endings.SourceTooLong is = cc
-ending_other endings.NoMemory is = cc
+pub ended_broken : (s k l b : Bool) → ended s k l b ≡ statuses.BadFrame → IsPlace s k l × (b ≡ true)
+ended_broken true k l b is = cc
+ended_broken false true l b is = cc
+ended_broken false false true b is = cc
+ended_broken false false false true is = (record { source_is = refl; sink_is = refl; long_is = refl }, refl)
+ended_broken false false false false is = cc
 
-chosen : (a b w c f g : Bool) (s : Status) → IsOther s
-    → IsOther (if a then statuses.NoMemory else if b then statuses.NoMemory else if w then statuses.NoMemory else if c then statuses.DiskFault else if f then statuses.DiskFault else if g then statuses.RemoteFault else s)
-chosen true b w c f g s other is = memory_other is
-chosen false true w c f g s other is = memory_other is
-chosen false false true c f g s other is = memory_other is
-chosen false false false true f g s other is = disk_other is
-chosen false false false false true g s other is = disk_other is
-chosen false false false false false true s other is = remote_other is
-chosen false false false false false false s other is = other is
+pub ended_source : (s k l b : Bool) → ended s k l b ≡ statuses.SourceFault → s ≡ true
+ended_source true k l b is = refl
+ended_source false true l b is = cc
+ended_source false false true b is = cc
+ended_source false false false true is = cc
+ended_source false false false false is = cc
 
--- a session that was served is never answered Usage
-pub served_other : (order : List Entry) (e : Ending) (not_saved : Option DiskError) → status_by order e not_saved ≡ statuses.Usage → ⊥
-served_other order e not_saved is =
-    chosen (has_kind 2 order) (is_out_of_memory e) (is_wanting not_saved) (has_kind 5 order) (is_failed not_saved) (has_kind 7 order) (status_of_ending e) (ending_other e) is
+pub ended_sink : (s k l b : Bool) → ended s k l b ≡ statuses.SinkFault → k ≡ true
+ended_sink true k l b is = cc
+ended_sink false true l b is = refl
+ended_sink false false true b is = cc
+ended_sink false false false true is = cc
+ended_sink false false false false is = cc
+
+pub ended_long : (s k l b : Bool) → ended s k l b ≡ statuses.SourceTooLong → l ≡ true
+ended_long true k l b is = cc
+ended_long false true l b is = cc
+ended_long false false true b is = refl
+ended_long false false false true is = cc
+ended_long false false false false is = cc
+
+-- where a place without a command is all, or nothing
+pub place_ended : (s k l b : Bool) → IsPlace s k l → ended s k l b ≡ (if b then statuses.BadFrame else statuses.Ok)
+place_ended s k l b p =
+    ap (λ x. ended x k l b) p.source_is ∙ ap (λ x. ended false x l b) p.sink_is ∙ ap (λ x. ended false false x b) p.long_is
+
+-- ---- what comes before
+
+-- by entries of want of memory, a lane that ended by it, a book not saved for it, entries of a disk's fault, a book not saved for one, entries of a remote's
+abbrev pub chosen : Bool → Bool → Bool → Bool → Bool → Bool → Status → Status
+chosen memory short wanting disk failed reads s =
+    if memory then statuses.NoMemory else if short then statuses.NoMemory else if wanting then statuses.NoMemory else if disk then statuses.DiskFault else if failed then statuses.DiskFault
+    else if reads then statuses.RemoteFault else s
+
+pub record IsLast (memory short wanting disk failed reads : Bool) (s t : Status) : Type 0 where
+  pub status : s ≡ t
+  pub memory_is : memory ≡ false
+  pub short_is : short ≡ false
+  pub wanting_is : wanting ≡ false
+  pub disk_is : disk ≡ false
+  pub failed_is : failed ≡ false
+  pub reads_is : reads ≡ false
+
+-- neither want of memory nor a fault of the disk or of the remote
+pub last_chosen : (a b w c f g : Bool) (s t : Status) → (statuses.NoMemory ≡ t → ⊥) → (statuses.DiskFault ≡ t → ⊥) → (statuses.RemoteFault ≡ t → ⊥) → chosen a b w c f g s ≡ t → IsLast a b w c f g s t
+last_chosen true b w c f g s t memory disk remote is = absurd (memory is)
+last_chosen false true w c f g s t memory disk remote is = absurd (memory is)
+last_chosen false false true c f g s t memory disk remote is = absurd (memory is)
+last_chosen false false false true f g s t memory disk remote is = absurd (disk is)
+last_chosen false false false false true g s t memory disk remote is = absurd (disk is)
+last_chosen false false false false false true s t memory disk remote is = absurd (remote is)
+last_chosen false false false false false false s t memory disk remote is =
+    record { status = is; memory_is = refl; short_is = refl; wanting_is = refl; disk_is = refl; failed_is = refl; reads_is = refl }
+
+-- a calm order is answered by the endings
+pub calm_chosen : (a b w c f g : Bool) (s : Status) → a ≡ false → b ≡ false → w ≡ false → c ≡ false → f ≡ false → g ≡ false → chosen a b w c f g s ≡ s
+calm_chosen a b w c f g s x y v z u r =
+    ap (λ i. chosen i b w c f g s) x ∙ ap (λ i. chosen false i w c f g s) y ∙ ap (λ i. chosen false false i c f g s) v
+    ∙ ap (λ i. chosen false false false i f g s) z ∙ ap (λ i. chosen false false false false i g s) u ∙ ap (λ i. chosen false false false false false i s) r
+
+pub disk_chosen : (a b w c f g : Bool) (s : Status) → (s ≡ statuses.DiskFault → ⊥) → chosen a b w c f g s ≡ statuses.DiskFault → (c ≡ true) ⊎ (f ≡ true)
+disk_chosen true b w c f g s other is = cc
+disk_chosen false true w c f g s other is = cc
+disk_chosen false false true c f g s other is = cc
+disk_chosen false false false true f g s other is = inl refl
+disk_chosen false false false false true g s other is = inr refl
+disk_chosen false false false false false true s other is = cc
+disk_chosen false false false false false false s other is = absurd (other is)
+
+pub remote_chosen : (a b w c f g : Bool) (s : Status) → (s ≡ statuses.RemoteFault → ⊥) → chosen a b w c f g s ≡ statuses.RemoteFault → g ≡ true
+remote_chosen true b w c f g s other is = cc
+remote_chosen false true w c f g s other is = cc
+remote_chosen false false true c f g s other is = cc
+remote_chosen false false false true f g s other is = cc
+remote_chosen false false false false true g s other is = cc
+remote_chosen false false false false false true s other is = refl
+remote_chosen false false false false false false s other is = absurd (other is)
+
+pub memory_chosen : (a b w c f g : Bool) (s : Status) → (s ≡ statuses.NoMemory → ⊥) → chosen a b w c f g s ≡ statuses.NoMemory → (a ≡ true) ⊎ ((b ≡ true) ⊎ (w ≡ true))
+memory_chosen true b w c f g s other is = inl refl
+memory_chosen false true w c f g s other is = inr (inl refl)
+memory_chosen false false true c f g s other is = inr (inr refl)
+memory_chosen false false false true f g s other is = cc
+memory_chosen false false false false true g s other is = cc
+memory_chosen false false false false false true s other is = cc
+memory_chosen false false false false false false s other is = absurd (other is)
+
+-- a book that was not saved for want of memory
+pub want_chosen : (a b c f g : Bool) (s : Status) → chosen a b true c f g s ≡ statuses.NoMemory
+want_chosen true b c f g s = refl
+want_chosen false true c f g s = refl
+want_chosen false false c f g s = refl
+
+-- ---- the statuses that are told by none of these
+
+-- no ending is of this status
+abbrev pub IsNoEnding : Status → Type 0
+IsNoEnding t = (s k l b : Bool) → ended s k l b ≡ t → ⊥
+
+pub no_disk : IsNoEnding statuses.DiskFault
+no_disk true k l b is = cc
+no_disk false true l b is = cc
+no_disk false false true b is = cc
+no_disk false false false true is = cc
+no_disk false false false false is = cc
+
+pub no_remote : IsNoEnding statuses.RemoteFault
+no_remote true k l b is = cc
+no_remote false true l b is = cc
+no_remote false false true b is = cc
+no_remote false false false true is = cc
+no_remote false false false false is = cc
+
+pub no_memory : IsNoEnding statuses.NoMemory
+no_memory true k l b is = cc
+no_memory false true l b is = cc
+no_memory false false true b is = cc
+no_memory false false false true is = cc
+no_memory false false false false is = cc
+
+no_usage : IsNoEnding statuses.Usage
+no_usage true k l b is = cc
+no_usage false true l b is = cc
+no_usage false false true b is = cc
+no_usage false false false true is = cc
+no_usage false false false false is = cc
+
+no_many : IsNoEnding statuses.TooManyLanes
+no_many true k l b is = cc
+no_many false true l b is = cc
+no_many false false true b is = cc
+no_many false false false true is = cc
+no_many false false false false is = cc
+
+other_chosen : (order : List Entry) (all : List Ending) (not_saved : Option DiskError) (t : Status) → IsNoEnding t → (statuses.NoMemory ≡ t → ⊥) → (statuses.DiskFault ≡ t → ⊥) → (statuses.RemoteFault ≡ t → ⊥)
+    → status_by order all not_saved ≡ t → ⊥
+other_chosen order all not_saved t none memory disk remote is =
+    let last = last_chosen (has_kind 2 order) (some_tells statuses.NoMemory all) (is_wanting not_saved) (has_kind 5 order) (is_failed not_saved) (has_kind 7 order) (status_of_endings all) t memory disk remote is in
+    none (some_tells statuses.SourceFault all) (some_tells statuses.SinkFault all) (some_tells statuses.SourceTooLong all) (some_tells statuses.BadFrame all) last.status
+
+-- sessions that were served are never answered Usage or TooManyLanes
+pub served_asks : (order : List Entry) (all : List Ending) (not_saved : Option DiskError) → AsksNone (status_by order all not_saved) → ⊥
+served_asks order all not_saved (inl is) = other_chosen order all not_saved statuses.Usage no_usage (λ e. cc) (λ e. cc) (λ e. cc) is
+served_asks order all not_saved (inr is) = other_chosen order all not_saved statuses.TooManyLanes no_many (λ e. cc) (λ e. cc) (λ e. cc) is
 
 -- by the order and the report that are handed back
-pub status_is : (status : Status) (order kept : List Entry) (e : Ending) (told not_saved : Option DiskError)
-    → status ≡ status_by kept e not_saved → order ≡ kept → told ≡ not_saved → status ≡ status_by order e told
-status_is status order kept e told not_saved is same so = is ∙ ap (λ es. status_by es e not_saved) (sym same) ∙ ap (λ o. status_by order e o) (sym so)
+pub status_is : (status : Status) (order kept : List Entry) (all : List Ending) (told not_saved : Option DiskError)
+    → status ≡ status_by kept all not_saved → order ≡ kept → told ≡ not_saved → status ≡ status_by order all told
+status_is status order kept all told not_saved is same so = is ∙ ap (λ es. status_by es all not_saved) (sym same) ∙ ap (λ o. status_by order all o) (sym so)
+
+-- ---- by reports
+
+pub tells_of : (status : Status) (reports : List LaneReport) → list_any (λ r. tells status r.ending) reports ≡ some_tells status (endings_of reports)
+tells_of status [] = refl
+tells_of status (r ∷ rs) = ap (λ b. tells status r.ending || b) (tells_of status rs)
+
+-- ---- by why the book was not saved
+
+pub saved_by : (o : Option DiskError) → is_wanting o ≡ false → is_failed o ≡ false → o ≡ None
+saved_by None wanting failed = refl
+saved_by (Some disks.NoMemory) wanting failed = cc
+saved_by (Some disks.Failed) wanting failed = cc
+
+pub wanting_is : (o : Option DiskError) → is_wanting o ≡ true → o ≡ Some disks.NoMemory
+wanting_is None is = cc
+wanting_is (Some disks.NoMemory) is = refl
+wanting_is (Some disks.Failed) is = cc
+
+pub failed_is : (o : Option DiskError) → is_failed o ≡ true → o ≡ Some disks.Failed
+failed_is None is = cc
+failed_is (Some disks.NoMemory) is = cc
+failed_is (Some disks.Failed) is = refl

@@ -1,8 +1,10 @@
--- A session that was served is answered as by the plain store.
+-- Sessions that were served are answered as by the plain store.
 use Rattle.disk_trait.specs.declared.disk.Disk.{Ghosts}
 use Rattle.disk_trait.specs.declared.disk.DiskError.{DiskError}
-use Rattle.std.proofs.Common.{◌≡◌, ◌≤◌, ◌↔◌, ℕ, zero, suc, Bool, true, false, ◌||◌, ◌==◌, ◌⊎◌, inl, inr, List, [], ◌∷◌, ◌++◌, Option, Some, None, is_some, IfSome, IsSome, IsTrue, Ok, OnOk, refl, sym, ap, subst, ◌∙◌, arith}
+use Rattle.std.proofs.Common.{◌≡◌, ◌≤◌, ◌↔◌, ℕ, zero, suc, true, false, ◌==◌, ◌⊎◌, inl, inr, List, [], ◌∷◌, ◌++◌, map, length, Option, Some, None, is_some, IfSome, IsSome, IsTrue, Ok, OnOk, refl, sym, ap, subst, ◌∙◌, arith}
 use Rattle.std.specs.FinMap.{get}
+use Rattle.port_traits.specs.declared.sink.Sink as sinks
+use Rattle.port_traits.specs.declared.source.Source as sources
 use Rattle.port_traits.specs.Readings.{Readings}
 use Rattle.disk_trait.specs.Files.{Files}
 use Rattle.std.specs.List.{All}
@@ -17,13 +19,13 @@ use Rattle.store_model.specs.Stands.{StandsFor as Stands}
 use Rattle.store_model.specs.Weave.{weave}
 use Rattle.store_history.specs.declared.act.Event.{Event}
 use Rattle.store_history.specs.History.{Opening, World, opened, after, after_all, moved, entries, sent, kind, kind_of, EntryKind, step_kind, pass_kind, short_kind, start_kind, close_kind, fault_kind, end_kind, remote_kind, no_kind}
-use Rattle.store_history.specs.LaneRun.{text, plain_text}
-use Rattle.store_history.proofs.Alone.{served_alone}
+use Rattle.store_history.specs.LaneRun.{plain_text}
 use Rattle.store_history.proofs.Whole.{served_woven}
 use Rattle.store_history.specs.Legal.{IsTimed, moment_after, readings_left}
 use Rattle.store_history.specs.Remote.{IsRemote}
 use Rattle.store_history.specs.Saved.{HoldsBook, saved_book}
 use Rattle.store_history.specs.Sweeping.{swept}
+use Rattle.store_history.specs.Woven.{AreLanes}
 use Rattle.store_files.specs.Order.{keeps_rules}
 use Rattle.snapshot_files.proofs.Loading.{loaded}
 use Rattle.core_state.specs.declared.state.Core.{Core}
@@ -36,15 +38,20 @@ use Rattle.core_state.specs.Remotes.{ReadNoRemote}
 use Rattle.core_state.specs.Recovers.{Recovers, TellsMoments}
 use Rattle.opening_files.specs.Leaving.{IsFileOf, IsLeaving, Cleans}
 use Rattle.core_opening.specs.Opening.{HasBook, TouchesOpened, RecoversOpened, StandsOpened, opening_of}
+use Rattle.shared_store.specs.Comes.{with_events}
 use Rattle.lane.specs.declared.port.LaneReport.{LaneReport}
+use Rattle.lane.specs.declared.port.Port.{Port}
 use Rattle.lane.specs.Entries.{has_kind}
-use Rattle.lane.specs.Ran.{RanAlone, with_events}
+use Rattle.lane_threads.specs.Served.{EachRan, RanAs, Run}
 use Rattle.pbs_server.specs.Causes.{NoDiskFault}
-use Rattle.pbs_server.specs.Headline.{HasTold, IsBeside, IsPlain, StopsLeave}
+use Rattle.pbs_server.specs.Headline.{HasTold, IsBeside, IsPlain, StopsLeave, inputs_of, told_by}
 use Rattle.pbs_server.specs.Saving.{EndsSaved, saving_of}
+use Rattle.pbs_server.specs.Statuses.{endings_of}
 use Rattle.pbs_server.proofs.Acknowledged.{found_after}
+use Rattle.pbs_server.proofs.Lanes.{are_served, inputs_count, run_at}
 use Rattle.pbs_server.proofs.Remotes.{beside_first, beside_list, beside_there, list_keys}
 use Rattle.pbs_server.proofs.Rules.{kept_rules}
+use Rattle.pbs_server.proofs.Tests.{neither}
 use Rattle.pbs_server.proofs.BookSaved.{five_fails, halted_by, saving_failed}
 
 -- only a fault's entry leaves a fault
@@ -95,13 +102,6 @@ fault_is_five (suc (suc (suc (suc (suc (suc (suc (suc n)))))))) e = absurd (apar
     apart : no_kind ≡ fault_kind → ⊥
     apart x = cc
 
-either_false : (a b : Bool) → a || b ≡ false → (a ≡ false) × (b ≡ false)
-either_false false b e = (refl, e)
-either_false true b e = absurd (true_false e)
-  where
-    true_false : true ≡ false → ⊥
-    true_false x = cc
-
 not_five : (n : ℕ) → n == 5 ≡ false → n ≡ 5 → ⊥
 not_five n differs is = absurd (true_false (sym (subst (λ x. x == 5 ≡ true) (sym is) refl) ∙ differs))
   where
@@ -112,7 +112,7 @@ pub no_fault : (R : Option (List Snapshot)) (w : World) (h : List Event) → has
 unfolding after after_all
 no_fault R w [] none_is = refl
 no_fault R w (e ∷ es) none_is =
-    let both = either_false (kind e == FAULT_KIND) (has_kind 5 (entries es)) none_is in
+    let both = neither (kind e == FAULT_KIND) (has_kind 5 (entries es)) none_is in
     no_fault R (after R w e) es both.1
     ∙ moved_fault R w _ _ _ (kind_of (kind e)) (λ is. not_five (kind e) both.0 (fault_is_five (kind e) is))
 
@@ -142,85 +142,75 @@ began_at d readings core o R clock s = s.last
 le_more : (a b c : ℕ) → a ≤ b → b ≤ c → a ≤ c
 le_more a b c first then = omega (arith, first, then)
 
--- what a session did on any disk, and on an honest one, which was opened at a moment
-pub record HasBoth {D E : Type 0} (d : Ghosts D) (e : Ghosts E) (clock : Option Readings) (remote remote' : Option E) (start : ℕ) (disk opened last : D) (left left' taken taken' : Option (List ℕ)) (order : List Entry) (calls : List ℕ)
-    (not_saved : Option DiskError) (report : LaneReport) : Type 0 where
-  pub told : HasTold clock left left' taken taken' order calls report
+-- what the sessions did on any disk, and on an honest one, which was opened at a moment
+pub record HasBoth {D E S K : Type 0} (d : Ghosts D) (e : Ghosts E) (source : sources.Ghosts S) (sink : sinks.Ghosts K) (clock : Option Readings) (remote remote' : Option E) (start : ℕ) (disk opened last : D)
+    (old new : List (Port S K)) (order : List Entry) (calls : List ℕ) (not_saved : Option DiskError) (reports : List LaneReport) : Type 0 where
+  pub told : HasTold clock source sink old new order calls reports
   pub since_is : d.honest disk → told.since ≡ (saved_book (d.content opened)).moment
   pub halted : has_kind 5 order ≡ true → not_saved ≡ None
   pub plain : (L : List Snapshot) (R : Option (List Snapshot)) → IsBeside e remote R told.events → d.honest disk → Stands (d.content disk) L → NoClash (chunk_pieces (d.content disk) ++ sent told.events)
-      → IsPlain (opening_of d disk opened L) R told.since (d.calls last) (d.honest last) told.input told.events told.told order not_saved report (d.content disk) (d.content last)
+      → IsPlain (opening_of d disk opened L) R told.since (d.calls last) (d.honest last) told.runs told.events order not_saved reports (d.content disk) (d.content last)
   pub stops : (L : List Snapshot) (R : Option (List Snapshot)) → IsBeside e remote R told.events → d.honest disk → Stands (d.content disk) L → NoClash (chunk_pieces (d.content disk) ++ sent told.events)
       → StopsLeave d start last R (opening_of d disk opened L) told.events
   pub unread : ReadNoRemote told.events → remote' ≡ remote
 
-pub has_both : {D E C : Type 0} (d : Ghosts D) (e : Ghosts E) (readings : C → Option Readings) (clock : C) (disk : D) (remote : Option E) (first core saved : Core D E C)
-    (left left' taken taken' : Option (List ℕ)) (order : List Entry) (calls : List ℕ) (not_saved : Option DiskError) (report : LaneReport) (last : D)
+pub has_both : {D E C S K : Type 0} (d : Ghosts D) (e : Ghosts E) (source : sources.Ghosts S) (sink : sinks.Ghosts K) (readings : C → Option Readings) (clock : C) (disk : D) (remote : Option E) (first core saved : Core D E C)
+    (old new : List (Port S K)) (order : List Entry) (calls : List ℕ) (not_saved : Option DiskError) (reports : List LaneReport) (runs : List Run) (events : List Event) (last : D)
     → TellsMoments d → first.remote ≡ remote → StandsOpened d readings disk clock first → TouchesOpened d readings disk clock first → (recovers : RecoversOpened d readings disk clock first)
     → first.last ≡ (first.upkeep).book.moment → (d.honest disk → HasBook d first)
     → (d.honest disk → Cleans (d.content disk) (d.content (first.parts).disk))
-    → RanAlone (Reaches d e readings first (began (opening_at d disk first []) None (readings clock)) core)
-    (began (opening_at d disk first []) None (readings clock)) 0 left left' taken taken' report
+    → Reaches d e readings first (began (opening_at d disk first []) None (readings clock)) core (with_events (began (opening_at d disk first []) None (readings clock)) events)
+    → AreLanes (length old) events → EachRan (RanAs source sink) 0 old new reports runs events
     → EndsSaved d core saved not_saved
     → order ≡ (saved.journal).entries.items → calls ≡ (saved.journal).calls.items → last ≡ (saved.parts).disk
-    → HasBoth d e (readings clock) remote core.remote (recovers.opens).start disk (first.parts).disk last left left' taken taken' order calls not_saved report
-has_both d e readings clock disk remote first core saved left left' taken taken' order calls not_saved report last moments handed opens touches recovers last_is booked cleaned ran ends order_as calls_as disk_as = record {
+    → HasBoth d e source sink (readings clock) remote core.remote (recovers.opens).start disk (first.parts).disk last old new order calls not_saved reports
+has_both d e source sink readings clock disk remote first core saved old new order calls not_saved reports runs events last moments handed opens touches recovers last_is booked cleaned reaches lanes each ends order_as calls_as disk_as = record {
   told = record {
-    input = ran.input;
-    events = ran.events;
-    told = ran.told;
-    replies = text ran.told;
-    gave = ran.gave;
-    replies_are = refl;
-    ran = ran.ran;
-    took = ran.took;
-    size_is = ran.size_is;
-    rules = subst (λ es. IsTrue (keeps_rules 1 es)) (sym order_is) (kept_rules first.last ran.events ran.input report.ending ran.told r.kept ran.lanes ran.ran);
+    runs = runs;
+    events = events;
+    each = each;
+    lanes = lanes;
+    rules = subst (λ es. IsTrue (keeps_rules (length old) es)) (sym order_is) fits;
     since = first.last;
     times = timed (readings clock) r.time;
     kept = r.kept;
     order_is = order_is;
     calls_are = calls_as ∙ ap (λ x. (x.journal).calls.items) ends.rest ∙ r.calls;
-    read_out = ran.read_out;
   };
   since_is = λ honest. last_is ∙ ((booked honest).keeps).read;
   halted = λ five.
-      let failed : IsSome core.fault = subst (λ (o : Option ℕ). IsSome o) (sym r.fault) (five_fails 0 None ran.events (sym (ap (has_kind 5) order_is) ∙ five)) in
+      let failed : IsSome core.fault = subst (λ (o : Option ℕ). IsSome o) (sym r.fault) (five_fails 0 None events (sym (ap (has_kind 5) order_is) ∙ five)) in
       let both : (saved ≡ core) × (not_saved ≡ None) = halted_by core.fault failed ends.halted in
       both.1;
   plain = λ L R beside honest stands clear.
-      let there = ap is_some handed ∙ beside_there e remote R ran.events beside in
+      let there = ap is_some handed ∙ beside_there e remote R events beside in
       let at = last_at L R there honest stands in
-      let stood = subst (λ o. StandsFor d readings first (began o R (readings clock))) (is_opening L at) (opens L R there honest stands) in
-      let minded = subst (λ o. KeepsTouches d first (began o R (readings clock))) (is_opening L at) (touches L R honest stands) in
-      let starts : Starts d readings first (opened_with L R (began (opening_at d disk first []) None (readings clock))) = record { stands = stood; touches = minded } in
-      let shows = beside_first e remote first.remote R ran.events (ran.stands_for).since handed (ran.stands_for).behind beside in
-      subst (λ o. IsPlain o R first.last (d.calls last) (d.honest last) ran.input ran.events ran.told order not_saved report (d.content disk) (d.content last)) (sym (is_opening L at))
-      (plain L R at (beside_list e remote R ran.events beside) (list_keys (d.content disk) L stands) (loaded (d.content disk) L stands) ((ran.stands_for).stands L R starts shows clear)
-      ((ran.stands_for).touches L R starts shows clear)
-      (λ none q own. (ran.stands_for).foreign L R starts shows clear none q own ∙ foreign_cleaned _ _ (cleaned honest) q own));
+      let starts = begins L R at there honest stands in
+      let shows = beside_first e remote first.remote R events reaches.since handed reaches.behind beside in
+      subst (λ o. IsPlain o R first.last (d.calls last) (d.honest last) runs events order not_saved reports (d.content disk) (d.content last)) (sym (is_opening L at))
+      (plain L R at (beside_list e remote R events beside) (list_keys (d.content disk) L stands) (loaded (d.content disk) L stands) (reaches.stands L R starts shows clear)
+      (reaches.touches L R starts shows clear)
+      (λ none q own. reaches.foreign L R starts shows clear none q own ∙ foreign_cleaned _ _ (cleaned honest) q own));
   stops = λ L R beside honest stands clear.
-      let there = ap is_some handed ∙ beside_there e remote R ran.events beside in
+      let there = ap is_some handed ∙ beside_there e remote R events beside in
       let at = last_at L R there honest stands in
-      let stood = subst (λ o. StandsFor d readings first (began o R (readings clock))) (is_opening L at) (opens L R there honest stands) in
-      let minded = subst (λ o. KeepsTouches d first (began o R (readings clock))) (is_opening L at) (touches L R honest stands) in
-      let starts : Starts d readings first (opened_with L R (began (opening_at d disk first []) None (readings clock))) = record { stands = stood; touches = minded } in
-      let shows = beside_first e remote first.remote R ran.events (ran.stands_for).since handed (ran.stands_for).behind beside in
+      let starts = begins L R at there honest stands in
+      let shows = beside_first e remote first.remote R events reaches.since handed reaches.behind beside in
       let before = subst (λ o. Recovers d (recovers.opens).start first (began o R (readings clock))) (is_opening L at) (recovers.recovers L R stands) in
-      let ended = (ran.stands_for).stands L R starts shows clear in
-      let after = (ends.history).recovers readings (recovers.opens).start (history L R) ended ((ran.stands_for).recovers moments (recovers.opens).start L R starts shows before clear) in
-      subst (λ o. StopsLeave d (recovers.opens).start last R o ran.events) (sym (is_opening L at))
+      let ended = reaches.stands L R starts shows clear in
+      let after = (ends.history).recovers readings (recovers.opens).start (history L R) ended (reaches.recovers moments (recovers.opens).start L R starts shows before clear) in
+      subst (λ o. StopsLeave d (recovers.opens).start last R o events) (sym (is_opening L at))
       (λ t c from image.
       let found = after.each t c from (subst (λ x. d.images x t c) disk_as image) in
-      (found.0, found.1, found_after R (opening L) ran.events t found.0 stands.order ended.legal found.2));
-  unread = λ none. (ran.stands_for).alone (subst ReadNoRemote (ran.stands_for).behind none) ∙ handed;
+      (found.0, found.1, found_after R (opening L) events t found.0 stands.order ended.legal found.2));
+  unread = λ none. reaches.alone (subst ReadNoRemote reaches.behind none) ∙ handed;
 }
   where
     opening : List Snapshot → Opening
     opening L = opening_at d disk first L
 
     history : List Snapshot → Option (List Snapshot) → History
-    history L R = with_events (began (opening L) R (readings clock)) ran.events
+    history L R = with_events (began (opening L) R (readings clock)) events
 
     last_at : (L : List Snapshot) (R : Option (List Snapshot)) → is_some first.remote ≡ is_some R → d.honest disk → Stands (d.content disk) L → first.last ≡ (saved_book (d.content disk)).moment
     last_at L R there honest stands = began_at d readings first (opening_of d disk (first.parts).disk L) R (readings clock) (opens L R there honest stands)
@@ -228,19 +218,33 @@ has_both d e readings clock disk remote first core saved left left' taken taken'
     is_opening : (L : List Snapshot) → first.last ≡ (saved_book (d.content disk)).moment → opening_of d disk (first.parts).disk L ≡ opening L
     is_opening L at = ap (λ m. record (opening_of d disk (first.parts).disk L) { moment = m }) (sym at)
 
-    r : Records readings core (with_events (began (opening []) None (readings clock)) ran.events)
-    r = (ran.stands_for).records
+    begins : (L : List Snapshot) (R : Option (List Snapshot)) → first.last ≡ (saved_book (d.content disk)).moment → is_some first.remote ≡ is_some R → d.honest disk → Stands (d.content disk) L
+        → Starts d readings first (opened_with L R (began (opening_at d disk first []) None (readings clock)))
+    begins L R at there honest stands = record {
+      stands = subst (λ o. StandsFor d readings first (began o R (readings clock))) (is_opening L at) (opens L R there honest stands);
+      touches = subst (λ o. KeepsTouches d first (began o R (readings clock))) (is_opening L at) (touches L R honest stands);
+    }
 
-    order_is : order ≡ entries ran.events
+    r : Records readings core (with_events (began (opening []) None (readings clock)) events)
+    r = reaches.records
+
+    order_is : order ≡ entries events
     order_is = order_as ∙ ap (λ x. (x.journal).entries.items) ends.rest ∙ r.entries
 
-    timed : (c : Option Readings) → IfSome c (λ x. IsTimed x first.last ran.events × (readings core.clock ≡ Some (readings_left x ran.events)))
-        → IfSome c (λ x. IsTimed x first.last ran.events)
+    fits : IsTrue (keeps_rules (length old) (entries events))
+    fits =
+        let count = inputs_count source sink old new reports runs events each in
+        subst (λ n. IsTrue (keeps_rules n (entries events))) count
+        (kept_rules first.last events (inputs_of runs) (endings_of reports) (told_by runs) r.kept (subst (λ n. AreLanes n events) (sym count) lanes)
+        (run_at source sink old new reports runs events each))
+
+    timed : (c : Option Readings) → IfSome c (λ x. IsTimed x first.last events × (readings core.clock ≡ Some (readings_left x events)))
+        → IfSome c (λ x. IsTimed x first.last events)
     timed None t = t
     timed (Some c) t = t.0
 
-    calm : (L : List Snapshot) (R : Option (List Snapshot)) → has_kind 5 order ≡ false → (after_all R (opened (opening L)) ran.events).fault ≡ None
-    calm L R is = no_fault R (opened (opening L)) ran.events (sym (ap (has_kind 5) order_is) ∙ is)
+    calm : (L : List Snapshot) (R : Option (List Snapshot)) → has_kind 5 order ≡ false → (after_all R (opened (opening L)) events).fault ≡ None
+    calm L R is = no_fault R (opened (opening L)) events (sym (ap (has_kind 5) order_is) ∙ is)
 
     -- the core stands for it, once the book was saved
     later : (L : List Snapshot) (R : Option (List Snapshot)) → StandsFor d readings core (history L R) → NoDiskFault order not_saved → StandsFor d readings saved (history L R)
@@ -254,31 +258,31 @@ has_both d e readings clock disk remote first core saved left left' taken taken'
     plain : (L : List Snapshot) (R : Option (List Snapshot)) → first.last ≡ (saved_book (d.content disk)).moment → IsRemote R → All (λ x. IsKey x.key) L → load (d.content disk) ≡ L
         → StandsFor d readings core (history L R) → KeepsTouches d core (history L R)
         → (core.fault ≡ None → (q : List ℕ) → IsForeign q → get (d.content (core.parts).disk) q ≡ get (d.content disk) q)
-        → IsPlain (opening L) R first.last (d.calls last) (d.honest last) ran.input ran.events ran.told order not_saved report (d.content disk) (d.content last)
+        → IsPlain (opening L) R first.last (d.calls last) (d.honest last) runs events order not_saved reports (d.content disk) (d.content last)
     plain L R at beside keys loads s m foreign =
         let h = history L R in
-        let served = served_alone (opening L) R ran.events ran.input report.ending ran.told beside keys s.legal ran.lanes ran.ran in
+        let served = are_served source sink old new reports runs events each (opening L) R beside keys s.legal lanes in
         record {
           store = (world h).store;
-          woven = subst (λ xs. weave xs R order (ran.input ∷ []) (report.ending ∷ []) ≡ Ok (record { store = (world h).store; replies = plain_text ran.told ∷ [] })) (sym loads)
-              (subst (λ es. weave L R es (ran.input ∷ []) (report.ending ∷ []) ≡ Ok (record { store = (world h).store; replies = plain_text ran.told ∷ [] })) (sym order_is)
-              (served_woven (opening L) R ran.events (ran.input ∷ []) (report.ending ∷ []) (ran.told ∷ []) served));
+          woven = subst (λ xs. weave xs R order (inputs_of runs) (endings_of reports) ≡ Ok (record { store = (world h).store; replies = map plain_text (told_by runs) })) (sym loads)
+              (subst (λ es. weave L R es (inputs_of runs) (endings_of reports) ≡ Ok (record { store = (world h).store; replies = map plain_text (told_by runs) })) (sym order_is)
+              (served_woven (opening L) R events (inputs_of runs) (endings_of reports) (told_by runs) served));
           legal = s.legal;
           collected = record {
             is_swept = m.is_swept;
-            left = λ unfailed. subst (λ x. (n : List ℕ) → IsDigest n → IsSome (get (d.content x) (chunk_name n)) ↔ IsSome ((swept R (opening L) ran.events).touches.last n)) (sym disk_as)
+            left = λ unfailed. subst (λ x. (n : List ℕ) → IsDigest n → IsSome (get (d.content x) (chunk_name n)) ↔ IsSome ((swept R (opening L) events).touches.last n)) (sym disk_as)
                 ((minded_later L R s m unfailed).present (ap (λ x. x.fault) ends.rest ∙ s.fault ∙ calm L R unfailed.acts));
           };
           since_is = at;
           reached = subst (λ x. (world h).calls ≤ d.calls x) (sym disk_as) (le_more (world h).calls (d.calls (core.parts).disk) (d.calls (saved.parts).disk) s.reached ends.later);
           honest = subst d.honest (sym disk_as) ((ends.serves).kept.0 s.honest);
           stands = λ unfailed. subst (λ x. Stands (d.content x) (world h).store.snapshots) (sym disk_as) ((later L R s unfailed).files (calm L R unfailed.acts)).snapshots;
-          chunks = λ unfailed. subst (λ x. HoldsOnly (d.content x) (chunk_pieces (d.content disk) ++ sent ran.events)) (sym disk_as) ((later L R s unfailed).chunks (calm L R unfailed.acts));
+          chunks = λ unfailed. subst (λ x. HoldsOnly (d.content x) (chunk_pieces (d.content disk) ++ sent events)) (sym disk_as) ((later L R s unfailed).chunks (calm L R unfailed.acts));
           book = λ is saved_is.
               let held : OnOk (saving_of not_saved) (HoldsBook (d.content (saved.parts).disk) core.last (touches_of_history h)) = (ends.history).holds readings h (s.fault ∙ calm L R is) s m in
               let kept : HoldsBook (d.content (saved.parts).disk) core.last (touches_of_history h) = subst (λ o. OnOk (saving_of o) (HoldsBook (d.content (saved.parts).disk) core.last (touches_of_history h))) saved_is held in
-              subst (λ x. HoldsBook (d.content x) (moment_after first.last ran.events) (swept R (opening L) ran.events).touches) (sym disk_as)
-              (subst (λ n. HoldsBook (d.content (saved.parts).disk) n (swept R (opening L) ran.events).touches) r.last kept);
+              subst (λ x. HoldsBook (d.content x) (moment_after first.last events) (swept R (opening L) events).touches) (sym disk_as)
+              (subst (λ n. HoldsBook (d.content (saved.parts).disk) n (swept R (opening L) events).touches) r.last kept);
           foreign = λ unfailed q own.
               ap (λ x. get (d.content x) q) disk_as ∙ ends.foreign s.honest unfailed.saving q own ∙ foreign (s.fault ∙ calm L R unfailed.acts) q own;
         }

@@ -1,6 +1,8 @@
--- Why a session is answered so, on any disk.
-use Rattle.std.specs.Prelude.{◌≡◌, ◌≢◌, ◌+◌, ◌-◌, ◌<◌, ◌≤◌, ◌^◌, ◌↔◌, ◌⊎◌, ℕ, true, false, List, ◌++◌, length, Option, Some, None}
+-- Why sessions are answered so, on any disk.
+use Rattle.std.specs.Prelude.{◌≡◌, ◌≢◌, ◌+◌, ◌-◌, ◌<◌, ◌≤◌, ◌^◌, ◌↔◌, ◌⊎◌, ℕ, true, false, List, [], ◌∷◌, ◌++◌, length, Option, Some, None}
 use Rattle.std.specs.List.{All}
+use Rattle.port_traits.specs.declared.source.Source as sources
+use Rattle.port_traits.specs.declared.sink.Sink as sinks
 use Rattle.port_traits.specs.Faults.{Rose}
 use Rattle.disk_trait.specs.declared.disk.DiskError.{DiskError}
 use Rattle.disk_trait.specs.declared.disk.DiskError.TheVariants as disks
@@ -10,19 +12,22 @@ use Rattle.store_model.specs.declared.ending.Ending.{Ending}
 use Rattle.store_model.specs.declared.ending.Ending.TheVariants as endings
 use Rattle.store_model.specs.Lanes.{broken}
 use Rattle.store_history.specs.declared.act.Event.{Event}
+use Rattle.store_history.specs.History.{own}
 use Rattle.store_history.specs.LaneRun.{Position, begin, next_at}
 use Rattle.store_history.specs.SoFar.{Leads}
 use Rattle.core_state.specs.Remotes.{failed_reads}
 use Rattle.lane.specs.declared.port.LaneReport.{LaneReport}
+use Rattle.lane.specs.declared.port.Port.{Port}
 use Rattle.lane.specs.Entries.{has_kind}
-use Rattle.lane.specs.Ran.{AreEnds}
+use Rattle.lane.specs.AtOnce.{AreEnds}
+use Rattle.lane_threads.specs.Served.{Run}
 use Rattle.pbs_server.specs.declared.status.Status.{Status}
 use Rattle.pbs_server.specs.declared.status.Status.TheVariants as statuses
 
--- The order of one session: each entry is of lane 0, and has one count of the disk's calls beside it. An entry of kind 5 comes
+-- The order of so many sessions: each entry is of one of their lanes, and has one count of the disk's calls beside it. An entry of kind 5 comes
 -- only where the disk's count of faults rose, and as many of kind 7 at most as the remote's rose by, while this is below its greatest value.
-pub record IsOrder (order : List Entry) (calls : List ℕ) (disk disk' remote remote' : ℕ) : Type 0 where
-  pub lanes : All (λ e. e.lane ≡ 0) order
+pub record IsOrder (sessions : ℕ) (order : List Entry) (calls : List ℕ) (disk disk' remote remote' : ℕ) : Type 0 where
+  pub lanes : All (λ e. e.lane < sessions) order
   pub beside : length calls ≡ length order
   pub faults : has_kind 5 order ≡ true → Rose disk disk'
   pub reads : remote' < 2 ^ 64 - 1 → failed_reads order + remote ≤ remote'
@@ -62,13 +67,33 @@ HasNotFailed endings.Clean = Unit {0}
 HasNotFailed (endings.Broken place) = Unit {0}
 HasNotFailed e = ⊥
 
--- The causes of the statuses of a session that was served. A fault comes only where the count of that object rose.
-pub record HasCause (status : Status) (order : List Entry) (not_saved : Option DiskError) (report : LaneReport) (input : List ℕ) (events : List Event) (disk disk' remote remote' source source' sink sink' : ℕ) : Type 0 where
-  pub ok : (status ≡ statuses.Ok) ↔ ((report.ending ≡ endings.Clean) × IsCalm order not_saved)
-  pub bad_frame : (status ≡ statuses.BadFrame) ↔ (ReachesNoCommand input events × HasNotFailed report.ending × IsCalm order not_saved)
+-- ---- of one lane among them
+
+-- from this lane on, the commands of one lead to a place without a command, by its own among these events
+abbrev pub SomeReaches : ℕ → List Run → List Event → Type 0
+SomeReaches k [] events = ⊥
+SomeReaches k (x ∷ xs) events = ReachesNoCommand x.input (own k events) ⊎ SomeReaches (k + 1) xs events
+
+-- a lane ended so, and what its port counts rose in this call
+abbrev pub SomeFailed : {P : Type 0} → (P → ℕ) → Ending → List P → List P → List LaneReport → Type 0
+SomeFailed faults ending (o ∷ os) (n ∷ ns) (r ∷ rs) = ((r.ending ≡ ending) × Rose (faults o) (faults n)) ⊎ SomeFailed faults ending os ns rs
+SomeFailed faults ending _ _ _ = ⊥
+
+-- a lane ended for it, and took so many bytes
+abbrev pub SomeTooLong : List LaneReport → Type 0
+SomeTooLong [] = ⊥
+SomeTooLong (r ∷ rs) = ((r.ending ≡ endings.SourceTooLong) × (r.taken ≡ 2 ^ 40)) ⊎ SomeTooLong rs
+
+-- ---- the whole
+
+-- The causes of the statuses of sessions that were served. A fault comes only where the count of that object rose.
+pub record HasCause {S K : Type 0} (source : sources.Ghosts S) (sink : sinks.Ghosts K) (status : Status) (order : List Entry) (not_saved : Option DiskError)
+    (old new : List (Port S K)) (reports : List LaneReport) (runs : List Run) (events : List Event) (disk disk' remote remote' : ℕ) : Type 0 where
+  pub ok : (status ≡ statuses.Ok) ↔ (All (λ r. r.ending ≡ endings.Clean) reports × IsCalm order not_saved)
+  pub bad_frame : (status ≡ statuses.BadFrame) ↔ (SomeReaches 0 runs events × All (λ r. HasNotFailed r.ending) reports × IsCalm order not_saved)
   pub disk_fault : status ≡ statuses.DiskFault → Rose disk disk'
   pub remote_fault : status ≡ statuses.RemoteFault → Rose remote remote'
-  pub source_fault : status ≡ statuses.SourceFault → Rose source source'
-  pub sink_fault : status ≡ statuses.SinkFault → Rose sink sink'
+  pub source_fault : status ≡ statuses.SourceFault → SomeFailed (λ p. source.faults p.source) endings.SourceFault old new reports
+  pub sink_fault : status ≡ statuses.SinkFault → SomeFailed (λ p. sink.faults p.sink) endings.SinkFault old new reports
   pub no_memory : (status ≡ statuses.NoMemory) ↔ ((has_kind 2 order ≡ true) ⊎ (not_saved ≡ Some disks.NoMemory))
-  pub too_long : status ≡ statuses.SourceTooLong → report.taken ≡ 2 ^ 40
+  pub too_long : status ≡ statuses.SourceTooLong → SomeTooLong reports

@@ -1,11 +1,12 @@
--- What a run leaves, and that a session is answered as the plain store answers it.
+-- What a run leaves, and that its sessions are answered as the plain store answers them.
 use Rattle.disk_trait.specs.declared.disk.Disk.{Ghosts}
 use Rattle.disk_trait.specs.declared.disk.DiskError.{DiskError}
 use Rattle.disk_trait.specs.Disk.{Serves}
-use Rattle.std.specs.Prelude.{◌≡◌, ◌≢◌, ◌≤◌, ◌^◌, ◌⊎◌, ℕ, false, List, [], ◌∷◌, ◌++◌, map, length, Option, Some, None, is_some, IfSome, IsSome, IsTrue, Ok, String, string_bytes}
+use Rattle.std.specs.Prelude.{◌≡◌, ◌≢◌, ◌≤◌, ◌<◌, ◌⊎◌, ℕ, false, List, [], ◌∷◌, ◌++◌, map, length, Option, Some, None, is_some, IfSome, IsTrue, Ok, String}
 use Rattle.std.specs.declared.alloc.Global.{Global}
 use Rattle.std.specs.FinMap.{get}
-use Rattle.port_traits.specs.Bytes.{WritesCounted}
+use Rattle.port_traits.specs.declared.sink.Sink as sinks
+use Rattle.port_traits.specs.declared.source.Source as sources
 use Rattle.port_traits.specs.Readings.{Readings}
 use Rattle.disk_trait.specs.Files.{Files}
 use Rattle.store_types.specs.declared.order.Entry.{Entry}
@@ -14,16 +15,17 @@ use Rattle.store_files.specs.Archive.{Snapshot}
 use Rattle.store_files.specs.Order.{keeps_rules}
 use Rattle.store_model.specs.Clash.{NoClash, chunk_pieces}
 use Rattle.store_model.specs.Load.{load}
-use Rattle.store_model.specs.Store.{Store}
+use Rattle.store_model.specs.Store.{Store, lane_count}
 use Rattle.store_model.specs.Stands.{StandsFor}
 use Rattle.store_model.specs.Weave.{weave}
 use Rattle.store_history.specs.declared.act.Event.{Event}
 use Rattle.store_history.specs.History.{Opening, opened, after_all, entries, sent}
-use Rattle.store_history.specs.LaneRun.{text, plain_text, LaneRan}
+use Rattle.store_history.specs.LaneRun.{plain_text}
 use Rattle.store_history.specs.Legal.{IsLegal, IsTimed, moment_after}
 use Rattle.store_history.specs.Remote.{IsRemote}
 use Rattle.store_history.specs.Saved.{HoldsBook, saved_book}
 use Rattle.store_history.specs.Sweeping.{swept}
+use Rattle.store_history.specs.Woven.{AreLanes}
 use Rattle.core_state.specs.Chunks.{HoldsOnly}
 use Rattle.core_state.specs.Foreign.{IsForeign}
 use Rattle.core_state.specs.Records.{AreKept}
@@ -34,35 +36,40 @@ use Rattle.core_opening.specs.declared.opening.OpenFault.{OpenFault}
 use Rattle.core_opening.specs.Opening.{StopsOpening, opening_of}
 use Rattle.lane.specs.declared.port.LaneReport.{LaneReport}
 use Rattle.lane.specs.declared.port.Port.{Port}
-use Rattle.lane.specs.Acting.{gave_all}
-use Rattle.lane.specs.Causes.{HasCauses}
 use Rattle.lane.specs.Entries.{has_kind}
-use Rattle.lane.specs.Ran.{Took, EndsRead}
+use Rattle.lane_threads.specs.Served.{EachRan, RanAs, Run}
+use Rattle.pbs_server.specs.declared.status.Status.{Status}
 use Rattle.pbs_server.specs.declared.served.Served.{Served}
 use Rattle.pbs_server.specs.declared.status.Status.TheVariants as statuses
 use Rattle.pbs_server.specs.Acknowledged.{FoundAfter}
 use Rattle.pbs_server.specs.Causes.{IsOrder, SaveIsTold, NoDiskFault, HasCause}
 use Rattle.pbs_server.specs.Collections.{HasCollected}
-use Rattle.pbs_server.specs.Statuses.{status_by, status_of_opening}
-use Rattle.pbs_server.specs.Words.{reading}
+use Rattle.pbs_server.specs.Statuses.{endings_of, status_by, status_of_opening}
+use Rattle.pbs_server.specs.Words.{IsAsked, texts}
 
--- What a session did, on any disk: its acts are a run of the lane's program on the bytes that its source gave, its sink was given the
--- replies (a front of them where it failed), the order is that of the acts, and its moments are by the clock's readings, from a last
--- moment on.
-pub record HasTold (readings : Option Readings) (left left' taken taken' : Option (List ℕ)) (order : List Entry) (calls : List ℕ) (report : LaneReport) : Type 0 where
-  -- the bytes that the session's source gave, the acts with their answers, all replies, and their bytes
-  pub input : List ℕ
+-- the inputs of lanes, and what each told
+abbrev pub inputs_of : List Run → List (List ℕ)
+inputs_of runs = map (λ x. x.input) runs
+
+abbrev pub told_by : List Run → List (List Reply)
+told_by runs = map (λ x. x.told) runs
+
+-- What the sessions did, on any disk: there is one history, of whose acts each lane's own are a run of its program on the bytes that its source
+-- gave (`RanAs`), its sink was given the replies (a front of them where it failed), the order is that of the acts, and their moments are by the
+-- clock's readings, from a last moment on.
+pub record HasTold {S K : Type 0} (readings : Option Readings) (source : sources.Ghosts S) (sink : sinks.Ghosts K) (old new : List (Port S K)) (order : List Entry) (calls : List ℕ)
+    (reports : List LaneReport) : Type 0 where
+  -- the bytes that each session's source gave, and all its replies
+  pub runs : List Run
+  -- the acts of all lanes with their answers, in the order in which they were done
   pub events : List Event
-  pub told : List Reply
-  pub replies : List ℕ
-  pub gave : WritesCounted taken taken' 0 report.given replies (gave_all report.ending)
-  pub replies_are : replies ≡ text told
-  -- the acts are a run of the lane's program on this input, to the ending that is reported: Clean only at BYE or at the
-  -- input's end between two frames, Broken only where no command stands, at that place
-  pub ran : LaneRan input report.ending events told
-  pub took : Took report.ending left left' input
-  pub size_is : length input ≡ report.taken
-  pub rules : IsTrue (keeps_rules 1 order)
+  -- Each lane's own acts, in this order, are a run of its program on its input, to the ending that is reported: Clean only at BYE or at
+  -- the input's end between two frames, Broken only where no command stands, at that place. One that ends so was read to there, and one
+  -- whose sink failed made no act more but its end.
+  pub each : EachRan (RanAs source sink) 0 old new reports runs events
+  -- every act is of one of these lanes
+  pub lanes : AreLanes (length old) events
+  pub rules : IsTrue (keeps_rules (length old) order)
   -- the last moment as the first command came
   pub since : ℕ
   pub times : IfSome readings (λ c. IsTimed c since events)
@@ -70,8 +77,6 @@ pub record HasTold (readings : Option Readings) (left left' taken taken' : Optio
   pub kept : AreKept 0 None since events
   pub order_is : order ≡ entries events
   pub calls_are : calls ≡ map (λ e. e.calls) events
-  -- a session that ends cleanly, or where no command stands, was read to there
-  pub read_out : EndsRead report.ending input events left'
 
 -- What opening did to a disk: up to a moment a crash leaves what it could before, and from it on only files that opening takes away are gone.
 -- An honest disk lacks them all, and else it reads as before.
@@ -79,16 +84,16 @@ pub record WasOpened {D : Type 0} (d : Ghosts D) (disk opened : D) : Type 0 wher
   pub opens : Opens d disk opened
   pub cleaned : d.honest disk → Cleans (d.content disk) (d.content opened)
 
--- The plain store of whole archives, opened with what the disk is loaded as and asked by the session's commands in the returned order, gives
--- the bytes of the replies, but for the numbers in the reports of collections, and this last store. The answers are the plain store's, and a
--- collection is a sweep and reports what it did. The disk is honest still, its count of calls is not below the last entry's. Where it did not
--- fail, what it holds stands for the last store's snapshots, its chunk files are of pieces that were there or that the session sent, and what
--- stood at names that are none of the store's stands there still. Where the book was saved, it is of the last moment, and has the last touch
--- of each chunk that is there.
-pub record IsPlain (opening : Opening) (remote : Option (List Snapshot)) (since now : ℕ) (is_honest : Type 0) (input : List ℕ) (events : List Event) (told : List Reply)
-    (order : List Entry) (not_saved : Option DiskError) (report : LaneReport) (before files : Files) : Type 0 where
+-- The plain store of whole archives, opened with what the disk is loaded as and asked by the sessions' commands in the returned order, each
+-- session's in its own, gives the bytes of the replies to each, but for the numbers in the reports of collections, and this last store. The
+-- answers are the plain store's, and a collection is a sweep and reports what it did. The disk is honest still, its count of calls is not below
+-- the last entry's. Where it did not fail, what it holds stands for the last store's snapshots, its chunk files are of pieces that were there or
+-- that a session sent, and what stood at names that are none of the store's stands there still. Where the book was saved, it is of the last
+-- moment, and has the last touch of each chunk that is there.
+pub record IsPlain (opening : Opening) (remote : Option (List Snapshot)) (since now : ℕ) (is_honest : Type 0) (runs : List Run) (events : List Event)
+    (order : List Entry) (not_saved : Option DiskError) (reports : List LaneReport) (before files : Files) : Type 0 where
   pub store : Store
-  pub woven : weave (load before) remote order (input ∷ []) (report.ending ∷ []) ≡ Ok (record { store = store; replies = plain_text told ∷ [] })
+  pub woven : weave (load before) remote order (inputs_of runs) (endings_of reports) ≡ Ok (record { store = store; replies = map plain_text (told_by runs) })
   pub legal : IsLegal remote (opened opening) events
   pub collected : HasCollected remote opening events (NoDiskFault order not_saved) files
   -- the last moment of the book that was saved before
@@ -107,39 +112,38 @@ abbrev pub StopsLeave : {D : Type 0} → Ghosts D → ℕ → D → Option (List
 StopsLeave d start disk remote opening events =
     (t : ℕ) (c : Files) → start ≤ t → d.images disk t c → (found : List Snapshot) × StandsFor c found × FoundAfter remote opening events t found
 
--- What R says of the remote: an honest one stands for it. Of a session that reads none R is any list that a disk can stand for, where there is one.
+-- What R says of the remote: an honest one stands for it. Of sessions that read none R is any list that a disk can stand for, where there is one.
 abbrev pub IsBeside : {E : Type 0} → Ghosts E → Option E → Option (List Snapshot) → List Event → Type 0
 IsBeside e remote R events = ShowsRemote e remote R ⊎ (ReadNoRemote events × (is_some remote ≡ is_some R) × IsRemote R)
 
--- One session was served.
-pub record HasServed {D E S K : Type 0} (d : Ghosts D) (e : Ghosts E) (left : S → Option (List ℕ)) (source_faults : S → ℕ) (taken : K → Option (List ℕ)) (sink_faults : K → ℕ)
-    (readings : Option Readings) (disk : D) (remote : Option E) (old new : Port S K) (report : LaneReport) (result : Served D E) : Type 0 where
+-- The sessions of these ports were served at once.
+pub record HasServed {D E S K : Type 0} (d : Ghosts D) (e : Ghosts E) (source : sources.Ghosts S) (sink : sinks.Ghosts K) (readings : Option Readings) (disk : D) (remote : Option E)
+    (old new : List (Port S K)) (reports : List LaneReport) (result : Served D E) : Type 0 where
   -- on any disk
-  pub told : HasTold readings (left old.source) (left new.source) (taken old.sink) (taken new.sink) (result.order).items ((result.report).calls).items report
+  pub told : HasTold readings source sink old new (result.order).items ((result.report).calls).items reports
   -- the disk once it was opened, before the first command
   pub opened : D
   pub was_opened : WasOpened d disk opened
   -- the last moment before the first command, whatever an honest disk holds: that of the saved book
   pub since_is : d.honest disk → told.since ≡ (saved_book (d.content opened)).moment
   -- on an honest disk that stands for any list of snapshots, beside an honest remote that stands for any list, where there is one, or that no act
-  -- reads; and where no two unequal pieces have one digest of those in the chunk files at opening and those that the session sent
+  -- reads; and where no two unequal pieces have one digest of those in the chunk files at opening and those that the sessions sent
   pub plain : (L : List Snapshot) (R : Option (List Snapshot)) → IsBeside e remote R told.events → d.honest disk → StandsFor (d.content disk) L → NoClash (chunk_pieces (d.content disk) ++ sent told.events)
-      → IsPlain (opening_of d disk opened L) R told.since (d.calls result.disk) (d.honest result.disk) told.input told.events told.told
-      (result.order).items (result.report).not_saved report (d.content disk) (d.content result.disk)
+      → IsPlain (opening_of d disk opened L) R told.since (d.calls result.disk) (d.honest result.disk) told.runs told.events
+      (result.order).items (result.report).not_saved reports (d.content disk) (d.content result.disk)
   -- under the same premises, what a crash leaves from that moment of opening on, also as the book was saved
   pub stops : (L : List Snapshot) (R : Option (List Snapshot)) → IsBeside e remote R told.events → d.honest disk → StandsFor (d.content disk) L → NoClash (chunk_pieces (d.content disk) ++ sent told.events)
       → StopsLeave d ((was_opened.opens).start) result.disk R (opening_of d disk opened L) told.events
   -- on any disk
-  pub status : result.status ≡ status_by (result.order).items report.ending (result.report).not_saved
-  pub causes : HasCauses (source_faults old.source) (source_faults new.source) (sink_faults old.sink) (sink_faults new.sink) report.taken (Some report.ending)
-  pub why : HasCause result.status (result.order).items (result.report).not_saved report told.input told.events (d.faults disk) (d.faults result.disk) (faults_of e remote) (faults_of e result.remote) (source_faults old.source) (source_faults new.source) (sink_faults old.sink) (sink_faults new.sink)
+  pub status : result.status ≡ status_by (result.order).items (endings_of reports) (result.report).not_saved
+  pub why : HasCause source sink result.status (result.order).items (result.report).not_saved old new reports told.runs told.events
+      (d.faults disk) (d.faults result.disk) (faults_of e remote) (faults_of e result.remote)
   -- the remote is there where it was, honest where it was; an honest one reads as before, and a crash leaves of it what it left
   pub stays : RemoteStays e remote result.remote
   -- and where no act reads it, it is handed back as it was
   pub unread : ReadNoRemote told.events → result.remote ≡ remote
-  pub order : IsOrder (result.order).items ((result.report).calls).items (d.faults disk) (d.faults result.disk) (faults_of e remote) (faults_of e result.remote)
+  pub order : IsOrder (length old) (result.order).items ((result.report).calls).items (d.faults disk) (d.faults result.disk) (faults_of e remote) (faults_of e result.remote)
   pub save : SaveIsTold (result.order).items (result.report).not_saved (d.faults disk) (d.faults result.disk)
-  pub budget : report.taken ≤ 2 ^ 40
   pub faults : d.faults disk ≤ d.faults result.disk
   pub not_opened : (result.report).not_opened ≡ None
 
@@ -148,16 +152,20 @@ abbrev pub StopsUnserved : {D : Type 0} → Ghosts D → D → D → Option Open
 StopsUnserved d disk left None = left ≡ disk
 StopsUnserved d disk left (Some fault) = StopsOpening d disk left fault
 
--- No session was served, and none was read: the words ask for none, or the datastore was not opened.
+-- the words or the number of sessions are the cause
+abbrev pub AsksNone : Status → Type 0
+AsksNone status = (status ≡ statuses.Usage) ⊎ (status ≡ statuses.TooManyLanes)
+
+-- No session was served, and none was read: the words ask for none, or for too many, or the datastore was not opened.
 pub record HasNotServed {D E P : Type 0} (d : Ghosts D) (disk : D) (remote : Option E) (old new : List P) (result : Served D E) : Type 0 where
-  pub status : (result.status ≡ statuses.Usage) ⊎ ((result.status ≡ statuses.NoMemory) ⊎ (result.status ≡ statuses.DiskFault))
+  pub status : AsksNone result.status ⊎ ((result.status ≡ statuses.NoMemory) ⊎ (result.status ≡ statuses.DiskFault))
   pub order : (result.order).items ≡ []
   pub calls : ((result.report).calls).items ≡ []
   pub not_saved : (result.report).not_saved ≡ None
   pub ports : new ≡ old
   pub remote_is : result.remote ≡ remote
-  -- where the words ask for none, nothing was done
-  pub disk_is : result.status ≡ statuses.Usage → result.disk ≡ disk
+  -- where the words ask for none, or for too many, nothing was done
+  pub disk_is : AsksNone result.status → result.disk ≡ disk
   -- on any disk, which is said to have failed only where its count of faults rose
   pub serves : Serves d.honest d.faults disk result.disk (result.status ≡ statuses.DiskFault)
   -- what a crash leaves
@@ -166,19 +174,16 @@ pub record HasNotServed {D E P : Type 0} (d : Ghosts D) (disk : D) (remote : Opt
   -- an honest disk that did not fail reads as before, without some of these files
   pub left : d.honest disk → result.status ≢ statuses.DiskFault → MayClean (d.content disk) (d.content disk) (d.content result.disk)
 
--- what was served is told by the reports
-abbrev pub Leaves : {D E S K : Type 0} → Ghosts D → Ghosts E → (S → Option (List ℕ)) → (S → ℕ) → (K → Option (List ℕ)) → (K → ℕ)
-    → Option Readings → D → Option E → Served D E → List (Port S K) → List (Port S K) → List LaneReport → Type 0
-Leaves d e left source_faults taken sink_faults readings disk remote result (old ∷ []) (new ∷ []) (report ∷ []) =
-    HasServed d e left source_faults taken sink_faults readings disk remote old new report result
-Leaves d e left source_faults taken sink_faults readings disk remote result old new [] =
-    HasNotServed d disk remote old new result
-Leaves d e left source_faults taken sink_faults readings disk remote result old new _ = ⊥
-
--- the words have a reading, and ask for as many sessions as there are ports
-abbrev pub IsAsked : List (List ℕ) → ℕ → Type 0
-IsAsked words ports = IsSome (reading words) × (ports ≡ 1)
+-- what was served is told by the reports, one of each port
+abbrev pub Leaves : {D E S K : Type 0} → Ghosts D → Ghosts E → sources.Ghosts S → sinks.Ghosts K → Option Readings → D → Option E → Served D E
+    → List (Port S K) → List (Port S K) → List LaneReport → Type 0
+Leaves d e source sink readings disk remote result old new [] = HasNotServed d disk remote old new result
+Leaves d e source sink readings disk remote result old new (report ∷ reports) = HasServed d e source sink readings disk remote old new (report ∷ reports) result
 
 -- the words have no reading, or ask for another number of sessions than there are ports
 abbrev pub IsMisused : List (String Global) → ℕ → Type 0
-IsMisused words ports = IsAsked (map string_bytes words) ports → ⊥
+IsMisused words ports = IsAsked (texts words) ports → ⊥
+
+-- they ask for as many sessions as there are ports, and these are more than there are lanes
+abbrev pub AsksTooMany : List (String Global) → ℕ → Type 0
+AsksTooMany words ports = IsAsked (texts words) ports × (lane_count < ports)

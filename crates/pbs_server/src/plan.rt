@@ -1,7 +1,7 @@
 //! The words of the command line.
 
-ghost use Rattle.std.specs.Prelude.{◌≡◌, map, string_bytes, option_map, IfOk};
-ghost use Rattle.pbs_server.specs.Words.{IsCopyOf, IsPlan, IsReadBy, beside, is_remote as names_remote, is_value, plainly, reading, said_in, with_option};
+ghost use Rattle.std.specs.Prelude.{◌≡◌, ◌↔◌, ◌&&◌, ◌++◌, is_some, length, position, string_bytes, IfOk, IfSome, IsSome, IsTrue, OnOk};
+ghost use Rattle.pbs_server.specs.Words.{IsAround, IsAsked, IsCopyOf, IsPlan, IsReadBy, IsRunOf, are_values, is_remote as names_remote, is_value, is_value_if_any, lent_text, reading, said_in, texts, values_of};
 
 use std::alloc::{AllocError, Global};
 use thiserror::Error;
@@ -9,8 +9,8 @@ use thiserror::Error;
 /// What the words ask for.
 #[derive(Debug, Drop)]
 pub enum Plan {
-    /// The sessions are served on the datastore in the folder `root`, beside that in the folder `remote`, if any. The replies to each go to a file of its name with
-    /// `.out` behind it.
+    /// The sessions are served at once on the datastore in the folder `root`, beside that in the folder `remote`, if any. The
+    /// replies to each go to a file of its name with `.out` behind it.
     Run {
         root: String,
         remote: Option<String>,
@@ -28,12 +28,12 @@ pub enum WordFault {
     NoMemory,
 }
 
-/// A root, the remote's where there is one, and a session, as they stand among the words.
+/// The words of a run: those before the option of a remote, what it names, and those behind that.
 #[derive(Clone, Copy)]
-pub struct Run<'a> {
-    pub root: &'a str,
-    pub remote: Option<&'a str>,
-    pub session: &'a str,
+struct Run<'a> {
+    front: &'a [String],
+    remote: Option<&'a str>,
+    back: &'a [String],
 }
 
 /// The word is no option: it begins with no dash, or is one dash alone.
@@ -43,32 +43,11 @@ fn names_value(word: &str) -> bool
     word == "-" || !word.starts_with('-')
 }
 
-/// A root and a session, which are no options.
-fn plain_run<'a>(root: &'a str, session: &'a str) -> Option<Run<'a>>
-    ensures { option_map (λ r. said_in r) result ≡ plainly root.now session.now }
+/// None of the words is an option.
+fn name_values(words: &[String]) -> bool
+    ensures { result ≡ are_values words.now }
 {
-    if !names_value(root) || !names_value(session) {
-        return None;
-    }
-    Some(Run {
-        root,
-        remote: None,
-        session,
-    })
-}
-
-/// And the root of a remote.
-fn remote_run<'a>(remote: &'a str, root: &'a str, session: &'a str) -> Option<Run<'a>>
-    ensures { option_map (λ r. said_in r) result ≡ beside remote.now root.now session.now }
-{
-    if !names_value(remote) {
-        return None;
-    }
-    let run = plain_run(root, session)?;
-    Some(Run {
-        remote: Some(remote),
-        ..run
-    })
+    words.iter().all(|word| names_value(word.as_str()))
 }
 
 /// The word is the option of a remote, whose root follows.
@@ -78,34 +57,96 @@ fn is_remote(word: &str) -> bool
     word == "--remote"
 }
 
-/// The words behind `run`, with an option among them.
-fn read_option<'a>(a: &'a str, b: &'a str, c: &'a str, d: &'a str) -> Option<Run<'a>>
-    ensures { option_map (λ r. said_in r) result ≡ with_option a.now b.now c.now d.now }
+/// The place of the first option of a remote.
+fn option_at(words: &[String]) -> Option<usize>
+    ensures { result ≡ position (λ w. names_remote (string_bytes w)) words.now }
 {
-    if is_remote(a) {
-        return remote_run(b, c, d);
-    }
-    if is_remote(b) {
-        return remote_run(c, a, d);
-    }
-    if is_remote(c) {
-        return remote_run(d, a, b);
-    }
-    None
+    words.iter().position(|word| is_remote(word.as_str()))
 }
 
-/// Reads `run ROOT SESSION`, with `--remote ROOT2` before, between or behind these two. It takes no memory.
-pub fn read_run(words: &[String]) -> Option<Run<'_>>
-    ensures { option_map (λ r. said_in r) result ≡ reading (map string_bytes words.now) }
+/// The option names no option, where it stands.
+fn names_value_if_any(word: Option<&str>) -> bool
+    ensures { result ≡ is_value_if_any (lent_text word.entry) }
 {
-    match words {
-        [command, root, session] if command.as_str() == "run" => {
-            plain_run(root.as_str(), session.as_str())
-        }
-        [command, a, b, c, d] if command.as_str() == "run" => {
-            read_option(a.as_str(), b.as_str(), c.as_str(), d.as_str())
-        }
-        _ => None,
+    match word {
+        Some(word) => names_value(word),
+        None => true,
+    }
+}
+
+impl Run<'_> {
+    /// The words are a root and sessions, and the option names another root.
+    fn has_reading(&self) -> bool
+        ensures { result ≡ is_some (said_in self.now) }
+    {
+        self.has_values() && self.values() > 1
+    }
+
+    /// None of the words is an option, nor what the option names.
+    fn has_values(&self) -> bool
+        ensures { result ≡ (is_value_if_any (lent_text self.now.remote)
+            && are_values self.now.front.now && are_values self.now.back.now) }
+    {
+        names_value_if_any(self.remote) && name_values(self.front) && name_values(self.back)
+    }
+
+    /// How many words are no option.
+    fn values(&self) -> usize
+        ensures { result ≡ length (values_of self.now) }
+    {
+        self.front.len() + self.back.len()
+    }
+
+    /// How many sessions are to be served.
+    fn sessions(&self) -> usize
+        ensures { IfSome (said_in self.now) (λ said. result ≡ length said.sessions) }
+    {
+        self.values().saturating_sub(1)
+    }
+}
+
+/// The words around the option of a remote, if it is among them.
+fn around(words: &[String]) -> Option<Run<'_>>
+    ensures { IsAround (texts words.now) result }
+{
+    let at = option_at(words).unwrap_or(words.len());
+    let (front, rest) = words.split_at(at);
+    match rest {
+        [] => Some(Run {
+            front,
+            remote: None,
+            back: rest,
+        }),
+        [_, remote, back @ ..] => Some(Run {
+            front,
+            remote: Some(remote.as_str()),
+            back,
+        }),
+        [_] => None,
+    }
+}
+
+/// Reads `run ROOT SESSION..`, with `--remote ROOT2` before, between or behind these. It takes no memory.
+fn read_run(words: &[String]) -> Option<Run<'_>>
+    ensures { IsRunOf (reading (texts words.now)) result }
+{
+    let [command, words @ ..] = words else {
+        return None;
+    };
+    if command.as_str() != "run" {
+        return None;
+    }
+    let run = around(words)?;
+    if run.has_reading() { Some(run) } else { None }
+}
+
+/// The words ask for as many sessions as there are ports. It takes no memory.
+pub fn ask_for(words: &[String], ports: usize) -> bool
+    ensures { IsTrue result ↔ IsAsked (texts words.now) ports }
+{
+    match read_run(words) {
+        Some(run) => run.sessions() == ports,
+        None => false,
     }
 }
 
@@ -119,14 +160,26 @@ fn copied(alloc: Global, text: Option<&str>) -> Result<Option<String>, AllocErro
     }
 }
 
+/// Puts texts of their own behind others.
+fn push_copies(alloc: Global, copies: &mut Vec<String>, words: &[String]) -> Result<(), AllocError>
+    ensures { OnOk result (texts copies.new.items ≡ texts copies.old.items ++ texts words.now) }
+{
+    for word in words {
+        copies.push(String::from_str(alloc, word.as_str())?)?;
+    }
+    Ok(())
+}
+
 /// The plan with texts of its own.
 fn owned(alloc: Global, run: &Run<'_>) -> Result<Plan, AllocError>
-    ensures { IfOk result (IsPlan (said_in run.now)) }
+    requires { IsSome (said_in run.now) }
+    ensures { IfOk result (λ plan. IfSome (said_in run.now) (λ said. IsPlan said plan)) }
 {
-    let root = String::from_str(alloc, run.root)?;
+    let mut sessions = Vec::new(alloc);
+    push_copies(alloc, &mut sessions, run.front)?;
+    push_copies(alloc, &mut sessions, run.back)?;
+    let root = sessions.remove(0);
     let remote = copied(alloc, run.remote)?;
-    let mut sessions = Vec::with_capacity(alloc, 1)?;
-    sessions.push(String::from_str(alloc, run.session)?)?;
     Ok(Plan::Run {
         root,
         remote,
@@ -135,10 +188,10 @@ fn owned(alloc: Global, run: &Run<'_>) -> Result<Plan, AllocError>
     })
 }
 
-/// Reads the words that follow the program's name: `run ROOT [--remote ROOT2] SESSION`. No other words have a reading yet. A
-/// word that begins with a dash, and isn't a dash alone, is an option, and there is no other.
+/// Reads the words that follow the program's name: `run ROOT [--remote ROOT2] SESSION..`, the option at any place behind `run`.
+/// No other words have a reading yet. A word that begins with a dash, and isn't a dash alone, is an option, and there is no other.
 pub fn plan_words(alloc: Global, words: &[String]) -> Result<Plan, WordFault>
-    ensures { IsReadBy (reading (map string_bytes words.now)) result }
+    ensures { IsReadBy (reading (texts words.now)) result }
 {
     let Some(run) = read_run(words) else {
         return Err(WordFault::NoReading);

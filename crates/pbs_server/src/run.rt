@@ -1,8 +1,8 @@
-//! A run of one lane.
+//! A run of the sessions that were handed in.
 
-ghost use Rattle.std.specs.Prelude.{◌≡◌, ◌≢◌, ◌∷◌, [], None};
-ghost use Rattle.pbs_server.specs.Headline.{Leaves};
-ghost use Rattle.pbs_server.specs.Statuses.{status_by};
+ghost use Rattle.std.specs.Prelude.{◌≡◌, ◌≤◌, ◌+◌, ◌++◌, [], None, Some, length, vec_capacity, vec_len};
+ghost use Rattle.pbs_server.specs.Headline.{AsksNone, Leaves};
+ghost use Rattle.pbs_server.specs.Statuses.{endings_of, status_by};
 
 use crate::saving::save;
 use crate::served::{RunReport, Served};
@@ -10,9 +10,12 @@ use crate::status::{Status, by_opening, status_of};
 use core_opening::{NotOpened, OpenFault, open_on};
 use core_state::{Core, CoreParts};
 use disk_trait::{Disk, DiskError};
-use lane::{Ending, LaneReport, Port, run_alone};
+use lane::{LaneReport, Port};
+use lane_threads::serve_all;
 use port_traits::{Clock, Gate, Sink, Source};
 use std::alloc::Global;
+use std::marker::Brand;
+use std::sync::Wait;
 use std::thread::Threads;
 
 /// No lane was served.
@@ -52,10 +55,10 @@ pub fn not_served<D, E>(
 fn handed_back<D, E, C: Drop>(
     core: Core<D, E, C>,
     lanes: Vec<LaneReport>,
-    ending: Ending,
     not_saved: Option<DiskError>,
 ) -> Served<D, E>
-    ensures status { result.status ≡ status_by core.journal.entries.items ending not_saved }
+    ensures status { result.status
+        ≡ status_by core.journal.entries.items (endings_of lanes.items) not_saved }
     ensures order { result.order ≡ core.journal.entries }
     ensures lanes { result.report.lanes ≡ lanes }
     ensures calls { result.report.calls ≡ core.journal.calls }
@@ -66,7 +69,7 @@ fn handed_back<D, E, C: Drop>(
     ensures remote { result.remote ≡ core.remote }
 {
     let parts = core.parts();
-    let status = status_of(&parts.order, ending, not_saved);
+    let status = status_of(&parts.order, &lanes, not_saved);
     let CoreParts {
         disk,
         remote,
@@ -89,39 +92,70 @@ fn handed_back<D, E, C: Drop>(
     }
 }
 
-/// Opens the datastore, serves one session on it, and saves the book of touches.
-pub fn serve_alone<
-    R: Threads + Sync,
-    D: Disk,
-    E: Disk,
-    C: Clock + Drop,
-    S: Source,
-    K: Sink,
-    G: Gate,
+/// No lane was served, since there was no memory for a turn.
+fn not_turned<D, E, C: Drop>(alloc: Global, core: Core<D, E, C>) -> Served<D, E>
+    ensures status { result.status ≡ Status.NoMemory }
+    ensures not_opened { result.report.not_opened ≡ Some OpenFault.NoMemory }
+    ensures not_saved { result.report.not_saved ≡ None }
+    ensures order { result.order.items ≡ [] }
+    ensures lanes { result.report.lanes.items ≡ [] }
+    ensures calls { result.report.calls.items ≡ [] }
+    ensures unequal { result.report.unequal ≡ None }
+    ensures disk { result.disk ≡ core.parts.disk }
+    ensures remote { result.remote ≡ core.remote }
+{
+    let CoreParts { disk, remote, .. } = core.parts();
+    let cause = OpenFault::NoMemory;
+    not_served(alloc, by_opening(cause), Some(cause), disk, remote)
+}
+
+/// Puts reports behind others, where there is room for them.
+fn push_all(lanes: &mut Vec<LaneReport>, reports: &[LaneReport])
+    requires { vec_len lanes.old + length reports.now ≤ vec_capacity lanes.old }
+    ensures { lanes.new.items ≡ lanes.old.items ++ reports.now }
+{
+    let Ok(()) = lanes.extend_from_slice(reports) else {
+        unreachable!()
+    };
+}
+
+/// Opens the datastore, serves the sessions on it, all at once, and saves the book of touches.
+pub fn serve_sessions<
+    R: Threads + Wait + Sync,
+    D: Disk + Send,
+    E: Disk + Send,
+    C: Clock + Drop + Send,
+    S: Source + Send,
+    K: Sink + Send,
+    G: Gate + Sync,
 >(
     rt: &R,
     alloc: Global,
-    port: &mut Port<S, K>,
+    ports: &mut [Port<S, K>],
     disk: D,
     remote: Option<E>,
     clock: C,
     gate: &G,
 ) -> Served<D, E>
-    ensures leaves { Leaves D.Disk E.Disk S.left S.faults K.taken K.faults (C.readings clock)
-        disk remote result (port.old ∷ []) (port.new ∷ []) result.report.lanes.items }
-    ensures status { result.status ≢ Status.Usage }
+    requires some { 1 ≤ length ports.old }
+    requires few { length ports.old ≤ 64 }
+    ensures leaves { Leaves D.Disk E.Disk S.Source K.Sink (C.readings clock)
+        disk remote result ports.old ports.new result.report.lanes.items }
+    ensures status { AsksNone result.status → ⊥ }
     ensures unequal { result.report.unequal ≡ None }
 {
-    let Ok(mut reports) = Vec::with_capacity(alloc, 1) else {
+    let Ok(mut lanes) = Vec::with_capacity(alloc, ports.len()) else {
         return not_served(alloc, Status::NoMemory, None, disk, remote);
     };
     match open_on(alloc, disk, remote, clock) {
-        Ok(mut core) => {
-            let report = run_alone(&mut core, rt, alloc, 0, port, gate);
-            reports.push_reserved(report);
-            let not_saved = save(&mut core, alloc);
-            handed_back(core, reports, report.ending, not_saved)
-        }
+        Ok(core) => match serve_all::<R, D, E, C, S, K, G, Brand>(rt, alloc, core, ports, gate) {
+            Ok((mut core, reports)) => {
+                push_all(&mut lanes, reports.as_slice());
+                let not_saved = save(&mut core, alloc);
+                handed_back(core, lanes, not_saved)
+            }
+            Err(core) => not_turned(alloc, core),
+        },
         Err(not_opened) => {
             let NotOpened {
                 cause,

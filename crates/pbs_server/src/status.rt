@@ -2,11 +2,11 @@
 
 ghost use Rattle.std.specs.Prelude.{◌≡◌};
 ghost use Rattle.lane.specs.Entries.{has_kind};
-ghost use Rattle.pbs_server.specs.Statuses.{is_failed, is_wanting, status_by, status_of_ending, status_of_opening};
+ghost use Rattle.pbs_server.specs.Statuses.{endings_of, is_failed, is_wanting, some_tells, status_by, status_of_ending, status_of_endings, status_of_opening};
 
 use core_opening::OpenFault;
 use disk_trait::DiskError;
-use lane::Ending;
+use lane::{Ending, LaneReport};
 use store_types::Entry;
 
 /// How a run ended. The program's exit status is its number.
@@ -90,7 +90,7 @@ fn has_entry(order: &[Entry], kind: u8) -> bool
     order.iter().any(|entry| entry.kind == kind)
 }
 
-/// By the lane's ending alone.
+/// Of a run of one lane, by its ending alone.
 fn by_ending(ending: Ending) -> Status
     ensures { result ≡ status_of_ending ending }
 {
@@ -102,6 +102,35 @@ fn by_ending(ending: Ending) -> Status
         Ending::SourceTooLong => Status::SourceTooLong,
         Ending::NoMemory => Status::NoMemory,
     }
+}
+
+/// A lane's ending is of this status.
+fn some_tell(lanes: &[LaneReport], status: Status) -> bool
+    ensures { result ≡ some_tells status (endings_of lanes.now) }
+{
+    let number = status.number();
+    lanes
+        .iter()
+        .any(|lane| by_ending(lane.ending).number() == number)
+}
+
+/// By the lanes' endings alone: the first of these of which one tells.
+fn by_endings(lanes: &[LaneReport]) -> Status
+    ensures { result ≡ status_of_endings (endings_of lanes.now) }
+{
+    if some_tell(lanes, Status::SourceFault) {
+        return Status::SourceFault;
+    }
+    if some_tell(lanes, Status::SinkFault) {
+        return Status::SinkFault;
+    }
+    if some_tell(lanes, Status::SourceTooLong) {
+        return Status::SourceTooLong;
+    }
+    if some_tell(lanes, Status::BadFrame) {
+        return Status::BadFrame;
+    }
+    Status::Ok
 }
 
 /// By why the datastore was not opened.
@@ -129,12 +158,12 @@ fn has_failed(not_saved: Option<DiskError>) -> bool
     matches!(not_saved, Some(DiskError::Failed))
 }
 
-/// The status of a run of one lane: want of memory comes first, then a fault of the disk, then one of the remote, then how the
-/// lane ended. What the saving of the book came to counts as what an act came to.
-pub fn status_of(order: &[Entry], ending: Ending, not_saved: Option<DiskError>) -> Status
-    ensures { result ≡ status_by order.now ending not_saved }
+/// The status of a run: want of memory comes first, then a fault of the disk, then one of the remote, then how the lanes
+/// ended. What the saving of the book came to counts as what an act came to.
+pub fn status_of(order: &[Entry], lanes: &[LaneReport], not_saved: Option<DiskError>) -> Status
+    ensures { result ≡ status_by order.now (endings_of lanes.now) not_saved }
 {
-    if has_entry(order, 2) || ending == Ending::NoMemory || wants_memory(not_saved) {
+    if has_entry(order, 2) || some_tell(lanes, Status::NoMemory) || wants_memory(not_saved) {
         return Status::NoMemory;
     }
     if has_entry(order, 5) || has_failed(not_saved) {
@@ -143,5 +172,5 @@ pub fn status_of(order: &[Entry], ending: Ending, not_saved: Option<DiskError>) 
     if has_entry(order, 7) {
         return Status::RemoteFault;
     }
-    by_ending(ending)
+    by_endings(lanes)
 }

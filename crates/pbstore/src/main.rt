@@ -1,5 +1,5 @@
-//! The program `pbstore`: serves the session that its words name on a datastore folder, beside another that snapshots may be
-//! pulled from. The replies to the session in a file go to the file of its name with `.out` behind it.
+//! The program `pbstore`: serves the sessions that its words name, all at once, on a datastore folder, beside another that snapshots
+//! may be pulled from. The replies to the session in a file go to the file of its name with `.out` behind it.
 #![tactic(auto)]
 
 use file_disk::{AtOnce, FileDisk};
@@ -10,6 +10,7 @@ use std::alloc::{AllocError, Global};
 use std::fs::File;
 use std::io::ErrorKind;
 use std::process::ExitCode;
+use std::sync::Wait;
 use std::thread::Threads;
 use std::{env, io};
 
@@ -57,7 +58,7 @@ fn ports_of(
 }
 
 /// The datastore folder that snapshots are pulled from.
-fn remote_of<'a, R: Threads + Sync>(
+fn remote_of<'a, R: Threads + Wait + Sync>(
     rt: HostRuntime,
     threads: &'a R,
     alloc: Global,
@@ -88,7 +89,7 @@ fn parts_of(plan: &Plan) -> (&str, Option<&str>, &[String]) {
 }
 
 /// Makes the real objects that the words name, and serves.
-fn serve_words<R: Threads + Sync>(
+fn serve_words<R: Threads + Wait + Sync>(
     rt: HostRuntime,
     threads: &R,
     alloc: Global,
@@ -119,7 +120,7 @@ fn serve_words<R: Threads + Sync>(
     Ok(served.status)
 }
 
-fn run<R: Threads + Sync>(rt: HostRuntime, threads: &R) -> Status {
+fn run<R: Threads + Wait + Sync>(rt: HostRuntime, threads: &R) -> Status {
     let words = match words_of(rt) {
         Ok(words) => words,
         Err(status) => return status,

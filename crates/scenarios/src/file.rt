@@ -3,6 +3,7 @@
 use crate::stage::{Kept, Stage};
 use std::alloc::Global;
 use std::io;
+use std::sync::Wait;
 use std::thread::Threads;
 
 /// How many scenarios there were, and how many of them differ.
@@ -13,7 +14,7 @@ pub struct Count {
 }
 
 /// Plays the scenarios of a file, and prints the first line of each that does not hold. A file without any differs too.
-pub fn play_file<P: Print, R: Threads + Sync>(
+pub fn play_file<P: Print, R: Threads + Wait + Sync>(
     rt: &P,
     threads: &R,
     alloc: Global,

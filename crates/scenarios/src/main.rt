@@ -15,11 +15,12 @@ mod words;
 
 use file::{Count, play_file};
 use std::process::ExitCode;
+use std::sync::Wait;
 use std::thread::Threads;
 use std::{env, fs, io};
 
 /// Plays the files that the arguments name.
-fn play_all<R: Threads + Sync>(rt: HostRuntime, threads: &R) -> io::Result<Count> {
+fn play_all<R: Threads + Wait + Sync>(rt: HostRuntime, threads: &R) -> io::Result<Count> {
     let mut count = Count::default();
     for name in env::args(&rt)?.skip(1) {
         let name = name.as_str();

@@ -10,6 +10,7 @@ use lane::{Ending, Port};
 use pbs_server::{RunReport, Served, Status, serve};
 use port_traits::{FreeGate, MemSink};
 use std::alloc::{AllocError, Global};
+use std::sync::Wait;
 use std::thread::Threads;
 use store_types::Entry;
 
@@ -65,7 +66,7 @@ fn words(alloc: Global) -> Result<Vec<String>, AllocError> {
 }
 
 /// Serves it on disks that fail as they should, and gives what it told, too.
-fn serve_on<R: Threads + Sync>(
+fn serve_on<R: Threads + Wait + Sync>(
     rt: &R,
     alloc: Global,
     plan: &Plan,
@@ -155,7 +156,7 @@ fn ended(alloc: Global, served: &Over, sent: usize) -> Result<String, AllocError
 }
 
 /// Serves the session that is planned. The remote is not written.
-pub fn serve_plan<R: Threads + Sync>(
+pub fn serve_plan<R: Threads + Wait + Sync>(
     rt: &R,
     alloc: Global,
     plan: &Plan,

@@ -10,6 +10,7 @@ use crate::words::{number_of, split};
 use disk_trait::{Disk, MemoryDisk};
 use std::alloc::{AllocError, Global};
 use std::mem;
+use std::sync::Wait;
 use std::thread::Threads;
 
 /// Disks that scenarios left for later ones, by name.
@@ -56,7 +57,7 @@ impl Stage {
     }
 
     /// Does what a line says, or tests it.
-    pub fn obey<R: Threads + Sync>(
+    pub fn obey<R: Threads + Wait + Sync>(
         &mut self,
         rt: &R,
         kept: &mut Kept,
@@ -198,7 +199,7 @@ impl Stage {
     }
 
     /// Stops the session that is planned at each of its calls.
-    fn sweep<R: Threads + Sync>(&mut self, rt: &R, calls: u64) -> Result<(), Differs> {
+    fn sweep<R: Threads + Wait + Sync>(&mut self, rt: &R, calls: u64) -> Result<(), Differs> {
         let alloc = self.alloc;
         let mut plan = mem::replace(&mut self.plan, Plan::new(alloc));
         let mut sweep = mem::replace(&mut self.sweep, Sweep::new(alloc));
@@ -208,7 +209,7 @@ impl Stage {
     }
 
     /// Serves the session that is planned: on the datastore beside the remote, if any; on the remote alone.
-    fn serve<R: Threads + Sync>(&mut self, rt: &R, ended: &str) -> Result<(), Differs> {
+    fn serve<R: Threads + Wait + Sync>(&mut self, rt: &R, ended: &str) -> Result<(), Differs> {
         let plan = mem::replace(&mut self.plan, Plan::new(self.alloc));
         let disk = mem::replace(&mut self.disk, MemoryDisk::new(self.alloc));
         let other = self.other.take();

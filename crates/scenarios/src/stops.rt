@@ -9,6 +9,7 @@ use crate::session::{Disks, Left, copy_of, serve_plan};
 use crate::words::{number_of, same, split, text_of};
 use disk_trait::{Disk, MemoryDisk};
 use std::alloc::{AllocError, Global};
+use std::sync::Wait;
 use std::thread::Threads;
 
 /// What a later session is told, and the names of the files beside chunks, in byte order; from how many acts that were done on, and
@@ -185,7 +186,7 @@ impl Sweep {
     }
 
     /// A later session finds one of the states. Beside a remote it pulls what is left.
-    fn try_later<R: Threads + Sync>(
+    fn try_later<R: Threads + Wait + Sync>(
         &mut self,
         rt: &R,
         alloc: Global,
@@ -208,7 +209,7 @@ impl Sweep {
     }
 
     /// What a crash of each kind leaves.
-    fn try_crashes<R: Threads + Sync>(
+    fn try_crashes<R: Threads + Wait + Sync>(
         &mut self,
         rt: &R,
         alloc: Global,
@@ -225,7 +226,7 @@ impl Sweep {
     }
 
     /// The session fails as it is planned, where so many acts are done if it does not; or nothing of it fails. Gives what it did.
-    fn try_failing<R: Threads + Sync>(
+    fn try_failing<R: Threads + Wait + Sync>(
         &mut self,
         rt: &R,
         alloc: Global,
@@ -248,7 +249,7 @@ impl Sweep {
     }
 
     /// The call with this number fails, and then the session stops before it.
-    fn try_call<R: Threads + Sync>(
+    fn try_call<R: Threads + Wait + Sync>(
         &mut self,
         rt: &R,
         alloc: Global,
@@ -267,7 +268,7 @@ impl Sweep {
     }
 
     /// Nothing fails where the call behind so many is to, and each of these fails.
-    pub fn try_calls<R: Threads + Sync>(
+    pub fn try_calls<R: Threads + Wait + Sync>(
         &mut self,
         rt: &R,
         alloc: Global,

@@ -1,9 +1,23 @@
-//! The tests of whole sessions: by `serve`, and on one lane.
+//! The tests of whole sessions: by `serve`, and on lanes, alone and at once; and of two seats of one store.
 #![tactic(auto)]
 
 #[cfg(test)]
 mod asserts;
 #[cfg(test)]
+mod at_once;
+#[cfg(test)]
+mod gates;
+#[cfg(test)]
+mod hashing;
+#[cfg(test)]
 mod lanes;
 #[cfg(test)]
+mod seats;
+#[cfg(test)]
 mod serving;
+#[cfg(test)]
+mod stores;
+#[cfg(test)]
+mod talks;
+#[cfg(test)]
+mod watch;

@@ -1,8 +1,10 @@
 //! Sessions by `serve` on datastores in memory. The bytes are made by `tests/make-tables`.
 
-mod long;
+pub(crate) mod gated;
+pub(crate) mod long;
 mod memory;
 mod port_faults;
+mod together;
 mod words;
 
 use crate::asserts::{same, same_numbers};
@@ -12,15 +14,40 @@ use pbs_server::{Served, Status, serve};
 use port_traits::{FreeGate, MemSink, MemSource, SetClock};
 use std::alloc::{AllocError, Global};
 use std::process::Abort;
+use std::sync::Wait;
 use std::test::Fail;
 use std::thread::Threads;
 
 /// How a session was served.
 type Run = Served<MemoryDisk, MemoryDisk>;
 
-/// Serves a session on a disk beside a remote. Its replies are in the port's sink.
+/// Serves what the words ask for on a disk beside a remote. The replies to a session are in its port's sink.
+fn run_words(
+    rt: &(impl Threads + Wait + Sync),
+    alloc: Global,
+    words: &[String],
+    ports: &mut [Port<MemSource, MemSink>],
+    disk: MemoryDisk,
+    remote: Option<MemoryDisk>,
+    clock: SetClock,
+) -> Run {
+    let mut journal = empty_sink(alloc);
+    serve(
+        rt,
+        alloc,
+        words,
+        ports,
+        disk,
+        remote,
+        clock,
+        &mut journal,
+        &FreeGate,
+    )
+}
+
+/// Serves a session on a disk beside a remote.
 fn run(
-    rt: &(impl Threads + Sync),
+    rt: &(impl Threads + Wait + Sync),
     alloc: Global,
     ports: &mut [Port<MemSource, MemSink>],
     disk: MemoryDisk,
@@ -28,34 +55,12 @@ fn run(
     clock: SetClock,
 ) -> Result<Run, AllocError> {
     let words = words::words_of(alloc, &["run", "root", "session"])?;
-    let mut journal = empty_sink(alloc);
-    Ok(serve(
-        rt,
-        alloc,
-        &words,
-        ports,
-        disk,
-        remote,
-        clock,
-        &mut journal,
-        &FreeGate,
-    ))
+    Ok(run_words(rt, alloc, &words, ports, disk, remote, clock))
 }
 
 /// A clock that stands.
 fn standing(alloc: Global) -> SetClock {
     SetClock::new(Vec::new(alloc), 1_600_000_000)
-}
-
-/// The one port of a session.
-fn one(
-    alloc: Global,
-    source: MemSource,
-    sink: MemSink,
-) -> Result<Vec<Port<MemSource, MemSink>>, AllocError> {
-    let mut ports = Vec::new(alloc);
-    ports.push(Port { source, sink })?;
-    Ok(ports)
 }
 
 /// A source of these bytes: a first read takes up to five of them, and the next all.
@@ -67,25 +72,37 @@ fn empty_sink(alloc: Global) -> MemSink {
     MemSink::new(alloc, Vec::new(alloc))
 }
 
-/// What was told to the one port.
-fn told_to(alloc: Global, mut ports: Vec<Port<MemSource, MemSink>>) -> Vec<u8> {
-    match ports.pop() {
-        Some(port) => port.sink.into_bytes(),
-        None => Vec::new(alloc),
-    }
+/// The port of a session of these bytes, all of which is told.
+fn port_of(alloc: Global, sent: &[u8]) -> Result<Port<MemSource, MemSink>, AllocError> {
+    let source = source_of(alloc, sent)?;
+    let sink = empty_sink(alloc);
+    Ok(Port { source, sink })
 }
 
-/// Serves a session of these bytes at once, by a clock that stands: what it is told, and how it was served.
+/// What became of a session: its sink, and how it was served.
+#[derive(Drop)]
+struct Ran {
+    sink: MemSink,
+    served: Run,
+}
+
+/// Serves one session.
 fn session(
-    rt: &(impl Threads + Sync),
+    rt: &(impl Threads + Wait + Sync),
     alloc: Global,
-    sent: &[u8],
+    port: Port<MemSource, MemSink>,
     disk: MemoryDisk,
     remote: Option<MemoryDisk>,
-) -> Result<(Vec<u8>, Run), AllocError> {
-    let mut ports = one(alloc, source_of(alloc, sent)?, empty_sink(alloc))?;
-    let served = run(rt, alloc, &mut ports, disk, remote, standing(alloc))?;
-    Ok((told_to(alloc, ports), served))
+    clock: SetClock,
+) -> Result<Ran, AllocError> {
+    let mut ports = Vec::new(alloc);
+    ports.push(port)?;
+    let served = run(rt, alloc, &mut ports, disk, remote, clock)?;
+    let sink = match ports.pop() {
+        Some(port) => port.sink,
+        None => empty_sink(alloc),
+    };
+    Ok(Ran { sink, served })
 }
 
 /// The run has this status, and its one lane this report.

@@ -1,3 +1,6 @@
 mod Damages
 mod Asking
 mod Answering
+pub mod Reserving
+mod Coming
+mod Lives

@@ -1,2 +1,4 @@
 pub mod Asked
 pub mod AnsweredBy
+pub mod Comes
+pub mod Applied

@@ -5,7 +5,7 @@ use disk_trait::DiskError;
 
 /// A BLOB of one data byte more than a blob may have, and a CHUNK of as many, each behind OPEN_WRITER: what stands in front of the zeros, how
 /// many these are, and the replies.
-static LARGE: [(&[u8], usize, &[u8]); 2] = [
+pub static LARGE: [(&[u8], usize, &[u8]); 2] = [
     (
         b"\x1d\0\0\0\x0a\x1bhost/a/2020-01-15T06:30:03Z\x15\0\0\x01\x11\x06a.blobB\xab8\x07\xbe\x83p\xa1\0\0\0\0",
         16_777_217,
@@ -19,14 +19,16 @@ static LARGE: [(&[u8], usize, &[u8]); 2] = [
 ];
 
 fn try_large(
-    rt: &(impl Abort + Threads + Sync),
+    rt: &(impl Abort + Threads + Wait + Sync),
     alloc: Global,
     row: &(&[u8], usize, &[u8]),
 ) -> Result<(), Fail> {
     let (front, zeros, replies) = row;
     let sent = with_zeros(alloc, front, *zeros)?;
-    let (told, served) = session(rt, alloc, &sent, MemoryDisk::new(alloc), None)?;
-    same(rt, &told, replies);
+    let port = port_of(alloc, &sent)?;
+    let disk = MemoryDisk::new(alloc);
+    let Ran { sink, served } = session(rt, alloc, port, disk, None, standing(alloc))?;
+    same(rt, sink.as_bytes(), replies);
     let report = LaneReport {
         taken: sent.len() as u64,
         given: replies.len() as u64,
@@ -36,7 +38,7 @@ fn try_large(
     assert_kinds(rt, alloc, &served, &[0, 0, 6])
 }
 
-fn with_zeros(alloc: Global, front: &[u8], zeros: usize) -> Result<Vec<u8>, AllocError> {
+pub fn with_zeros(alloc: Global, front: &[u8], zeros: usize) -> Result<Vec<u8>, AllocError> {
     let mut bytes = front.to_vec(alloc)?;
     let len = bytes.len().saturating_add(zeros);
     bytes.resize(len, 0)?;
@@ -97,8 +99,10 @@ fn with_blob(alloc: Global, row: &Blob) -> Result<MemoryDisk, DiskError> {
 fn files_are_read_in_parts(rt: HostRuntime) -> Result<(), Fail> {
     let alloc = rt.alloc();
     for row in &LARGE_BLOBS {
-        let (told, served) = session(&rt, alloc, VERIFY, with_blob(alloc, row)?, None)?;
-        same(&rt, &told, TWO_FILES);
+        let port = port_of(alloc, VERIFY)?;
+        let disk = with_blob(alloc, row)?;
+        let Ran { sink, served } = session(&rt, alloc, port, disk, None, standing(alloc))?;
+        same(&rt, sink.as_bytes(), TWO_FILES);
         let found = [u64::from(served.status.number()), served.order.len() as u64];
         same_numbers(&rt, &found, &[0, row.3]);
     }
@@ -137,14 +141,16 @@ fn same_files(
 
 /// A SYNC on an empty datastore, with these kinds of entries. The remote stays as it was, and all of it is here then.
 fn try_pull(
-    rt: &(impl Abort + Threads + Sync),
+    rt: &(impl Abort + Threads + Wait + Sync),
     alloc: Global,
     remote: MemoryDisk,
     kinds: &[u8],
 ) -> Result<(), Fail> {
     let steps = remote.steps().len() as u64;
-    let (told, served) = session(rt, alloc, SYNC, MemoryDisk::new(alloc), Some(remote))?;
-    same(rt, &told, ONE_KEY);
+    let port = port_of(alloc, SYNC)?;
+    let disk = MemoryDisk::new(alloc);
+    let Ran { sink, served } = session(rt, alloc, port, disk, Some(remote), standing(alloc))?;
+    same(rt, sink.as_bytes(), ONE_KEY);
     same(rt, &[served.status.number()], &[0]);
     assert_kinds(rt, alloc, &served, kinds)?;
     let Served {

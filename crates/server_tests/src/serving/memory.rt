@@ -6,32 +6,22 @@ use disk_trait::DiskError;
 use port_traits::Sink;
 use store_types::Entry;
 
-/// A session that was served, of which at most one growth is refused: its sink, and how it was served.
-#[derive(Drop)]
-struct Lacking {
-    sink: MemSink,
-    served: Run,
-}
-
 /// Nothing where what is handed in lacks memory.
 fn served(
-    rt: &(impl Threads + Sync),
+    rt: &(impl Threads + Wait + Sync),
     alloc: Global,
     sent: &[u8],
     disk: MemoryDisk,
     remote: Option<MemoryDisk>,
     clock: SetClock,
-) -> Option<Lacking> {
-    let source = source_of(alloc, sent).ok()?;
-    let mut ports = one(alloc, source, empty_sink(alloc)).ok()?;
-    let served = run(rt, alloc, &mut ports, disk, remote, clock).ok()?;
-    let Port { sink, .. } = ports.pop()?;
-    Some(Lacking { sink, served })
+) -> Option<Ran> {
+    let port = port_of(alloc, sent).ok()?;
+    session(rt, alloc, port, disk, remote, clock).ok()
 }
 
 /// The status tells whose growth was refused, if any: the memory disk's record, the sink, or the store itself. Where none was, the replies
 /// are the session's.
-fn assert_status(rt: &impl Abort, lacking: &Lacking, replies: &[u8]) -> Result<(), Fail> {
+fn assert_status(rt: &impl Abort, lacking: &Ran, replies: &[u8]) -> Result<(), Fail> {
     let expected = match lacking.served.status {
         Status::Ok => {
             same(rt, lacking.sink.as_bytes(), replies);
@@ -86,7 +76,11 @@ const ALL_BUT_ONE: Talk = (
 );
 
 /// A snapshot whose FINISH was answered is there in every case. The status is printed.
-fn try_lacking(rt: &(impl Abort + Threads + Sync), alloc: Global, talk: &Talk) -> Result<u8, Fail> {
+fn try_lacking(
+    rt: &(impl Abort + Threads + Wait + Sync),
+    alloc: Global,
+    talk: &Talk,
+) -> Result<u8, Fail> {
     let (sent, replies) = talk;
     let disk = MemoryDisk::new(alloc);
     let Some(mut lacking) = served(rt, alloc, sent, disk, None, standing(alloc)) else {

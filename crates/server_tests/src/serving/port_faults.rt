@@ -6,7 +6,7 @@ use super::*;
 use port_traits::{Failed, Sink};
 
 /// A session, its replies, and where its frames and replies end, command by command.
-struct Session {
+struct Marked {
     input: &'static [u8],
     replies: &'static [u8],
     /// How many commands are answered, the bytes of the input up to the last of them, and those of the replies. At BYE no
@@ -17,7 +17,7 @@ struct Session {
 }
 
 /// It reads to the end of its input.
-const TO_THE_END: Session = Session {
+const TO_THE_END: Marked = Marked {
     input: READ_BACK,
     replies: READ_BACK_REPLIES,
     marks: &[
@@ -31,7 +31,7 @@ const TO_THE_END: Session = Session {
 };
 
 /// It leaves a second snapshot unfinished.
-const TO_BYE: Session = Session {
+const TO_BYE: Marked = Marked {
     input: UNFINISHED,
     replies: UNFINISHED_REPLIES,
     marks: &[
@@ -75,9 +75,9 @@ fn assert_cut_off(
 }
 
 /// How many commands are answered where so many bytes were taken, and how many bytes are told.
-fn answered_by(session: &Session, taken: u64) -> (usize, u64) {
+fn answered_by(row: &Marked, taken: u64) -> (usize, u64) {
     let mut answered = (0, 0);
-    for (commands, input, replies) in session.marks {
+    for (commands, input, replies) in row.marks {
         if *input <= taken {
             answered = (*commands, *replies);
         }
@@ -85,21 +85,21 @@ fn answered_by(session: &Session, taken: u64) -> (usize, u64) {
     answered
 }
 
-/// How many commands are answered where so many bytes are told, and the next is not.
-fn answered_before(session: &Session, told: u64) -> usize {
-    for (commands, _, replies) in session.marks {
+/// How many commands are answered where so many bytes are told, and the next is not; and the bytes of the input up to that one.
+fn answered_before(row: &Marked, told: u64) -> (usize, u64) {
+    for (commands, input, replies) in row.marks {
         if told < *replies {
-            return *commands;
+            return (*commands, *input);
         }
     }
-    0
+    (0, 0)
 }
 
 /// The source's read with this number, from 0, fails, when so many bytes are taken.
 fn try_read(
-    rt: &(impl Abort + Threads + Sync),
+    rt: &(impl Abort + Threads + Wait + Sync),
     alloc: Global,
-    session: &Session,
+    row: &Marked,
     most: usize,
     call: u64,
     taken: u64,
@@ -107,18 +107,19 @@ fn try_read(
     requires { 0 < most }
 {
     let failing = [call].to_vec(alloc)?;
-    let source = MemSource::new(session.input.to_vec(alloc)?, failing).at_most(most);
-    let mut ports = one(alloc, source, empty_sink(alloc))?;
+    let source = MemSource::new(row.input.to_vec(alloc)?, failing).at_most(most);
+    let sink = empty_sink(alloc);
+    let port = Port { source, sink };
     let disk = MemoryDisk::new(alloc);
-    let served = run(rt, alloc, &mut ports, disk, None, standing(alloc))?;
-    let (commands, given) = answered_by(session, taken);
+    let Ran { sink, served } = session(rt, alloc, port, disk, None, standing(alloc))?;
+    let (commands, given) = answered_by(row, taken);
     let ending = Ending::SourceFault;
     let report = LaneReport {
         taken,
         given,
         ending,
     };
-    same(rt, &told_to(alloc, ports), front(session.replies, given));
+    same(rt, sink.as_bytes(), front(row.replies, given));
     assert_report(rt, &served, Status::SourceFault, report)?;
     assert_cut_off(rt, alloc, served, commands)
 }
@@ -130,52 +131,63 @@ fn each_read_fails(rt: HostRuntime) -> Result<(), Fail> {
     for (call, taken) in [(0, 0), (1, 5), (2, 207)] {
         try_read(&rt, alloc, &TO_THE_END, usize::MAX, call, taken)?;
     }
-    for session in [&TO_THE_END, &TO_BYE] {
-        for call in 0..session.reads {
-            try_read(&rt, alloc, session, 1, call, call)?;
+    for row in [&TO_THE_END, &TO_BYE] {
+        for call in 0..row.reads {
+            try_read(&rt, alloc, row, 1, call, call)?;
         }
     }
     Ok(())
 }
 
-/// A session's sink failed when so many bytes were told, and all were taken.
+/// A session's sink failed when so many bytes were taken, and so many told.
 fn assert_sink_failed(
     rt: &impl Abort,
     alloc: Global,
-    session: &Session,
+    row: &Marked,
     served: Run,
+    taken: u64,
     given: u64,
 ) -> Result<(), Fail> {
     let report = LaneReport {
-        taken: session.input.len() as u64,
+        taken,
         given,
         ending: Ending::SinkFault,
     };
     assert_report(rt, &served, Status::SinkFault, report)?;
-    assert_cut_off(rt, alloc, served, answered_before(session, given))
+    let (commands, _) = answered_before(row, given);
+    assert_cut_off(rt, alloc, served, commands)
 }
 
-/// The sink takes one byte a write, and the write behind so many bytes fails.
+/// The sink takes one byte a write, and the write behind so many bytes fails. A read gives so many bytes at most, and so many are taken.
 fn try_write(
-    rt: &(impl Abort + Threads + Sync),
+    rt: &(impl Abort + Threads + Wait + Sync),
     alloc: Global,
-    session: &Session,
+    row: &Marked,
     told: u64,
-) -> Result<(), Fail> {
-    let source = source_of(alloc, session.input)?;
+    most: usize,
+    taken: u64,
+) -> Result<(), Fail>
+    requires { 0 < most }
+{
+    let source = source_of(alloc, row.input)?.at_most(most);
     let sink = MemSink::new(alloc, [told].to_vec(alloc)?).at_most(1);
-    let mut ports = one(alloc, source, sink)?;
+    let port = Port { source, sink };
     let disk = MemoryDisk::new(alloc);
-    let served = run(rt, alloc, &mut ports, disk, None, standing(alloc))?;
-    same(rt, &told_to(alloc, ports), front(session.replies, told));
-    assert_sink_failed(rt, alloc, session, served, told)
+    let Ran { sink, served } = session(rt, alloc, port, disk, None, standing(alloc))?;
+    same(rt, sink.as_bytes(), front(row.replies, told));
+    assert_sink_failed(rt, alloc, row, served, taken, told)
 }
 
+/// Behind a failed write no more is read.
 #[test]
 fn each_write_fails(rt: HostRuntime) -> Result<(), Fail> {
-    for session in [&TO_THE_END, &TO_BYE] {
-        for told in 0..session.replies.len() {
-            try_write(&rt, rt.alloc(), session, told as u64)?;
+    let alloc = rt.alloc();
+    for row in [&TO_THE_END, &TO_BYE] {
+        let all = row.input.len() as u64;
+        for told in 0..row.replies.len() as u64 {
+            let (_, taken) = answered_before(row, told);
+            try_write(&rt, alloc, row, told, usize::MAX, all)?;
+            try_write(&rt, alloc, row, told, 1, taken)?;
         }
     }
     Ok(())
@@ -207,7 +219,11 @@ impl Sink for StuckSink {
     }
 }
 
-fn try_stuck(rt: &(impl Abort + Threads + Sync), alloc: Global, room: usize) -> Result<(), Fail> {
+fn try_stuck(
+    rt: &(impl Abort + Threads + Wait + Sync),
+    alloc: Global,
+    room: usize,
+) -> Result<(), Fail> {
     let mut ports = Vec::new(alloc);
     ports.push(Port {
         source: source_of(alloc, UNFINISHED)?,
@@ -225,7 +241,8 @@ fn try_stuck(rt: &(impl Abort + Threads + Sync), alloc: Global, room: usize) -> 
         &mut empty_sink(alloc),
         &FreeGate,
     );
-    assert_sink_failed(rt, alloc, &TO_BYE, served, room as u64)
+    let taken = UNFINISHED.len() as u64;
+    assert_sink_failed(rt, alloc, &TO_BYE, served, taken, room as u64)
 }
 
 /// A write that takes nothing is a fault.

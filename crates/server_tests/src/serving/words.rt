@@ -11,7 +11,7 @@ pub fn words_of(alloc: Global, all: &[&str]) -> Result<Vec<String>, AllocError> 
     Ok(words)
 }
 
-/// A plan as the words that stand for root, remote, order and session, or a dash.
+/// A plan as the words that stand for root, remote and order, or a dash, and those of the sessions.
 fn push_plan(text: &mut String, plan: &Plan) -> Result<(), AllocError> {
     let Plan::Run {
         root,
@@ -19,20 +19,16 @@ fn push_plan(text: &mut String, plan: &Plan) -> Result<(), AllocError> {
         order,
         sessions,
     } = plan;
-    for word in [
-        Some(root),
-        remote.as_ref(),
-        order.as_ref(),
-        sessions.first(),
-    ] {
+    for word in [Some(root), remote.as_ref(), order.as_ref()] {
         match word {
             Some(word) => text.push_str(word.as_str())?,
             None => text.push_str("-")?,
         }
         text.push_str(" ")?;
     }
-    if sessions.len() > 1 {
-        text.push_str("and more")?;
+    for session in sessions {
+        text.push_str(session.as_str())?;
+        text.push_str(" ")?;
     }
     Ok(())
 }
@@ -40,8 +36,8 @@ fn push_plan(text: &mut String, plan: &Plan) -> Result<(), AllocError> {
 /// Words, and their plan.
 type Row = (&'static [&'static str], &'static [u8]);
 
-/// A remote stands at each place behind `run`.
-static PLANS: [Row; 4] = [
+/// A remote stands at each place behind `run`, before, between or behind the sessions. A dash alone is a name.
+static PLANS: [Row; 8] = [
     (&["run", "root", "session"], b"root - - session "),
     (
         &["run", "--remote", "there", "root", "session"],
@@ -55,18 +51,40 @@ static PLANS: [Row; 4] = [
         &["run", "root", "session", "--remote", "there"],
         b"root there - session ",
     ),
+    (
+        &["run", "root", "one", "two", "-", "four"],
+        b"root - - one two - four ",
+    ),
+    (
+        &["run", "root", "one", "--remote", "-", "two", "three"],
+        b"root - - one two three ",
+    ),
+    (
+        &["run", "--remote", "there", "root", "one", "one"],
+        b"root there - one one ",
+    ),
+    (
+        &["run", "run", "run", "run", "--remote", "run"],
+        b"run run - run run ",
+    ),
 ];
 
-/// It has a name, which is no option, and stands behind `run`. There is no other option, and no other number of words.
-static OTHERS: [&[&str]; 8] = [
+/// There is one session at least. The option has a name, which is no option, and stands behind `run`, once. There is no other
+/// option.
+static OTHERS: [&[&str]; 11] = [
+    &[],
+    &["run"],
     &["run", "root"],
     &["run", "root", "--order"],
-    &[],
     &["run", "root", "session", "--remote"],
     &["run", "root", "session", "--remote", "-x"],
+    &["run", "root", "--remote", "session"],
     &["--remote", "there", "run", "root", "session"],
     &["run", "--remote", "there", "-x", "session"],
-    &["run", "root", "session", "there", "other"],
+    &["run", "root", "session", "-x", "other"],
+    &[
+        "run", "--remote", "a", "root", "one", "--remote", "b", "two",
+    ],
 ];
 
 fn try_words(rt: &impl Abort, alloc: Global, all: &[&str], wanted: &[u8]) -> Result<(), Fail> {
@@ -121,19 +139,51 @@ fn statuses_are_numbered_and_named(rt: HostRuntime) -> Result<(), Fail> {
     Ok(())
 }
 
-/// Two ports for words that ask for one.
+/// So many ports, each with an empty session.
+fn empty_ports(alloc: Global, count: usize) -> Result<Vec<Port<MemSource, MemSink>>, AllocError> {
+    let mut ports = Vec::new(alloc);
+    for _ in 0..count {
+        ports.push(port_of(alloc, b"")?)?;
+    }
+    Ok(ports)
+}
+
+/// The words `run root`, and so many sessions.
+pub fn asking(alloc: Global, sessions: usize) -> Result<Vec<String>, AllocError> {
+    let mut words = words_of(alloc, &["run", "root"])?;
+    for _ in 0..sessions {
+        words.push(String::from_str(alloc, "session")?)?;
+    }
+    Ok(words)
+}
+
+/// Sessions that words ask for, ports, and the status, the order's length and how many reports there are.
+static COUNTS: [(usize, usize, [u64; 3]); 8] = [
+    (1, 2, [2, 0, 0]),
+    (2, 1, [2, 0, 0]),
+    (0, 0, [2, 0, 0]),
+    (65, 64, [2, 0, 0]),
+    (64, 65, [2, 0, 0]),
+    (65, 65, [7, 0, 0]),
+    (1, 1, [0, 1, 1]),
+    (3, 3, [0, 3, 3]),
+];
+
+/// As many ports as words ask for, and 64 at most.
 #[test]
 fn ports_are_counted(rt: HostRuntime) -> Result<(), Fail> {
     let alloc = rt.alloc();
-    let mut ports = one(alloc, source_of(alloc, b"")?, empty_sink(alloc))?;
-    ports.push(Port {
-        source: source_of(alloc, b"")?,
-        sink: empty_sink(alloc),
-    })?;
-    let disk = MemoryDisk::new(alloc);
-    let served = run(&rt, alloc, &mut ports, disk, None, standing(alloc))?;
-    same(&rt, &[served.status.number()], &[2]);
-    let counts = [served.order.len() as u64, served.report.lanes.len() as u64];
-    same_numbers(&rt, &counts, &[0, 0]);
+    for (sessions, count, wanted) in &COUNTS {
+        let mut ports = empty_ports(alloc, *count)?;
+        let words = asking(alloc, *sessions)?;
+        let disk = MemoryDisk::new(alloc);
+        let served = run_words(&rt, alloc, &words, &mut ports, disk, None, standing(alloc));
+        let found = [
+            u64::from(served.status.number()),
+            served.order.len() as u64,
+            served.report.lanes.len() as u64,
+        ];
+        same_numbers(&rt, &found, wanted);
+    }
     Ok(())
 }

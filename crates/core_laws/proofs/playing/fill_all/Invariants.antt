@@ -1,6 +1,6 @@
 use Rattle.std.proofs.Common.{◌<◌, ◌≤◌, ℕ}
 use Rattle.core_state.specs.Entering.{held_by}
-use Rattle.core_laws.specs.Playing.{SameCore}
+use Rattle.shared_store.specs.Comes.{SameCore}
 use Rattle.core_laws.proofs.playing.fill_all.Given as goal
 
 abbrev pub invariant-loop-lane : goal.invariant-loop-lane

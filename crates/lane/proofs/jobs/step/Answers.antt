@@ -1,18 +1,12 @@
-use Rattle.std.proofs.Common.{◌||◌, inl, inr, IsSome, IfSome, refl, sym, subst}
+use Rattle.std.proofs.Common.{◌||◌, inl, IsSome, IfSome, refl, sym, subst}
 use Rattle.store_model.specs.Job.{Job, next}
 use Rattle.store_model.specs.JobReplies.{IsReplyTo}
 use Rattle.store_model.specs.Jobs.{take_more}
 use Rattle.store_history.specs.declared.act.Act.TheVariants as acts
-use Rattle.core_state.proofs.RemoteLemmas.{serves_then}
-use Rattle.lane.proofs.Entries.{entered_as, more_entered}
-use Rattle.lane.proofs.Readers.{goes_on_by, nearer_by, on_room, short_of}
-use Rattle.lane.proofs.Stepping.{act_asked, act_formed, act_replied, dropped, dropped_is, dropped_nearer, steps_once, steps_twice, take_form, taken_short}
-use Rattle.lane.proofs.Sweeping.{new_want}
+use Rattle.lane.proofs.Going.{goes_on_by, short_of}
+use Rattle.lane.proofs.Stepping.{act_asked, act_formed, act_replied, dropped, dropped_is, steps_once, steps_twice, take_form, taken_short}
 use Rattle.lane.specs.Stepping.{MayGoOn}
 use Rattle.lane.proofs.jobs.step.Goals as goal
-
-pub ask-told-requires-clause-room : goal.ask-told-requires-clause-room
-ask-told-requires-clause-room g c = on_room c.args.core.now c.args.lane c.args.job.now c.args.is_last.now c.requires.on
 
 pub ask-told-requires-clause-formed : goal.ask-told-requires-clause-formed
 ask-told-requires-clause-formed g c = act_formed c.args.job.now c.args.act (c.requires.on).begun c.requires.next
@@ -29,35 +23,19 @@ take-requires-clause-form g c κs lives = take_form c.args.job.now c.args.act c.
 -- ---- the reply was taken
 
 pub returns-in_default-clause-stepped : goal.returns-in_default-clause-stepped
-returns-in_default-clause-stepped g c = λ first began.
+returns-in_default-clause-stepped g c = λ start.
     let asked = c.ask-told.ensures in
-    let on = goes_on_by c.args.core.now c.ask-told.new.core c.args.lane c.args.act c.ask-told.result asked.room asked.reader asked.tells c.args.job.now c.args.is_last.now c.requires.on c.requires.next in
-    let goes = subst (λ (j : Job). MayGoOn c.ask-told.new.core c.args.lane j (c.ask-told.result.last || c.args.is_last.now)) (sym c.in_default.ensures.ok) on in
-    steps_once _ _ c.args.lane c.args.job.now _ c.args.is_last.now _ c.args.act c.ask-told.result c.requires.next (asked.did first began) c.in_default.ensures.ok refl goes.over
+    let on = goes_on_by c.args.job.now c.args.is_last.now c.args.act c.ask-told.result asked.tells c.requires.on c.requires.next in
+    let goes = subst (λ (j : Job). MayGoOn j (c.ask-told.result.last || c.args.is_last.now)) (sym c.in_default.ensures.ok) on in
+    steps_once _ _ c.args.lane c.args.job.now _ c.args.is_last.now _ c.args.act c.ask-told.result c.requires.next (asked.did start) c.in_default.ensures.ok refl goes.over
 
 pub returns-in_default-clause-goes : goal.returns-in_default-clause-goes
 returns-in_default-clause-goes g c =
     let asked = c.ask-told.ensures in
-    subst (λ (j : Job). MayGoOn c.ask-told.new.core c.args.lane j (c.ask-told.result.last || c.args.is_last.now)) (sym c.in_default.ensures.ok)
-    (goes_on_by c.args.core.now c.ask-told.new.core c.args.lane c.args.act c.ask-told.result asked.room asked.reader asked.tells c.args.job.now c.args.is_last.now c.requires.on c.requires.next)
-
-pub returns-in_default-clause-nearer : goal.returns-in_default-clause-nearer
-returns-in_default-clause-nearer g c =
-    let asked = c.ask-told.ensures in
-    nearer_by c.args.core.now c.ask-told.new.core c.args.lane c.args.act c.ask-told.result asked.room asked.reader asked.tells c.args.job.now _ c.args.is_last.now c.requires.on c.requires.next asked.text c.in_default.ensures.ok
-
-pub returns-in_default-clause-entered : goal.returns-in_default-clause-entered
-returns-in_default-clause-entered g c =
-    entered_as g.D.Disk c.args.core.now c.ask-told.new.core c.args.lane _ _ c.ask-told.ensures.entered
-    (λ set. inr (new_want c.ask-told.result.last c.args.is_last.now set.0 set.1))
+    subst (λ (j : Job). MayGoOn j (c.ask-told.result.last || c.args.is_last.now)) (sym c.in_default.ensures.ok)
+    (goes_on_by c.args.job.now c.args.is_last.now c.args.act c.ask-told.result asked.tells c.requires.on c.requires.next)
 
 -- ---- or it was dropped, for want of memory
-
-pub ask-short-requires-clause-room : goal.ask-short-requires-clause-room
-ask-short-requires-clause-room g c =
-    let asked = c.ask-told.ensures in
-    on_room c.ask-told.new.core c.args.lane _ _
-    (goes_on_by c.args.core.now c.ask-told.new.core c.args.lane c.args.act c.ask-told.result asked.room asked.reader asked.tells c.args.job.now c.args.is_last.now c.requires.on c.requires.next)
 
 pub take-requires-2-clause-asked : goal.take-requires-2-clause-asked
 take-requires-2-clause-asked g c κs lives = subst (λ (j : Job). IsSome (next j)) (sym (c.in-Err.ensures.err).0) (act_asked c.args.job.now c.args.act c.requires.next)
@@ -69,13 +47,13 @@ take-requires-2-clause-form g c κs lives =
     (take_form c.args.job.now acts.Short c.ask-short.result (c.requires.on).begun part.wants c.ask-short.ensures.tells)
 
 pub returns-clause-stepped : goal.returns-clause-stepped
-returns-clause-stepped g c = λ first began.
+returns-clause-stepped g c = λ start.
     let asked = c.ask-told.ensures in
     let wanted = c.ask-short.ensures in
     let want_is = (wanted.tells).want (inl refl) in
     let is = taken_short c.take-2.result _ _ _ _ c.take-2.ensures.ok c.take-2.ensures.err want_is in
-    steps_twice _ _ _ c.args.lane c.args.job.now _ _ c.args.is_last.now _ c.args.act c.ask-told.result c.ask-short.result c.requires.next (asked.did first began) asked.tells (c.in-Err.ensures.err).1
-    (c.in-Err.ensures.err).0 (c.requires.on).over (wanted.did first began) wanted.tells is refl
+    steps_twice _ _ _ c.args.lane c.args.job.now _ _ c.args.is_last.now _ c.args.act c.ask-told.result c.ask-short.result c.requires.next (asked.did start) asked.tells (c.in-Err.ensures.err).1
+    (c.in-Err.ensures.err).0 (c.requires.on).over (wanted.did start) wanted.tells is refl
 
 pub returns-clause-goes : goal.returns-clause-goes
 returns-clause-goes g c =
@@ -84,21 +62,8 @@ returns-clause-goes g c =
     let part = (c.in-Err.ensures.err).1 in
     let want_is = (wanted.tells).want (inl refl) in
     let is = taken_short c.take-2.result _ _ _ _ c.take-2.ensures.ok c.take-2.ensures.err want_is in
-    let on = goes_on_by c.args.core.now c.ask-told.new.core c.args.lane c.args.act c.ask-told.result asked.room asked.reader asked.tells c.args.job.now c.args.is_last.now c.requires.on c.requires.next in
-    subst (λ (j : Job). MayGoOn c.ask-short.new.core c.args.lane j (c.ask-short.result.last || (c.ask-told.result.last || c.args.is_last.now)))
+    let on = goes_on_by c.args.job.now c.args.is_last.now c.args.act c.ask-told.result asked.tells c.requires.on c.requires.next in
+    subst (λ (j : Job). MayGoOn j (c.ask-short.result.last || (c.ask-told.result.last || c.args.is_last.now)))
     (sym (dropped_is c.args.job.now _ _ c.ask-told.result c.ask-short.result part (c.in-Err.ensures.err).0 want_is is))
-    (goes_on_by c.ask-told.new.core c.ask-short.new.core c.args.lane acts.Short c.ask-short.result wanted.room wanted.reader wanted.tells (take_more c.args.job.now (c.ask-told.result).reply) _ on
+    (goes_on_by (take_more c.args.job.now (c.ask-told.result).reply) _ acts.Short c.ask-short.result wanted.tells on
     (short_of _ (dropped c.args.job.now (c.ask-told.result).reply part).goes))
-
-pub returns-clause-nearer : goal.returns-clause-nearer
-returns-clause-nearer g c =
-    let want_is = (c.ask-short.ensures.tells).want (inl refl) in
-    dropped_nearer c.args.job.now _ _ c.ask-told.result c.ask-short.result (c.in-Err.ensures.err).1 (c.in-Err.ensures.err).0 want_is
-    (taken_short c.take-2.result _ _ _ _ c.take-2.ensures.ok c.take-2.ensures.err want_is)
-
-pub returns-clause-remote : goal.returns-clause-remote
-returns-clause-remote g c = serves_then g.E.Disk c.args.core.now c.ask-told.new.core c.ask-short.new.core c.ask-told.ensures.remote c.ask-short.ensures.remote
-
-pub returns-clause-entered : goal.returns-clause-entered
-returns-clause-entered g c =
-    more_entered g.D.Disk c.args.core.now c.ask-told.new.core c.ask-short.new.core c.args.lane _ _ _ c.ask-told.ensures.entered c.ask-short.ensures.entered (λ set. inr (inl refl))

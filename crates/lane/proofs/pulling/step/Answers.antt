@@ -1,18 +1,12 @@
-use Rattle.std.proofs.Common.{◌||◌, inl, inr, refl, sym, subst}
+use Rattle.std.proofs.Common.{◌||◌, inl, refl, sym, subst}
 use Rattle.store_history.specs.declared.act.Act.TheVariants as acts
 use Rattle.store_history.specs.Pulling.{SyncJob, take_more}
-use Rattle.core_state.proofs.RemoteLemmas.{serves_then}
 use Rattle.pull_steps.specs.Taken.{IsReplyTo}
-use Rattle.lane.proofs.Drops.{act_formed, act_replied, dropped, dropped_is, dropped_nearer, pulls_twice, take_form, taken_short}
-use Rattle.lane.proofs.Entries.{entered_as, more_entered}
+use Rattle.lane.proofs.Drops.{act_formed, act_replied, dropped, dropped_is, pulls_twice, take_form, taken_short}
 use Rattle.lane.proofs.Pulls.{pulls_once}
-use Rattle.lane.proofs.Sweeping.{new_want}
-use Rattle.lane.proofs.Writers.{goes_on_by, nearer_by, on_room}
+use Rattle.lane.proofs.PullingOn.{goes_on_by}
 use Rattle.lane.specs.Pulling.{MayGoOn}
 use Rattle.lane.proofs.pulling.step.Goals as goal
-
-pub ask-told-requires-clause-room : goal.ask-told-requires-clause-room
-ask-told-requires-clause-room g c = on_room c.args.core.now c.args.lane c.args.job.now c.args.is_last.now c.requires.on
 
 pub ask-told-requires-clause-formed : goal.ask-told-requires-clause-formed
 ask-told-requires-clause-formed g c = act_formed c.args.job.now c.args.act (c.requires.on).sound c.requires.next
@@ -26,34 +20,17 @@ take-requires g c = take_form c.args.job.now c.args.act c.ask-told.result c.requ
 -- ---- the reply was taken
 
 pub returns-in_default-clause-pulls : goal.returns-in_default-clause-pulls
-returns-in_default-clause-pulls g c = λ first began.
-    pulls_once _ _ c.args.lane c.args.job.now _ c.args.is_last.now _ c.args.act c.ask-told.result c.requires.next (c.ask-told.ensures.did first began) c.in_default.ensures.ok refl
+returns-in_default-clause-pulls g c = λ start.
+    pulls_once _ _ c.args.lane c.args.job.now _ c.args.is_last.now _ c.args.act c.ask-told.result c.requires.next (c.ask-told.ensures.did start) c.in_default.ensures.ok refl
     (c.requires.on).over (c.requires.on).sound
 
 pub returns-in_default-clause-goes : goal.returns-in_default-clause-goes
 returns-in_default-clause-goes g c =
     let asked = c.ask-told.ensures in
-    subst (λ (j : SyncJob). MayGoOn c.ask-told.new.core c.args.lane j (c.ask-told.result.last || c.args.is_last.now)) (sym c.in_default.ensures.ok)
-    (goes_on_by c.args.core.now c.ask-told.new.core c.args.lane c.args.act c.ask-told.result asked.room asked.reader asked.writer asked.tells asked.text c.args.job.now c.args.is_last.now c.requires.on c.requires.next)
-
-pub returns-in_default-clause-nearer : goal.returns-in_default-clause-nearer
-returns-in_default-clause-nearer g c =
-    let asked = c.ask-told.ensures in
-    nearer_by c.args.core.now c.ask-told.new.core c.args.lane c.args.act c.ask-told.result asked.room asked.reader asked.writer asked.tells asked.text c.args.job.now _ c.args.is_last.now c.requires.on c.requires.next
-    c.in_default.ensures.ok
-
-pub returns-in_default-clause-entered : goal.returns-in_default-clause-entered
-returns-in_default-clause-entered g c =
-    entered_as g.D.Disk c.args.core.now c.ask-told.new.core c.args.lane _ _ c.ask-told.ensures.entered
-    (λ set. inr (new_want c.ask-told.result.last c.args.is_last.now set.0 set.1))
+    subst (λ (j : SyncJob). MayGoOn j (c.ask-told.result.last || c.args.is_last.now)) (sym c.in_default.ensures.ok)
+    (goes_on_by c.args.job.now c.args.is_last.now c.args.act c.ask-told.result asked.tells c.requires.on c.requires.next)
 
 -- ---- or it was dropped, for want of memory
-
-pub ask-short-requires-clause-room : goal.ask-short-requires-clause-room
-ask-short-requires-clause-room g c =
-    let asked = c.ask-told.ensures in
-    on_room c.ask-told.new.core c.args.lane _ _
-    (goes_on_by c.args.core.now c.ask-told.new.core c.args.lane c.args.act c.ask-told.result asked.room asked.reader asked.writer asked.tells asked.text c.args.job.now c.args.is_last.now c.requires.on c.requires.next)
 
 pub take-requires-2 : goal.take-requires-2
 take-requires-2 g c =
@@ -62,13 +39,13 @@ take-requires-2 g c =
     (take_form c.args.job.now acts.Short c.ask-short.result d.again c.ask-short.ensures.tells c.ask-short.ensures.text)
 
 pub returns-clause-pulls : goal.returns-clause-pulls
-returns-clause-pulls g c = λ first began.
+returns-clause-pulls g c = λ start.
     let asked = c.ask-told.ensures in
     let wanted = c.ask-short.ensures in
     let want_is = (wanted.tells).want (inl refl) in
-    let on = goes_on_by c.args.core.now c.ask-told.new.core c.args.lane c.args.act c.ask-told.result asked.room asked.reader asked.writer asked.tells asked.text c.args.job.now c.args.is_last.now c.requires.on c.requires.next in
-    pulls_twice _ _ _ c.args.lane c.args.job.now _ _ c.args.is_last.now _ c.args.act c.ask-told.result c.ask-short.result c.requires.next (asked.did first began) (c.in-Err.ensures.err).1
-    (c.in-Err.ensures.err).0 (c.requires.on).over (c.requires.on).sound on.over on.sound (wanted.did first began) want_is
+    let on = goes_on_by c.args.job.now c.args.is_last.now c.args.act c.ask-told.result asked.tells c.requires.on c.requires.next in
+    pulls_twice _ _ _ c.args.lane c.args.job.now _ _ c.args.is_last.now _ c.args.act c.ask-told.result c.ask-short.result c.requires.next (asked.did start) (c.in-Err.ensures.err).1
+    (c.in-Err.ensures.err).0 (c.requires.on).over (c.requires.on).sound on.over on.sound (wanted.did start) want_is
     (taken_short c.take-2.result _ _ _ _ c.take-2.ensures.ok c.take-2.ensures.err want_is) refl
 
 pub returns-clause-goes : goal.returns-clause-goes
@@ -78,21 +55,7 @@ returns-clause-goes g c =
     let read = (c.in-Err.ensures.err).1 in
     let want_is = (wanted.tells).want (inl refl) in
     let is = taken_short c.take-2.result _ _ _ _ c.take-2.ensures.ok c.take-2.ensures.err want_is in
-    let on = goes_on_by c.args.core.now c.ask-told.new.core c.args.lane c.args.act c.ask-told.result asked.room asked.reader asked.writer asked.tells asked.text c.args.job.now c.args.is_last.now c.requires.on c.requires.next in
-    subst (λ (j : SyncJob). MayGoOn c.ask-short.new.core c.args.lane j (c.ask-short.result.last || (c.ask-told.result.last || c.args.is_last.now)))
+    let on = goes_on_by c.args.job.now c.args.is_last.now c.args.act c.ask-told.result asked.tells c.requires.on c.requires.next in
+    subst (λ (j : SyncJob). MayGoOn j (c.ask-short.result.last || (c.ask-told.result.last || c.args.is_last.now)))
     (sym (dropped_is c.args.job.now _ _ (c.ask-told.result).reply (c.ask-short.result).reply read (c.in-Err.ensures.err).0 want_is is))
-    (goes_on_by c.ask-told.new.core c.ask-short.new.core c.args.lane acts.Short c.ask-short.result wanted.room wanted.reader wanted.writer wanted.tells wanted.text
-    (take_more c.args.job.now (c.ask-told.result).reply) _ on (dropped c.args.job.now (c.ask-told.result).reply read).wants)
-
-pub returns-clause-nearer : goal.returns-clause-nearer
-returns-clause-nearer g c =
-    let want_is = (c.ask-short.ensures.tells).want (inl refl) in
-    dropped_nearer c.args.job.now _ _ (c.ask-told.result).reply (c.ask-short.result).reply (c.in-Err.ensures.err).1 (c.in-Err.ensures.err).0 want_is
-    (taken_short c.take-2.result _ _ _ _ c.take-2.ensures.ok c.take-2.ensures.err want_is)
-
-pub returns-clause-remote : goal.returns-clause-remote
-returns-clause-remote g c = serves_then g.E.Disk c.args.core.now c.ask-told.new.core c.ask-short.new.core c.ask-told.ensures.remote c.ask-short.ensures.remote
-
-pub returns-clause-entered : goal.returns-clause-entered
-returns-clause-entered g c =
-    more_entered g.D.Disk c.args.core.now c.ask-told.new.core c.ask-short.new.core c.args.lane _ _ _ c.ask-told.ensures.entered c.ask-short.ensures.entered (λ set. inr (inl refl))
+    (goes_on_by (take_more c.args.job.now (c.ask-told.result).reply) _ acts.Short c.ask-short.result wanted.tells on (dropped c.args.job.now (c.ask-told.result).reply read).wants)

@@ -13,5 +13,5 @@ pub ask-requires-clause-replied : goal.ask-requires-clause-replied
 ask-requires-clause-replied g c = subst HasReply (sym c.act_of.ensures) (replied c.args.command)
 
 pub returns-in_default-clause-does : goal.returns-in_default-clause-does
-returns-in_default-clause-does g c = λ first began.
-    does_plain _ _ c.args.lane c.args.command c.act_of.result c.ask.result (c.ask.ensures.did first began) c.act_of.ensures (plain_alone c.args.command c.requires.alone c.in_default.not-Sync)
+returns-in_default-clause-does g c = λ seat.
+    does_plain _ _ c.args.lane c.args.command c.act_of.result c.ask.result (c.ask.ensures.did seat) c.act_of.ensures (plain_alone c.args.command c.requires.alone c.in_default.not-Sync)

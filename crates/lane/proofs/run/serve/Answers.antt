@@ -6,8 +6,8 @@ use Rattle.lane.proofs.Serving.{command_served, command_stops, as_last, as_going
 use Rattle.lane.proofs.run.serve.Goals as goal
 
 pub returns-in_err-ending-clause-goes : goal.returns-in_err-ending-clause-goes
-returns-in_err-ending-clause-goes g c = λ first began start s. as_going _ start _ _ _ c.advance.new.self _ _ c.from_residual.ensures
-    (command_served _ _ start _ _ _ _ c.args.progress.now.input.cutter _ _ _ _ _ c.args.command _ s c.requires.ahead (c.do_command-told.ensures.does first began) c.in_err-ending.ensures.gives c.advance.ensures.cutter c.advance.ensures.taken)
+returns-in_err-ending-clause-goes g c = λ seat start s. as_going _ start _ _ _ c.advance.new.self _ _ c.from_residual.ensures
+    (command_served _ _ start _ _ _ _ c.args.progress.now.input.cutter _ _ _ _ _ c.args.command _ s c.requires.ahead (c.do_command-told.ensures.does seat) c.in_err-ending.ensures.gives c.advance.ensures.cutter c.advance.ensures.taken)
 
 pub returns-in_err-ending-clause-causes : goal.returns-in_err-ending-clause-causes
 returns-in_err-ending-clause-causes g c =
@@ -15,8 +15,8 @@ returns-in_err-ending-clause-causes g c =
     (sym c.from_residual.ensures) (c.in_err-ending.ensures.causes (g.S.Source.faults c.args.port.now.source) c.advance.new.self.taken)
 
 pub returns-clause-goes : goal.returns-clause-goes
-returns-clause-goes g c = λ first began start s. as_last _ start _ _ _ _ _ c.untold.result _ _ c.untold.ensures
-    (command_stops _ _ start _ _ _ _ c.args.progress.now.input.cutter _ _ _ _ c.args.command _ _ s c.requires.ahead (c.do_command-told.ensures.does first began) c.in_ok-ending.ensures.gives c.advance.ensures.taken)
+returns-clause-goes g c = λ seat start s. as_last _ start _ _ _ _ _ c.untold.result _ _ c.untold.ensures
+    (command_stops _ _ start _ _ _ _ c.args.progress.now.input.cutter _ _ _ _ c.args.command _ _ s c.requires.ahead (c.do_command-told.ensures.does seat) c.in_ok-ending.ensures.gives c.advance.ensures.taken)
 
 pub returns-clause-causes : goal.returns-clause-causes
 returns-clause-causes g c =

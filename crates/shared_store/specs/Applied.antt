@@ -1,0 +1,58 @@
+-- What the dispatch promises of one act on a core, and what the turn promises of one act on the core behind it.
+use Rattle.disk_trait.specs.declared.disk.Disk.{Ghosts}
+use Rattle.std.specs.Prelude.{ℕ, ◌≡◌, true, false, List, [], ◌∷◌, ◌++◌}
+use mathlib.Core.List.{IsPrefix}
+use Rattle.port_traits.specs.declared.clock.Clock as clocks
+use Rattle.store_types.specs.declared.order.TheConstants.{MEMORY_KIND}
+use Rattle.store_history.specs.declared.act.Act.{Act}
+use Rattle.store_history.specs.declared.act.Act.TheVariants.{Short}
+use Rattle.store_history.specs.declared.act.Answer.{Answer}
+use Rattle.store_history.specs.declared.act.Event.{Event}
+use Rattle.core_state.specs.declared.state.Core.{Core}
+use Rattle.core_state.specs.Applies.{ActApplies, ActKeeps, CoreApplies}
+use Rattle.core_state.specs.Commands.{is_remotes}
+use Rattle.core_state.specs.History.{event_of}
+use Rattle.core_state.specs.Remotes.{reads_remote}
+use Rattle.core_state.specs.Unreadables.{CoreUnreadable}
+use Rattle.core_reader.specs.Damages.{CoreDamaged}
+use Rattle.core_reader.specs.ReaderActs.{CoreOpens}
+use Rattle.core_remote.specs.RemoteActs.{RemoteGives}
+use Rattle.shared_store.specs.AnsweredBy.{CoreAnswersBy}
+use Rattle.shared_store.specs.Asked.{asked}
+use Rattle.shared_store.specs.Comes.{ComesTo}
+
+pub record HasApplied {D E C : Type 0} (d : Ghosts D) (e : Ghosts E) (clock : clocks.Ghosts C) (old new : Core D E C) (lane : ℕ) (act : Act) (answer : Answer) : Type 0 where
+  -- the core stands for each history that it stood for with this act's event more, beside a remote that stands for that of the
+  -- history; and its answer has a cause
+  pub applies : CoreApplies d e clock old new lane act answer
+  -- whatever the remote is, where the act doesn't read it
+  pub alone : reads_remote act answer ≡ false → ActApplies d clock old new lane act answer
+  -- what it leaves of disk, catalogue, sessions and reserve, by the act and its reply; what a crash leaves
+  pub keeps : ActKeeps d old new lane act answer
+  -- of the store's own files and chunks; those of the remote see below
+  pub unreadable : is_remotes act ≡ false → CoreUnreadable d (asked act lane old.collector) old lane answer
+  pub damaged : is_remotes act ≡ false → CoreDamaged d old lane act answer
+  -- on any disk and any remote OPEN_WRITER, OPEN_READER, the tests of a command on the store as a whole and of a read of the
+  -- remote, and a collector's acts answer what the core keeps; of FILES, whether there is such a snapshot. On an honest disk,
+  -- whatever it holds, FILES and a VERIFY's reads answer what stands there
+  pub from_state : CoreAnswersBy d old new lane act answer
+  -- of an honest remote, whatever it holds
+  pub by_remote : is_remotes act ≡ true → RemoteGives e old act answer
+  pub opened : CoreOpens new lane act answer
+  pub short : act ≡ Short → (answer.entry).kind ≡ MEMORY_KIND
+
+-- One act behind the turn: it found a core that had come to this history, and left it one that has come to that with the act's event more.
+pub record HasActed {D E C : Type 0} (d : Ghosts D) (e : Ghosts E) (clock : clocks.Ghosts C) (is_first : Core D E C → Type 0) (left : Core D E C) (before : List Event) (lane : ℕ) (act : Act) (answer : Answer) : Type 0 where
+  pub found : Core D E C
+  pub came : ComesTo d e clock is_first found before
+  pub applied : HasApplied d e clock found left lane act answer
+  pub comes : ComesTo d e clock is_first left (before ++ event_of act answer (d.calls (left.parts).disk) ∷ [])
+
+-- One act of a seat: the history that it found behind the turn begins with all that the seat had seen, and what the seat has seen now ends with
+-- the act, as it was answered at the disk's count of calls.
+pub record ActsOn {D E C : Type 0} (d : Ghosts D) (e : Ghosts E) (clock : clocks.Ghosts C) (is_first : Core D E C → Type 0) (lane : ℕ) (act : Act) (answer : Answer) (old now : List Event) : Type 0 where
+  pub before : List Event
+  pub seen : IsPrefix old before
+  pub left : Core D E C
+  pub acted : HasActed d e clock is_first left before lane act answer
+  pub ends : now ≡ before ++ event_of act answer (d.calls (left.parts).disk) ∷ []

@@ -1,0 +1,65 @@
+-- What a core behind the turn stands for, on any disk.
+use Rattle.disk_trait.specs.declared.disk.Disk.{Ghosts}
+use Rattle.disk_trait.specs.Disk.{Rose}
+use Rattle.std.specs.Prelude.{ℕ, ◌≡◌, ◌≤◌, ◌<◌, ◌^◌, false, List, [], ◌∷◌, length, None, IsSome}
+use Rattle.port_traits.specs.declared.clock.Clock as clocks
+use Rattle.turn_lock.specs.State.{SeatState, TableId}
+use Rattle.store_history.specs.declared.act.Event.{Event}
+use Rattle.store_history.specs.History.{entries}
+use Rattle.core_state.specs.declared.state.Core.{Core}
+use Rattle.core_state.specs.Entering.{SameEntries}
+use Rattle.core_state.specs.History.{History}
+use Rattle.core_state.specs.Records.{AreKept, Reaches, Records}
+
+-- the seat is of this turn, and does not have it
+abbrev pub CanAct : TableId → SeatState Event → Type 0
+CanAct turn seat = (seat.turn ≡ turn) × (seat.holding ≡ false)
+
+abbrev pub with_events : History → List Event → History
+with_events h events = record h { events = events }
+
+-- the disk's count of calls as the last of these events was answered, or where there is none this one
+abbrev pub last_calls : ℕ → List Event → ℕ
+last_calls calls [] = calls
+last_calls calls (v ∷ vs) = last_calls v.calls vs
+
+-- From a first core, which recorded a history without events, the core came to these events. Whatever history without events the first core
+-- recorded, the core reaches that one with these events: it records it, and stands for it where the first core stood for its own. The
+-- disk has failed only where its count of faults rose, and was called by these events alone.
+pub record ComesTo {D E C : Type 0} (d : Ghosts D) (e : Ghosts E) (clock : clocks.Ghosts C) (is_first : Core D E C → Type 0) (core : Core D E C) (events : List Event) : Type 0 where
+  pub first : Core D E C
+  pub is : is_first first
+  pub began : History
+  pub recorded : Records clock.readings first began
+  pub none : began.events ≡ []
+  pub short : length events < 2 ^ 63
+  pub entries_are : (core.journal).entries.items ≡ entries events
+  pub reaches : (h : History) → Records clock.readings first h → h.events ≡ [] → Reaches d e clock.readings first h core (with_events h events)
+  pub count : d.faults (first.parts).disk ≤ d.faults (core.parts).disk
+  pub fault : IsSome core.fault → Rose (d.faults (first.parts).disk) (d.faults (core.parts).disk)
+  pub at_rest : d.calls (core.parts).disk ≡ last_calls (d.calls (first.parts).disk) events
+
+-- some core came to these events
+abbrev pub HasCome : {D E C : Type 0} → Ghosts D → Ghosts E → clocks.Ghosts C → (Core D E C → Type 0) → List Event → Type 0
+HasCome {D} {E} {C} d e clock is_first events = (core : Core D E C) × ComesTo d e clock is_first core events
+
+-- a first core, which recorded some history without events
+pub record IsFresh {D E C : Type 0} (clock : clocks.Ghosts C) (core : Core D E C) : Type 0 where
+  pub began : History
+  pub recorded : Records clock.readings core began
+  pub none : began.events ≡ []
+
+-- Each of these events has its place, a kind that it may have, and an answer that fits it, from some last moment on.
+abbrev pub AreAnswered : List Event → Type 0
+AreAnswered events = (since : ℕ) × AreKept 0 None since events
+
+-- but for entries that are to be had without memory
+pub record SameCore {D E C : Type 0} (old new : Core D E C) : Type 0 where
+  pub parts : new.parts ≡ old.parts
+  pub remote : new.remote ≡ old.remote
+  pub clock : new.clock ≡ old.clock
+  pub entries : SameEntries old.journal new.journal
+  pub upkeep : new.upkeep ≡ old.upkeep
+  pub collector : new.collector ≡ old.collector
+  pub last : new.last ≡ old.last
+  pub fault : new.fault ≡ old.fault
