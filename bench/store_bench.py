@@ -7,8 +7,9 @@ from datetime import datetime, timedelta, timezone
 
 TOP = os.path.dirname(os.path.dirname(os.path.abspath(__file__)))
 sys.path.insert(0, os.path.join(TOP, "examples"))
-from session import APPEND_LIMIT, MANIFEST, append_digests, blob, bye, chunk_as, close_index, dynamic_csum, dynamic_index
-from session import entries_of, finish, frame, listed, manifest, new_dynamic, open_writer, previous, put_manifest, sha256
+from session import APPEND_LIMIT, MANIFEST, append_digests, blob, bye, chunk_as, close_index, close_reader, download, dynamic_csum
+from session import dynamic_index, entries_of, finish, frame, listed, manifest, new_dynamic, open_reader, open_writer, previous
+from session import put_manifest, sha256
 
 MIB = 1 << 20
 INDEX = "root.didx"
@@ -66,6 +67,39 @@ def make_backup(path, snapshot, pieces, sent, over_base):
     return part
 
 
+def make_restore(path, snapshot, asks):
+    """A reader that downloads the index and sends these commands."""
+    part = Part(path)
+    with open(path, "wb") as out:
+        part.add(out, open_reader(snapshot))
+        part.add(out, download(INDEX))
+        for body in asks:
+            part.add(out, body)
+        part.add(out, close_reader())
+    return part
+
+
+def digest_of_replies(path, first, commands, header):
+    """The SHA-256 of what came back: the replies' bytes from the first reply's place on, each without so long a header."""
+    found = hashlib.sha256()
+    with open(path, "rb") as it:
+        it.seek(first)
+        for number in range(commands):
+            body = it.read(struct.unpack("<I", it.read(4))[0])
+            # (behind OPEN_READER and DOWNLOAD, and before CLOSE_READER)
+            if 2 <= number < commands - 1:
+                found.update(body[1 + header :])
+    return found.digest()
+
+
+def digest_of_files(paths):
+    found = hashlib.sha256()
+    for path in paths:
+        with open(path, "rb") as it:
+            found.update(it.read())
+    return found.digest()
+
+
 def write(path, data):
     os.makedirs(os.path.dirname(path), exist_ok=True)
     with open(path, "wb") as out:
@@ -107,6 +141,15 @@ def hash_all(paths, processes=1):
     runs = [subprocess.Popen(["sha256sum", *part], stdout=subprocess.DEVNULL) for part in parts]
     if any([run.wait() for run in runs]):
         sys.exit(f"{os.path.basename(sys.argv[0])}: sha256sum failed")
+
+
+def copy_all(paths, folder):
+    """A copy of the files in a folder, each synced as it is written."""
+    for number, path in enumerate(paths):
+        with open(path, "rb") as it, open(os.path.join(folder, f"{number:06}"), "wb") as out:
+            out.write(it.read())
+            out.flush()
+            os.fsync(out.fileno())
 
 
 def least(call, times=3):

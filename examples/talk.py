@@ -1,8 +1,8 @@
-"""A conversation with the store: `./pbstore` on a folder, with a session that is sent command by command.
+"""Conversations with the store: `./pbstore` on a folder, with sessions at once that are sent command by command.
 
-The session and the replies go through two named pipes, so that neither takes room on the disk.
+A session and its replies go through two named pipes, so that neither takes room on the disk.
 """
-import errno, os, shutil, struct, subprocess, tempfile, time
+import contextlib, errno, os, shutil, struct, subprocess, tempfile, time
 
 from session import REFUSALS, bye, frame
 
@@ -14,6 +14,7 @@ STATUSES = {
     4: "the session could not be read",
     5: "the replies could not be written",
     6: "out of memory",
+    7: "there are more than 64 sessions at once",
     9: "the session is too long",
     10: "a read of the remote failed",
     70: "the program could not be built",
@@ -57,7 +58,7 @@ class Refused(Exception):
     """The store refused a command."""
 
     def __init__(self, body):
-        self.number, self.name = body[0], REFUSALS.get(body[0], "?")
+        self.body, self.number, self.name = body, body[0], REFUSALS.get(body[0], "?")
         super().__init__(f"{self.words(body[1:])} ({self.name}, {self.number})")
 
     def words(self, fields):
@@ -81,47 +82,39 @@ class Ended(Exception):
 
 
 class Talk:
-    """`with Talk(root) as store: store.ask(command)` gives the reply's fields, or raises Refused. SYNC pulls from `remote`."""
+    """A session of a run: `with it as store: store.ask(command)` gives the reply's fields, or raises Refused."""
 
-    def __init__(self, root, remote=None):
-        self.root, self.run, self.pipe, self.replies = root, None, None, None
-        self.work = tempfile.mkdtemp(prefix="session-")
-        session = os.path.join(self.work, "session")
-        beside = ["--remote", remote] if remote else []
-        try:
-            os.mkfifo(session)
-            os.mkfifo(session + ".out")
-            # (each end of a pipe waits for the other: the store opens that of the replies first)
-            self.replies = open(os.open(session + ".out", os.O_RDONLY | os.O_NONBLOCK), "rb", buffering=0)
-            self.run = subprocess.Popen([os.path.join(TOP, "pbstore"), "run", root, *beside, session])
-            self.pipe = open(self.opened(session), "wb", buffering=0)
-            os.set_blocking(self.replies.fileno(), True)
-        except BaseException:
-            self.close()
-            raise
+    def __init__(self, run, path):
+        self.run, self.root, self.path, self.pipe = run, run.root, path, None
+        os.mkfifo(path)
+        os.mkfifo(path + ".out")
+        # (each end of a pipe waits for the other: the store opens that of the replies first)
+        self.replies = open(os.open(path + ".out", os.O_RDONLY | os.O_NONBLOCK), "rb", buffering=0)
 
     def __enter__(self):
+        self.pipe = open(self.opened(), "wb", buffering=0)
+        os.set_blocking(self.replies.fileno(), True)
         return self
 
     def __exit__(self, *cause):
         try:
             if cause[0] is None:
-                self.end()
+                self.ask(bye())
         finally:
             self.close()
 
-    def opened(self, session):
+    def opened(self):
         """The session's pipe, once the store reads it."""
-        while self.run.poll() is None:
+        while self.run.program.poll() is None:
             try:
-                pipe = os.open(session, os.O_WRONLY | os.O_NONBLOCK)
+                pipe = os.open(self.path, os.O_WRONLY | os.O_NONBLOCK)
                 os.set_blocking(pipe, True)
                 return pipe
             except OSError as error:
                 if error.errno != errno.ENXIO:
                     raise
                 time.sleep(0.001)
-        raise Ended(self.run.returncode)
+        raise self.run.ended()
 
     def read(self, size):
         """So many bytes of the replies, once they are there."""
@@ -129,7 +122,7 @@ class Talk:
         while len(found) < size:
             some = self.replies.read(size - len(found))
             if not some:
-                raise Ended(self.run.wait())
+                raise self.run.ended()
             found += some
         return bytes(found)
 
@@ -139,7 +132,7 @@ class Talk:
             while view:
                 view = view[self.pipe.write(view) :]
         except BrokenPipeError:
-            raise Ended(self.run.wait()) from None
+            raise self.run.ended() from None
 
     def ask(self, command):
         self.send(frame(command))
@@ -148,19 +141,56 @@ class Talk:
             raise Refused(body)
         return body[1:]
 
-    def end(self):
-        self.ask(bye())
-        self.pipe.close()
-        if status := self.run.wait():
-            raise Ended(status)
-
     def close(self):
         for it in (self.pipe, self.replies):
             if it:
                 it.close()
-        if self.run and self.run.poll() is None:
+
+
+class Run:
+    """A run of the store with so many sessions at once, `talks`. SYNC pulls from `remote`."""
+
+    def __init__(self, root, remote=None, count=1):
+        self.root, self.program, self.talks = root, None, []
+        self.work = tempfile.mkdtemp(prefix="sessions-")
+        beside = ["--remote", remote] if remote else []
+        try:
+            for number in range(count):
+                self.talks.append(Talk(self, os.path.join(self.work, f"session-{number}")))
+            words = [os.path.join(TOP, "pbstore"), "run", root, *beside, *(it.path for it in self.talks)]
+            self.program = subprocess.Popen(words)
+        except BaseException:
+            self.close()
+            raise
+
+    def __enter__(self):
+        return self
+
+    def __exit__(self, *cause):
+        self.close()
+
+    def ended(self):
+        """Why the store ended before it was to."""
+        return Ended(self.program.wait())
+
+    def end(self):
+        """Waits for the store's end, once all sessions have ended."""
+        if self.program.wait():
+            raise self.ended()
+
+    def close(self):
+        if self.program:
             try:
-                self.run.wait(timeout=5 if self.pipe else 0)
+                self.program.wait(timeout=5 if all(it.pipe and it.pipe.closed for it in self.talks) else 0)
             except subprocess.TimeoutExpired:
-                self.run.terminate()
+                self.program.terminate()
         shutil.rmtree(self.work, ignore_errors=True)
+
+
+@contextlib.contextmanager
+def talk(root, remote=None):
+    """`with talk(root) as store` is a run of one session."""
+    with Run(root, remote) as run:
+        with run.talks[0] as store:
+            yield store
+        run.end()
