@@ -44,3 +44,8 @@ TWO_SNAPSHOTS = {
 def many_listed(count):
     """The blob of a manifest that lists so many empty blobs."""
     return blob(manifest(A, *(listed_blob(f"x{number}.blob", blob(b"")) for number in range(10, 10 + count))))
+
+
+def order(*entries, magic=b"PBSORDER"):
+    """The order file of these lanes, moments and kinds."""
+    return magic + b"".join(u32(lane) + u64(moment) + bytes([kind]) for lane, moment, kind in entries)

@@ -1,4 +1,4 @@
-"""Blobs, frames, commands and replies, indexes, manifests and the book, each byte by byte."""
+"""Blobs, frames, commands and replies, indexes, manifests, the book and the order file, each byte by byte."""
 from session import *
 from tables.common import *
 
@@ -263,5 +263,14 @@ TABLES = {
     },
     "base_tests/src/formats/manifests.rt": {
         "no_text": [b'"\xff"'],
+    },
+    "base_tests/src/formats/order.rt": {
+        "FILES": [order((0, 5, 6)), order((257, 5, 0), (1, 258, 3), (257, 253402300799, 6))],
+        "no_files": [
+            order((0, 5, 6)),
+            order((0, 5, 6)) + b"\0",
+            order((0, 5, 6), magic=b"PBSORDES"),
+            order((0, 5, 6), magic=b"QBSORDER"),
+        ],
     },
 }

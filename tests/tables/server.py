@@ -46,6 +46,40 @@ SENT, TOLD = talk(*UPLOAD)
 # No command behind it, a frame that the input's end cuts, and BYE.
 BEHIND = [(frame(b"c"), frame(bad_frame(len(SENT)))), (frame(finish())[:3], frame(bad_frame(len(SENT)))), (frame(bye()), frame(done()))]
 
+
+# The replies to a backup of three commands, of which none, the first, the second or the third lacked memory.
+LACKING = [
+    frame(it)
+    for replies in (
+        (base(), done(), done()),
+        (no_memory(), wrong_state(0), wrong_state(0)),
+        (base(), no_memory(), no_file()),
+        (base(), done(), no_memory()),
+    )
+    for it in replies
+]
+# Two groups' snapshots, and a later one of each.
+NEXT = [(A, A_LATER), (B, "host/b/2020-01-15T06:30:04Z")]
+
+
+def conf_backed_up(snapshot):
+    """A snapshot of one blob is backed up, its files are told, its manifest is read, and it is forgotten: what is sent, and the replies."""
+    conf = blob(b"123456789")
+    file = blob(manifest(snapshot, listed_blob("a.conf.blob", conf)))
+    turns = [
+        (open_writer(snapshot), base()),
+        (put("a.conf.blob", b"123456789"), done()),
+        (put_manifest(snapshot, listed_blob("a.conf.blob", conf)), done()),
+        (finish(), done()),
+        (files(snapshot), file_rows(*((name, len(it), sha256(it)) for name, it in (("a.conf.blob", conf), (MANIFEST, file))))),
+        (open_reader(snapshot), done()),
+        (download(MANIFEST), part(file)),
+        (close_reader(), done()),
+        (forget(snapshot), done()),
+    ]
+    return frames(*(command for command, _ in turns)), [frame(reply) for _, reply in turns]
+
+
 # The same of another group, with a blob in place of the manifest.
 B_SENT, B_TOLD = talk((open_writer(B), base()), (put("a.conf.blob", b"123456789"), done()))
 
@@ -55,6 +89,14 @@ TABLES = {
         "UPLOADED": [TOLD],
         "ENDINGS": [TOLD[:1], TOLD[:8], *(it for sent, told in BEHIND for it in (SENT + sent, TOLD + told))],
         "AGAIN": talk((open_writer(A), base()), (list_after(), rows((B, 1)))),
+    },
+    "server_tests/src/judged.rt": {
+        "NO_MEMORY": [frame(no_memory())],
+        "DISK_FAULT": [frame(disk_fault())],
+        "NEXT": [it for one, later in NEXT for it in (frame(open_writer(later)), frame(base()), frame(base(one)))],
+    },
+    "server_tests/src/lacking.rt": {
+        "REPLIES": LACKING,
     },
     "server_tests/src/lanes.rt": {
         "TWO_SENT": talk(*TWO)[:1],
@@ -79,12 +121,18 @@ TABLES = {
         ],
         "UNFINISHED_REPLIES": [frames(base(), done(), done(), base(A), done(), done(), done())],
     },
+    "server_tests/src/serving/disk_faults.rt": {
+        "SENT": [conf_backed_up(it)[0] for it in (A, B)],
+        "REPLIES": [reply for it in (A, B) for reply in conf_backed_up(it)[1]],
+    },
     "server_tests/src/serving/gated.rt": {
         "BACKUP_A": [frames(open_writer(A), put_manifest(A), finish())],
         "BACKUPS": [frames(open_writer(it), put_manifest(it), finish()) for it in FOUR[1:]],
         "BACKED_UP": [frames(base(), done(), done())],
         "LIST": [frames(list_after())],
         "FOUR_LISTED": [frames(rows(*((it, 1) for it in FOUR)))],
+        "LIST_AND_BYE": [frames(list_after(), bye())],
+        "NONE_LISTED": [frames(rows(), done())],
         "GATED": [
             frame(bye()),
             frames(gc(), finish()),

@@ -6,15 +6,15 @@ ghost use Rattle.store_model.specs.ArchiveSteps.{check_chunk};
 ghost use Rattle.store_history.specs.Acts.{IsChecked, IsWellFormed};
 ghost use Rattle.core_laws.specs.Playing.{ArePlayable, IsPlayable};
 
+use crate::asserts::must;
 use crate::fixtures::TestCore;
 use blob_codec::decode;
 use core_state::{Act, Answer};
 use port_traits::MemSink;
 use sha2::{Digest, Sha256};
 use shared_store::apply;
-use std::alloc::Global;
+use std::alloc::{AllocError, Global};
 use std::process::Abort;
-use std::test::Fail;
 use store_types::{Bytes, Digest32, FileName, Refusal};
 use wire_commands::{Command, Reply};
 
@@ -78,87 +78,85 @@ fn is_blob_of(digest: Digest32, blob: &[u8]) -> bool
 }
 
 /// The upload of a chunk that has its digest.
-fn act_of_chunk(digest: Digest32, blob: Bytes) -> Result<Act, Fail>
-    ensures { IfOk result IsWellFormed }
+fn act_of_chunk(rt: &impl Abort, digest: Digest32, blob: Bytes) -> Act
+    ensures { IsWellFormed result }
 {
-    if !is_blob_of(digest, blob.as_slice()) {
-        return Err("another digest".into());
-    }
+    assert!(rt; is_blob_of(digest, blob.as_slice()));
     let checked = Ok(blob);
-    Ok(Act::Chunk { digest, checked })
+    Act::Chunk { digest, checked }
 }
 
 /// The act of a command, where it is one of its own or begins a PRUNE.
-fn act_of_command(command: Command) -> Result<Act, Fail>
-    ensures { IfOk result IsWellFormed }
+fn act_of_command(rt: &impl Abort, command: Command) -> Act
+    ensures { IsWellFormed result }
 {
     match command {
-        Command::Chunk { digest, blob } => act_of_chunk(digest, blob),
-        Command::Blob { file, blob } => Ok(Act::Blob {
+        Command::Chunk { digest, blob } => act_of_chunk(rt, digest, blob),
+        Command::Blob { file, blob } => Act::Blob {
             name: file,
             checked: checked(blob),
-        }),
-        Command::Prune { group, keep, dry } => {
-            Ok(Act::JobGroup(Command::Prune { group, keep, dry }))
-        }
+        },
+        Command::Prune { group, keep, dry } => Act::JobGroup(Command::Prune { group, keep, dry }),
         Command::Verify { .. } | Command::Sync { .. } | Command::Gc | Command::Bye => {
-            Err("no act".into())
+            panic!(rt; "no act")
         }
-        command => Ok(Act::Plain(command)),
+        command => Act::Plain(command),
     }
 }
 
-fn act_sent(alloc: Global, body: &[u8]) -> Result<Act, Fail>
-    ensures { IfOk result IsWellFormed }
+fn act_sent(rt: &impl Abort, alloc: Global, body: &[u8]) -> Act
+    ensures { IsWellFormed result }
 {
-    match Command::read(alloc, body)? {
-        Ok(command) => act_of_command(command),
-        Err(_) => Err("no command".into()),
-    }
+    act_of_command(rt, must(rt, must(rt, Command::read(alloc, body))))
 }
 
-fn named(alloc: Global, name: &[u8]) -> Result<FileName, Fail> {
-    Ok(FileName::check(alloc, name)?.ok().ok_or("no name")?)
+fn named(rt: &impl Abort, alloc: Global, name: &[u8]) -> FileName {
+    must(
+        rt,
+        must(rt, FileName::check(alloc, name)).ok().ok_or("no name"),
+    )
 }
 
-fn act_of(alloc: Global, step: Step) -> Result<Act, Fail>
-    ensures { IfOk result IsWellFormed }
+fn act_of(rt: &impl Abort, alloc: Global, step: Step) -> Act
+    ensures { IsWellFormed result }
 {
     match step {
-        Step::Send(body) => act_sent(alloc, body),
+        Step::Send(body) => act_sent(rt, alloc, body),
         Step::ReadFile(name, offset) => {
-            let name = named(alloc, name)?;
-            Ok(Act::ReadFile { name, offset })
+            let name = named(rt, alloc, name);
+            Act::ReadFile { name, offset }
         }
         Step::ReadChunk(name, entry) => {
-            let name = named(alloc, name)?;
-            Ok(Act::ReadChunk { name, entry })
+            let name = named(rt, alloc, name);
+            Act::ReadChunk { name, entry }
         }
-        Step::Start => Ok(Act::Start),
-        Step::Pass => Ok(Act::Step),
-        Step::Short => Ok(Act::Short),
-        Step::End => Ok(Act::End),
-        _ => Err("no act".into()),
+        Step::Start => Act::Start,
+        Step::Pass => Act::Step,
+        Step::Short => Act::Short,
+        Step::End => Act::End,
+        _ => panic!(rt; "no act"),
     }
 }
 
 /// The act of a row, and its lane.
-fn asked(alloc: Global, row: &Row) -> Result<(u32, Act), Fail>
-    ensures { IfOk result IsPlayable }
+fn asked(rt: &impl Abort, alloc: Global, row: &Row) -> (u32, Act)
+    ensures { IsPlayable result }
 {
     let (lane, step, _, _) = *row;
-    if lane >= 64 {
-        return Err("no such lane".into());
-    }
-    Ok((lane, act_of(alloc, step)?))
+    assert!(rt; lane < 64);
+    (lane, act_of(rt, alloc, step))
 }
 
-pub(crate) fn acts_of(alloc: Global, rows: &[Row]) -> Result<Vec<(u32, Act)>, Fail>
+pub(crate) fn acts_of(
+    rt: &impl Abort,
+    alloc: Global,
+    rows: &[Row],
+) -> Result<Vec<(u32, Act)>, AllocError>
     ensures { IfOk result (λ acts. ArePlayable acts.items) }
 {
     let mut acts = Vec::new(alloc);
     for row in rows {
-        acts.push(asked(alloc, row)?)?;
+        acts.push(asked(rt, alloc, row))?;
     }
     Ok(acts)
 }
@@ -176,34 +174,34 @@ pub(crate) struct Told {
 }
 
 /// The frame of a reply, if any.
-fn frame(alloc: Global, reply: &Option<Reply>) -> Result<MemSink, Fail>
+fn frame(rt: &impl Abort, alloc: Global, reply: &Option<Reply>) -> MemSink
     requires { IfSome reply.now ReplyHasText }
 {
     let mut sink = MemSink::new(alloc, Vec::new(alloc));
     if let Some(reply) = reply {
-        reply.put(&mut sink)?;
+        must(rt, reply.put(&mut sink));
     }
-    Ok(sink)
+    sink
 }
 
 /// An answer as it is shown.
-pub(crate) fn text_of(alloc: Global, answer: &Answer) -> Result<String, Fail> {
-    Ok(format!(in alloc; "{answer:?}")?)
+pub(crate) fn text_of(rt: &impl Abort, alloc: Global, answer: &Answer) -> String {
+    must(rt, format!(in alloc; "{answer:?}"))
 }
 
-fn told_by(alloc: Global, answer: &Answer) -> Result<Told, Fail>
+fn told_by(rt: &impl Abort, alloc: Global, answer: &Answer) -> Told
     requires { IfSome answer.now.reply ReplyHasText }
 {
-    let sink = frame(alloc, &answer.reply)?;
-    let shown = text_of(alloc, answer)?;
-    Ok(Told {
+    let sink = frame(rt, alloc, &answer.reply);
+    let shown = text_of(rt, alloc, answer);
+    Told {
         lane: answer.entry.lane,
         kind: answer.entry.kind,
         place: answer.place,
         last: answer.last,
         frame: sink,
         shown,
-    })
+    }
 }
 
 /// Does an act, where there is room.
@@ -213,9 +211,9 @@ pub(crate) fn do_act(
     alloc: Global,
     lane: u32,
     step: Step,
-) -> Result<Told, Fail> {
-    let act = act_of(alloc, step)?;
+) -> Told {
+    let act = act_of(rt, alloc, step);
     assert!(rt; lane < 64 && core.room(lane, &act));
     let answer = apply(core, alloc, lane, act);
-    told_by(alloc, &answer)
+    told_by(rt, alloc, &answer)
 }

@@ -1,4 +1,5 @@
 use crate::acts::{Row, Rows, Step};
+use crate::asserts::must;
 use crate::cases::{put_beside, try_rows, try_tables};
 use crate::fixtures::{DIGITS, MANIFEST_PATH, STILL, TestCore, opened};
 use crate::folders::Archives;
@@ -11,7 +12,6 @@ use blob_codec::encode;
 use disk_trait::MemoryDisk;
 use std::alloc::Global;
 use std::process::Abort;
-use std::test::Fail;
 
 /// Two snapshots of one group, the first with a file, and one of another group. None is there before.
 static WRITTEN: [Row; 11] = [
@@ -47,7 +47,7 @@ fn written() -> Rows {
 }
 
 /// They are there, and these acts are done.
-fn try_written(rt: &impl Abort, alloc: Global, rows: &[Row]) -> Result<(), Fail> {
+fn try_written(rt: &impl Abort, alloc: Global, rows: &[Row]) {
     try_tables(rt, alloc, &[], Archives::Root(0), written(), rows)
 }
 
@@ -157,22 +157,22 @@ static TOLD_FILES: [Row; 9] = [
 ];
 
 #[test]
-fn snapshots_are_listed(rt: HostRuntime) -> Result<(), Fail> {
+fn snapshots_are_listed(rt: HostRuntime) {
     try_written(&rt, rt.alloc(), &LISTED)
 }
 
 #[test]
-fn groups_are_told(rt: HostRuntime) -> Result<(), Fail> {
+fn groups_are_told(rt: HostRuntime) {
     try_written(&rt, rt.alloc(), &TOLD)
 }
 
 #[test]
-fn prunes_begin(rt: HostRuntime) -> Result<(), Fail> {
+fn prunes_begin(rt: HostRuntime) {
     try_written(&rt, rt.alloc(), &BEGUN)
 }
 
 #[test]
-fn files_are_told(rt: HostRuntime) -> Result<(), Fail> {
+fn files_are_told(rt: HostRuntime) {
     try_written(&rt, rt.alloc(), &TOLD_FILES)
 }
 
@@ -184,32 +184,35 @@ const LISTED_FILE: &[u8] =
     b".blob\",\"size\":21,\"csum\":\"69dcb4830c28203c26a1dade2d893d7f1d13cdba5eb39e348b008f3a5a0fb688\"}";
 
 /// The blob of a manifest of the first that lists 64 files.
-fn listing(alloc: Global) -> Result<Vec<u8>, Fail> {
-    let mut text = LISTING.to_vec(alloc)?;
+fn listing(rt: &impl Abort, alloc: Global) -> Vec<u8> {
+    let mut text = must(rt, LISTING.to_vec(alloc));
     for number in 0..64u8 {
-        text.extend_from_slice(if 0 < number { b"," } else { b"" })?;
-        text.extend_from_slice(b"{\"filename\":\"")?;
-        text.push(b'a' + number / 8)?;
-        text.push(b'a' + number % 8)?;
-        text.extend_from_slice(LISTED_FILE)?;
+        must(
+            rt,
+            text.extend_from_slice(if 0 < number { b"," } else { b"" }),
+        );
+        must(rt, text.extend_from_slice(b"{\"filename\":\""));
+        must(rt, text.push(b'a' + number / 8));
+        must(rt, text.push(b'a' + number % 8));
+        must(rt, text.extend_from_slice(LISTED_FILE));
     }
-    text.extend_from_slice(b"]}")?;
-    Ok(encode(alloc, &text)?.ok().ok_or("too long")?)
+    must(rt, text.extend_from_slice(b"]}"));
+    must(rt, must(rt, encode(alloc, &text)).ok().ok_or("too long"))
 }
 
 static NO_MANIFEST: [Row; 1] = [(5, Step::Send(FILES), UNREADABLE, 0)];
 
-fn try_listing(rt: &impl Abort, core: &mut TestCore, alloc: Global) -> Result<(), Fail> {
-    try_rows(rt, core, alloc, [0; 4], written())?;
-    put_beside(core, alloc, MANIFEST_PATH, &listing(alloc)?)?;
+fn try_listing(rt: &impl Abort, core: &mut TestCore, alloc: Global) {
+    try_rows(rt, core, alloc, [0; 4], written());
+    put_beside(rt, core, alloc, MANIFEST_PATH, &listing(rt, alloc));
     try_rows(rt, core, alloc, [1, 0, 0, 0], &NO_MANIFEST)
 }
 
 /// A manifest that was put there since the datastore was opened lists 64 files, which no FINISH makes.
 #[test]
-fn a_manifest_of_64_files_is_none(rt: HostRuntime) -> Result<(), Fail> {
+fn a_manifest_of_64_files_is_none(rt: HostRuntime) {
     let alloc = rt.alloc();
-    let mut core = opened(alloc, MemoryDisk::new(alloc), STILL)?;
+    let mut core = opened(&rt, alloc, MemoryDisk::new(alloc), STILL);
     try_listing(&rt, &mut core, alloc)
 }
 
@@ -238,6 +241,6 @@ static FORGOTTEN: [Row; 14] = [
 ];
 
 #[test]
-fn snapshots_are_forgotten(rt: HostRuntime) -> Result<(), Fail> {
+fn snapshots_are_forgotten(rt: HostRuntime) {
     try_written(&rt, rt.alloc(), &FORGOTTEN)
 }

@@ -2,6 +2,7 @@
 //! by `tests/make-tables`.
 
 use crate::acts::{Row, Rows, Step};
+use crate::asserts::must;
 use crate::books::NONE_OF_BOTH;
 use crate::cases::{Case, Spot, try_case};
 use crate::collecting::{
@@ -17,9 +18,8 @@ use crate::sent::{
     ABORT, AT_END, BUSY, CLOSE_READER, DONE, FINISH, FIRST_BASE, FORGET_FIRST, IN_NONE, NO_BASE,
     NO_MEMORY, NOTHING, NUMBER, OPEN_FIRST, OPEN_SECOND, READ_FIRST, READ_SECOND,
 };
-use std::alloc::{AllocError, Global};
+use std::alloc::Global;
 use std::process::Abort;
-use std::test::Fail;
 
 /// How a collection goes where others' acts fall at one of its places, and what the core has in the end, and one that is opened then.
 #[derive(Clone, Copy)]
@@ -578,43 +578,42 @@ static ENDED: Beside = Beside {
 };
 
 /// Adds the rows from one number on, up to another.
-fn add(list: &mut Vec<Row>, rows: &[Row], from: usize, to: usize) -> Result<(), AllocError> {
+fn add(rt: &impl Abort, list: &mut Vec<Row>, rows: &[Row], from: usize, to: usize) {
     for (number, row) in rows.iter().enumerate() {
         if from <= number && number < to {
-            list.push(*row)?;
+            must(rt, list.push(*row));
         }
     }
-    Ok(())
 }
 
 /// The acts of a collection.
-fn collection_of(alloc: Global, place: &Place) -> Result<Vec<Row>, AllocError> {
+fn collection_of(rt: &impl Abort, alloc: Global, place: &Place) -> Vec<Row> {
     let mut rows: Vec<Row> = Vec::new(alloc);
     if place.starts {
-        rows.push(START)?;
+        must(rt, rows.push(START));
     }
     for _ in 0..place.passes {
-        rows.push(PASS)?;
+        must(rt, rows.push(PASS));
     }
     if let Some(last) = place.last {
-        rows.push(last)?;
+        must(rt, rows.push(last));
     }
-    Ok(rows)
+    rows
 }
 
 /// What is done in all. So many of the acts come at an earlier place, and the rest at their own.
-fn woven(alloc: Global, table: &Beside, place: &Place, spot: Spot) -> Result<Vec<Row>, AllocError> {
+fn woven(rt: &impl Abort, alloc: Global, table: &Beside, place: &Place, spot: Spot) -> Vec<Row> {
     let [from, early, to, _] = spot;
-    let collection = collection_of(alloc, place)?;
+    let collection = collection_of(rt, alloc, place);
     let mut list: Vec<Row> = Vec::new(alloc);
-    add(&mut list, table.before, 0, usize::MAX)?;
-    add(&mut list, &collection, 0, from)?;
-    add(&mut list, table.acts, 0, early)?;
-    add(&mut list, &collection, from, to)?;
-    add(&mut list, table.acts, early, usize::MAX)?;
-    add(&mut list, &collection, to, usize::MAX)?;
-    add(&mut list, table.after, 0, usize::MAX)?;
-    Ok(list)
+    add(rt, &mut list, table.before, 0, usize::MAX);
+    add(rt, &mut list, &collection, 0, from);
+    add(rt, &mut list, table.acts, 0, early);
+    add(rt, &mut list, &collection, from, to);
+    add(rt, &mut list, table.acts, early, usize::MAX);
+    add(rt, &mut list, &collection, to, usize::MAX);
+    add(rt, &mut list, table.after, 0, usize::MAX);
+    list
 }
 
 /// Moments stand still, where the clock falls too.
@@ -625,8 +624,8 @@ fn try_spot(
     table: &Beside,
     place: &Place,
     spot: Spot,
-) -> Result<(), Fail> {
-    let steps = woven(alloc, table, place, spot)?;
+) {
+    let steps = woven(rt, alloc, table, place, spot);
     let case = Case {
         files: table.files,
         archives: Archives::Root(table.entries),
@@ -639,87 +638,79 @@ fn try_spot(
 }
 
 /// All acts come at one place, or so many before the collection begins, or at the place before.
-fn try_place(
-    rt: &impl Abort,
-    alloc: Global,
-    table: &Beside,
-    place: &Place,
-    spot: Spot,
-) -> Result<(), Fail> {
-    try_spot(rt, alloc, STILL, table, place, spot)?;
-    try_spot(rt, alloc, FALLING, table, place, spot)?;
+fn try_place(rt: &impl Abort, alloc: Global, table: &Beside, place: &Place, spot: Spot) {
+    try_spot(rt, alloc, STILL, table, place, spot);
+    try_spot(rt, alloc, FALLING, table, place, spot);
     let [_, _, to, _] = spot;
     let from = to.saturating_sub(1);
     for early in 1..=table.early {
-        try_spot(rt, alloc, STILL, table, place, [0, early, to, 0])?;
-        try_spot(rt, alloc, FALLING, table, place, [from, early, to, 0])?;
+        try_spot(rt, alloc, STILL, table, place, [0, early, to, 0]);
+        try_spot(rt, alloc, FALLING, table, place, [from, early, to, 0]);
     }
-    Ok(())
 }
 
-fn try_table(rt: &impl Abort, alloc: Global, table: &Beside) -> Result<(), Fail> {
+fn try_table(rt: &impl Abort, alloc: Global, table: &Beside) {
     for (to, place) in table.places.iter().enumerate() {
-        try_place(rt, alloc, table, place, [0, 0, to, 0])?;
+        try_place(rt, alloc, table, place, [0, 0, to, 0]);
     }
-    Ok(())
 }
 
 #[test]
-fn a_writer_reuses(rt: HostRuntime) -> Result<(), Fail> {
+fn a_writer_reuses(rt: HostRuntime) {
     try_table(&rt, rt.alloc(), &REUSED)
 }
 
 #[test]
-fn a_writer_reuses_and_its_base_is_forgotten(rt: HostRuntime) -> Result<(), Fail> {
+fn a_writer_reuses_and_its_base_is_forgotten(rt: HostRuntime) {
     try_table(&rt, rt.alloc(), &REUSED_ALONE)
 }
 
 #[test]
-fn a_writer_sends(rt: HostRuntime) -> Result<(), Fail> {
+fn a_writer_sends(rt: HostRuntime) {
     try_table(&rt, rt.alloc(), &WRITTEN)
 }
 
 #[test]
-fn a_writer_sends_and_finishes_after(rt: HostRuntime) -> Result<(), Fail> {
+fn a_writer_sends_and_finishes_after(rt: HostRuntime) {
     try_table(&rt, rt.alloc(), &FINISHED_AFTER)
 }
 
 #[test]
-fn a_writer_sends_what_is_gone(rt: HostRuntime) -> Result<(), Fail> {
+fn a_writer_sends_what_is_gone(rt: HostRuntime) {
     try_table(&rt, rt.alloc(), &SENT)
 }
 
 #[test]
-fn a_snapshot_is_forgotten(rt: HostRuntime) -> Result<(), Fail> {
+fn a_snapshot_is_forgotten(rt: HostRuntime) {
     try_table(&rt, rt.alloc(), &FORGOTTEN)
 }
 
 #[test]
-fn a_snapshot_is_made_again(rt: HostRuntime) -> Result<(), Fail> {
+fn a_snapshot_is_made_again(rt: HostRuntime) {
     try_table(&rt, rt.alloc(), &MADE_AGAIN)
 }
 
 #[test]
-fn another_collector_is_open(rt: HostRuntime) -> Result<(), Fail> {
+fn another_collector_is_open(rt: HostRuntime) {
     try_table(&rt, rt.alloc(), &OTHER_IS_OPEN)
 }
 
 #[test]
-fn another_collector_is_refused(rt: HostRuntime) -> Result<(), Fail> {
+fn another_collector_is_refused(rt: HostRuntime) {
     try_table(&rt, rt.alloc(), &OTHER_IS_REFUSED)
 }
 
 #[test]
-fn memory_is_wanting(rt: HostRuntime) -> Result<(), Fail> {
+fn memory_is_wanting(rt: HostRuntime) {
     try_table(&rt, rt.alloc(), &SHORT)
 }
 
 #[test]
-fn memory_is_wanting_elsewhere(rt: HostRuntime) -> Result<(), Fail> {
+fn memory_is_wanting_elsewhere(rt: HostRuntime) {
     try_table(&rt, rt.alloc(), &SHORT_ELSEWHERE)
 }
 
 #[test]
-fn the_lane_ends(rt: HostRuntime) -> Result<(), Fail> {
+fn the_lane_ends(rt: HostRuntime) {
     try_table(&rt, rt.alloc(), &ENDED)
 }

@@ -13,7 +13,6 @@ use crate::sent::{
 use disk_trait::MemoryDisk;
 use std::alloc::Global;
 use std::process::Abort;
-use std::test::Fail;
 
 pub(crate) const NONE_OF_BOTH: Contents = &[];
 
@@ -100,49 +99,46 @@ static DAMAGED: [(&[u8], u64); 9] = [
 const CLOCK: Clock = (&[70, 80], 0);
 
 /// A disk with these chunks and this book.
-fn disk_with(alloc: Global, book: Option<&[u8]>, chunks: Contents) -> Result<MemoryDisk, Fail> {
-    let mut disk = folder(alloc, chunks, Archives::Root(0))?;
+fn disk_with(rt: &impl Abort, alloc: Global, book: Option<&[u8]>, chunks: Contents) -> MemoryDisk {
+    let mut disk = folder(rt, alloc, chunks, Archives::Root(0));
     if let Some(bytes) = book {
-        put(alloc, &mut disk, BOOK, bytes)?;
+        put(rt, alloc, &mut disk, BOOK, bytes);
     }
-    Ok(disk)
+    disk
 }
 
 /// What a core over it has, and how many calls its opening made.
-fn kept_by(alloc: Global, book: Option<&[u8]>, chunks: Contents) -> Result<(Kept, u64), Fail> {
-    begun_with(alloc, disk_with(alloc, book, chunks)?)
+fn kept_by(rt: &impl Abort, alloc: Global, book: Option<&[u8]>, chunks: Contents) -> (Kept, u64) {
+    begun_with(rt, alloc, disk_with(rt, alloc, book, chunks))
 }
 
 #[test]
-fn cores_begin_with_the_saved_book(rt: HostRuntime) -> Result<(), Fail> {
+fn cores_begin_with_the_saved_book(rt: HostRuntime) {
     for (number, (book, chunks, wanted)) in BEGUN.iter().enumerate() {
-        let (found, _) = kept_by(rt.alloc(), *book, *chunks)?;
+        let (found, _) = kept_by(&rt, rt.alloc(), *book, *chunks);
         same_at(&rt, number, found, *wanted);
     }
-    Ok(())
 }
 
 /// One of its touches and one undated, and nothing of a book.
 const AS_IF_NONE: Kept = (0, Some(0), None, 1);
 
 #[test]
-fn damaged_books_count_as_none(rt: HostRuntime) -> Result<(), Fail> {
+fn damaged_books_count_as_none(rt: HostRuntime) {
     for (number, (book, calls)) in DAMAGED.iter().enumerate() {
-        let found = kept_by(rt.alloc(), Some(book), ONE)?;
+        let found = kept_by(&rt, rt.alloc(), Some(book), ONE);
         same_at(&rt, number, found, (AS_IF_NONE, *calls));
     }
-    Ok(())
 }
 
 /// A book that is cut anywhere is none.
 #[test]
-fn torn_books_count_as_none(rt: HostRuntime) -> Result<(), Fail> {
+fn torn_books_count_as_none(rt: HostRuntime) {
     for len in 0..SAVED.len() {
         let torn = &SAVED[..len.min(SAVED.len())];
-        let (found, _) = kept_by(rt.alloc(), Some(torn), ONE)?;
+        let (found, _) = kept_by(&rt, rt.alloc(), Some(torn), ONE);
         same_at(&rt, len, found, AS_IF_NONE);
     }
-    Ok(())
 }
 
 /// What stands in place of the book, a first act, its moment, and that of a second one.
@@ -178,41 +174,33 @@ static DATED: [Dated; 8] = [
 ];
 
 /// An act, and another: the first dates what is undated.
-fn try_two(
-    rt: &impl Abort,
-    core: &mut TestCore,
-    alloc: Global,
-    spot: Spot,
-    row: &Dated,
-) -> Result<(), Fail> {
+fn try_two(rt: &impl Abort, core: &mut TestCore, alloc: Global, spot: Spot, row: &Dated) {
     let (_, act, first, second) = row;
-    try_row(rt, core, alloc, (spot, 0), act)?;
+    try_row(rt, core, alloc, (spot, 0), act);
     same_at(
         rt,
         spot,
         kept(core),
         (*first, Some(*first), Some(*first), 0),
     );
-    try_row(rt, core, alloc, (spot, 1), &LISTS)?;
+    try_row(rt, core, alloc, (spot, 1), &LISTS);
     same_at(
         rt,
         spot,
         kept(core),
         (*second, Some(*first), Some(*first), 0),
     );
-    Ok(())
 }
 
-fn try_dated(rt: &impl Abort, alloc: Global, number: usize, row: &Dated) -> Result<(), Fail> {
+fn try_dated(rt: &impl Abort, alloc: Global, number: usize, row: &Dated) {
     let (book, _, _, _) = row;
-    let mut core = opened(alloc, disk_with(alloc, *book, BOTH)?, CLOCK)?;
+    let mut core = opened(rt, alloc, disk_with(rt, alloc, *book, BOTH), CLOCK);
     try_two(rt, &mut core, alloc, [number, 0, 0, 0], row)
 }
 
 #[test]
-fn first_entries_date(rt: HostRuntime) -> Result<(), Fail> {
+fn first_entries_date(rt: HostRuntime) {
     for (number, row) in DATED.iter().enumerate() {
-        try_dated(&rt, rt.alloc(), number, row)?;
+        try_dated(&rt, rt.alloc(), number, row);
     }
-    Ok(())
 }

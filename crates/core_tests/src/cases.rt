@@ -1,7 +1,7 @@
 //! How tables are tried. Their acts are done one after another, by `apply`, and on another core as one list, by `play`.
 
 use crate::acts::{Row, Step, Told, acts_of, do_act, text_of};
-use crate::asserts::same_at;
+use crate::asserts::{must, same_at};
 use crate::fixtures::{Clock, Kept, STILL, TestCore, disk_of, kept, opened};
 use crate::folders::{Archives, Contents, folder, put};
 use crate::sent::{DONE, NO_FILE};
@@ -10,7 +10,6 @@ use core_state::Answer;
 use disk_trait::{Disk, MemoryDisk};
 use std::alloc::Global;
 use std::process::Abort;
-use std::test::Fail;
 use store_types::{Entry, LAST_MOMENT};
 
 /// What of a table.
@@ -36,14 +35,14 @@ fn try_act(
     alloc: Global,
     spot: (Spot, usize),
     row: &Row,
-) -> Result<Told, Fail> {
+) -> Told {
     let (lane, step, expected, kind) = row;
     let number = core.journal.entries.len() as u64;
-    let told = do_act(rt, core, alloc, *lane, *step)?;
+    let told = do_act(rt, core, alloc, *lane, *step);
     let found = (told.lane, told.kind, told.place, told.last);
     same_at(rt, spot, found, (*lane, *kind, number, false));
     same_at(rt, spot, told.frame.as_bytes(), *expected);
-    Ok(told)
+    told
 }
 
 /// Does the acts one after another. Gives the answers as they are shown.
@@ -53,12 +52,15 @@ fn try_acts(
     alloc: Global,
     spot: Spot,
     rows: &[Row],
-) -> Result<Vec<String>, Fail> {
+) -> Vec<String> {
     let mut shown = Vec::new(alloc);
     for (number, row) in rows.iter().enumerate() {
-        shown.push(try_act(rt, core, alloc, (spot, number), row)?.shown)?;
+        must(
+            rt,
+            shown.push(try_act(rt, core, alloc, (spot, number), row).shown),
+        );
     }
-    Ok(shown)
+    shown
 }
 
 /// Each entry's moment is the latest of those that the clock has told, or the one that the core began with.
@@ -73,25 +75,18 @@ fn try_moments(rt: &impl Abort, spot: Spot, order: &[Entry], clock: Clock, began
 }
 
 /// Each is answered as it was.
-fn try_shown(
-    rt: &impl Abort,
-    alloc: Global,
-    spot: Spot,
-    answers: &[Answer],
-    shown: &[String],
-) -> Result<(), Fail> {
+fn try_shown(rt: &impl Abort, alloc: Global, spot: Spot, answers: &[Answer], shown: &[String]) {
     same_at(rt, spot, answers.len(), shown.len());
     for (answer, text) in answers.iter().zip(shown) {
-        let found = text_of(alloc, answer)?;
+        let found = text_of(rt, alloc, answer);
         same_at(rt, spot, found.as_str(), text.as_str());
     }
-    Ok(())
 }
 
 /// A core with what stands in its folder.
-fn begun(alloc: Global, case: &Case<'_>) -> Result<TestCore, Fail> {
-    let disk = folder(alloc, case.files, case.archives)?;
-    opened(alloc, disk, case.clock)
+fn begun(rt: &impl Abort, alloc: Global, case: &Case<'_>) -> TestCore {
+    let disk = folder(rt, alloc, case.files, case.archives);
+    opened(rt, alloc, disk, case.clock)
 }
 
 /// Its acts are done one after another. Gives the answers as they are shown.
@@ -101,12 +96,12 @@ fn try_each(
     alloc: Global,
     spot: Spot,
     case: &Case<'_>,
-) -> Result<Vec<String>, Fail> {
+) -> Vec<String> {
     let began = core.last;
-    let shown = try_acts(rt, core, alloc, spot, case.steps)?;
+    let shown = try_acts(rt, core, alloc, spot, case.steps);
     same_at(rt, spot, kept(core), case.left);
     try_moments(rt, spot, &core.journal.entries, case.clock, began);
-    Ok(shown)
+    shown
 }
 
 /// They are played as one list.
@@ -117,22 +112,16 @@ fn try_list(
     spot: Spot,
     case: &Case<'_>,
     shown: &[String],
-) -> Result<(), Fail> {
-    let acts = acts_of(alloc, case.steps)?;
-    let answers = play(core, alloc, acts).ok().ok_or("not played")?;
-    try_shown(rt, alloc, spot, &answers, shown)?;
+) {
+    let acts = must(rt, acts_of(rt, alloc, case.steps));
+    let answers = must(rt, play(core, alloc, acts).ok().ok_or("not played"));
+    try_shown(rt, alloc, spot, &answers, shown);
     same_at(rt, spot, kept(core), case.left);
-    Ok(())
 }
 
 /// They are done one after another on a core of its own.
-fn shown_by(
-    rt: &impl Abort,
-    alloc: Global,
-    spot: Spot,
-    case: &Case<'_>,
-) -> Result<Vec<String>, Fail> {
-    let mut core = begun(alloc, case)?;
+fn shown_by(rt: &impl Abort, alloc: Global, spot: Spot, case: &Case<'_>) -> Vec<String> {
+    let mut core = begun(rt, alloc, case);
     try_each(rt, &mut core, alloc, spot, case)
 }
 
@@ -143,46 +132,40 @@ fn left_by(
     spot: Spot,
     case: &Case<'_>,
     shown: &[String],
-) -> Result<MemoryDisk, Fail> {
-    let mut core = begun(alloc, case)?;
-    try_list(rt, &mut core, alloc, spot, case, shown)?;
-    Ok(disk_of(core))
+) -> MemoryDisk {
+    let mut core = begun(rt, alloc, case);
+    try_list(rt, &mut core, alloc, spot, case, shown);
+    disk_of(core)
 }
 
 /// Its acts are done one after another, and on another core as one list. Both leave the same.
-pub(crate) fn try_case(
-    rt: &impl Abort,
-    alloc: Global,
-    spot: Spot,
-    case: &Case<'_>,
-) -> Result<(), Fail> {
-    let shown = shown_by(rt, alloc, spot, case)?;
-    let disk = left_by(rt, alloc, spot, case, &shown)?;
-    let (found, _) = begun_with(alloc, disk)?;
+pub(crate) fn try_case(rt: &impl Abort, alloc: Global, spot: Spot, case: &Case<'_>) {
+    let shown = shown_by(rt, alloc, spot, case);
+    let disk = left_by(rt, alloc, spot, case, &shown);
+    let (found, _) = begun_with(rt, alloc, disk);
     same_at(rt, spot, found, case.saved);
-    Ok(())
 }
 
-pub(crate) fn try_cases(rt: &impl Abort, alloc: Global, cases: &[&Case<'_>]) -> Result<(), Fail> {
+pub(crate) fn try_cases(rt: &impl Abort, alloc: Global, cases: &[&Case<'_>]) {
     for (number, case) in cases.iter().enumerate() {
-        try_case(rt, alloc, [number, 0, 0, 0], *case)?;
+        try_case(rt, alloc, [number, 0, 0, 0], *case);
     }
-    Ok(())
 }
 
 /// Puts a file on the core's disk.
 pub(crate) fn put_beside(
+    rt: &impl Abort,
     core: &mut TestCore,
     alloc: Global,
     path: &str,
     bytes: &[u8],
-) -> Result<(), Fail> {
-    put(alloc, &mut core.parts.disk, path, bytes)
+) {
+    put(rt, alloc, &mut core.parts.disk, path, bytes)
 }
 
 /// How many names on the disk have this front.
-fn count_names(core: &mut TestCore, alloc: Global, front: &str) -> Result<usize, Fail> {
-    Ok(core.parts.disk.list(alloc, front)?.len())
+fn count_names(rt: &impl Abort, core: &mut TestCore, alloc: Global, front: &str) -> usize {
+    must(rt, core.parts.disk.list(alloc, front)).len()
 }
 
 /// How many calls of the disk the last act made.
@@ -193,17 +176,17 @@ fn last_calls(core: &TestCore) -> u64 {
 }
 
 /// What is done or found on the disk beside acts: whether it was there.
-fn changed(core: &mut TestCore, alloc: Global, step: Step) -> Result<Option<bool>, Fail> {
+fn changed(rt: &impl Abort, core: &mut TestCore, alloc: Global, step: Step) -> Option<bool> {
     match step {
         Step::Put(path, bytes) => {
-            put_beside(core, alloc, path, bytes)?;
-            Ok(Some(true))
+            put_beside(rt, core, alloc, path, bytes);
+            Some(true)
         }
-        Step::Remove(path) => Ok(Some(core.parts.disk.remove(path)?)),
-        Step::Holds(path, size) => Ok(Some(core.parts.disk.size(path)? == Some(size))),
-        Step::Names(front, count) => Ok(Some(count_names(core, alloc, front)? == count)),
-        Step::Calls(count) => Ok(Some(last_calls(core) == count)),
-        _ => Ok(None),
+        Step::Remove(path) => Some(must(rt, core.parts.disk.remove(path))),
+        Step::Holds(path, size) => Some(must(rt, core.parts.disk.size(path)) == Some(size)),
+        Step::Names(front, count) => Some(count_names(rt, core, alloc, front) == count),
+        Step::Calls(count) => Some(last_calls(core) == count),
+        _ => None,
     }
 }
 
@@ -214,18 +197,17 @@ pub(crate) fn try_row(
     alloc: Global,
     spot: (Spot, usize),
     row: &Row,
-) -> Result<(), Fail> {
+) {
     let (_, step, expected, _) = row;
-    let found = match changed(core, alloc, *step)? {
+    let found = match changed(rt, core, alloc, *step) {
         Some(true) => DONE,
         Some(false) => NO_FILE,
         None => {
-            drop(try_act(rt, core, alloc, spot, row)?);
-            return Ok(());
+            drop(try_act(rt, core, alloc, spot, row));
+            return;
         }
     };
     same_at(rt, spot, found, *expected);
-    Ok(())
 }
 
 /// Does the acts, and what tables have beside them.
@@ -235,25 +217,17 @@ pub(crate) fn try_rows(
     alloc: Global,
     spot: Spot,
     rows: &[Row],
-) -> Result<(), Fail> {
+) {
     for (number, row) in rows.iter().enumerate() {
-        try_row(rt, core, alloc, (spot, number), row)?;
+        try_row(rt, core, alloc, (spot, number), row);
     }
-    Ok(())
 }
 
 /// The acts of both tables, by a clock that stands.
-fn try_both(
-    rt: &impl Abort,
-    core: &mut TestCore,
-    alloc: Global,
-    before: &[Row],
-    rows: &[Row],
-) -> Result<(), Fail> {
-    try_rows(rt, core, alloc, [0, 0, 0, 0], before)?;
-    try_rows(rt, core, alloc, [1, 0, 0, 0], rows)?;
+fn try_both(rt: &impl Abort, core: &mut TestCore, alloc: Global, before: &[Row], rows: &[Row]) {
+    try_rows(rt, core, alloc, [0, 0, 0, 0], before);
+    try_rows(rt, core, alloc, [1, 0, 0, 0], rows);
     try_moments(rt, [0; 4], &core.journal.entries, STILL, 0);
-    Ok(())
 }
 
 /// What stands on this disk, once they are done on a core over it.
@@ -263,10 +237,10 @@ pub(crate) fn behind(
     disk: MemoryDisk,
     before: &[Row],
     rows: &[Row],
-) -> Result<MemoryDisk, Fail> {
-    let mut core = opened(alloc, disk, STILL)?;
-    try_both(rt, &mut core, alloc, before, rows)?;
-    Ok(disk_of(core))
+) -> MemoryDisk {
+    let mut core = opened(rt, alloc, disk, STILL);
+    try_both(rt, &mut core, alloc, before, rows);
+    disk_of(core)
 }
 
 /// They are done over a folder with these files and indexes.
@@ -277,15 +251,14 @@ pub(crate) fn try_tables(
     archives: Archives,
     before: &[Row],
     rows: &[Row],
-) -> Result<(), Fail> {
-    drop(behind(rt, alloc, folder(alloc, files, archives)?, before, rows)?);
-    Ok(())
+) {
+    drop(behind(rt, alloc, folder(rt, alloc, files, archives), before, rows));
 }
 
 /// What a core has that is opened over this disk, and how many calls of the disk that makes.
-pub(crate) fn begun_with(alloc: Global, disk: MemoryDisk) -> Result<(Kept, u64), Fail> {
+pub(crate) fn begun_with(rt: &impl Abort, alloc: Global, disk: MemoryDisk) -> (Kept, u64) {
     let before = disk.calls();
-    let core = opened(alloc, disk, STILL)?;
+    let core = opened(rt, alloc, disk, STILL);
     let calls = core.parts.disk.calls().saturating_sub(before);
-    Ok((kept(&core), calls))
+    (kept(&core), calls)
 }

@@ -11,7 +11,6 @@ use crate::sent::{
     NO_INDEX, NO_MEMORY, NONE_THERE, NOTHING, NUMBER, OPEN_FIRST, OPEN_OTHER, OPEN_SECOND,
     READ_SECOND, UNREADABLE,
 };
-use std::test::Fail;
 
 /// The acts of a collection. They are told nothing but at the end: how many chunks are used, pending and removed.
 pub(crate) const START: Row = (5, Step::Start, NOTHING, 3);
@@ -547,49 +546,49 @@ static LITTERED: Case<'static> = Case {
 };
 
 #[test]
-fn unused_chunks_go_by_their_last_touch(rt: HostRuntime) -> Result<(), Fail> {
+fn unused_chunks_go_by_their_last_touch(rt: HostRuntime) {
     let cases = [&BY_CUTOFF, &BESIDE_WRITERS];
     try_cases(&rt, rt.alloc(), &cases)
 }
 
 #[test]
-fn unused_chunks_go_by_any_book(rt: HostRuntime) -> Result<(), Fail> {
+fn unused_chunks_go_by_any_book(rt: HostRuntime) {
     let cases = [&EARLY, &WITHOUT_BOOK, &STALE];
     try_cases(&rt, rt.alloc(), &cases)
 }
 
 #[test]
-fn chunks_are_collected_by_any_clock(rt: HostRuntime) -> Result<(), Fail> {
+fn chunks_are_collected_by_any_clock(rt: HostRuntime) {
     let cases = [&FALLING, &FALLING_BEHIND_WRITER, &RISING];
     try_cases(&rt, rt.alloc(), &cases)
 }
 
 #[test]
-fn chunks_of_snapshots_are_marked(rt: HostRuntime) -> Result<(), Fail> {
+fn chunks_of_snapshots_are_marked(rt: HostRuntime) {
     let cases = [taken_over(), &THREE_INDEXES, &THIRD_UNDECODED];
     try_cases(&rt, rt.alloc(), &cases)
 }
 
 #[test]
-fn indexes_are_marked_by_the_thousand(rt: HostRuntime) -> Result<(), Fail> {
+fn indexes_are_marked_by_the_thousand(rt: HostRuntime) {
     let cases = [&IN_ONE_MARK, &IN_TWO_MARKS];
     try_cases(&rt, rt.alloc(), &cases)
 }
 
 #[test]
-fn snapshots_are_forgotten_beside_marks(rt: HostRuntime) -> Result<(), Fail> {
+fn snapshots_are_forgotten_beside_marks(rt: HostRuntime) {
     let cases = [&FORGOTTEN_BETWEEN, &FORGOTTEN_HALF_MARKED];
     try_cases(&rt, rt.alloc(), &cases)
 }
 
 #[test]
-fn collections_end_over_any_folder(rt: HostRuntime) -> Result<(), Fail> {
+fn collections_end_over_any_folder(rt: HostRuntime) {
     let cases = [&WITHOUT_CHUNKS, &DAMAGED, &LITTERED];
     try_cases(&rt, rt.alloc(), &cases)
 }
 
 #[test]
-fn collections_are_cut_short(rt: HostRuntime) -> Result<(), Fail> {
+fn collections_are_cut_short(rt: HostRuntime) {
     let cases = [&CUT_SHORT, &UNDECODED];
     try_cases(&rt, rt.alloc(), &cases)
 }

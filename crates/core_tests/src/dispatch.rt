@@ -1,5 +1,5 @@
 use crate::acts::{Row, Step};
-use crate::asserts::{same, same_at};
+use crate::asserts::{must, same, same_at};
 use crate::cases::{try_row, try_rows, try_tables};
 use crate::fixtures::{STILL, TestCore, opened};
 use crate::folders::Archives;
@@ -12,7 +12,6 @@ use core_state::{Act, Place, enter};
 use disk_trait::MemoryDisk;
 use std::alloc::Global;
 use std::process::Abort;
-use std::test::Fail;
 use store_types::MEMORY_KIND;
 
 /// The first snapshot is a lane's base, or has a reader of it.
@@ -44,7 +43,7 @@ static STEPS: [Row; 17] = [
 ];
 
 #[test]
-fn groups_have_one_writer(rt: HostRuntime) -> Result<(), Fail> {
+fn groups_have_one_writer(rt: HostRuntime) {
     try_tables(&rt, rt.alloc(), &[], Archives::Root(0), &[], &STEPS)
 }
 
@@ -83,7 +82,7 @@ static HOLDERS: [Row; 29] = [
 ];
 
 #[test]
-fn snapshots_are_held(rt: HostRuntime) -> Result<(), Fail> {
+fn snapshots_are_held(rt: HostRuntime) {
     try_tables(&rt, rt.alloc(), &[], Archives::Root(0), &[], &HOLDERS)
 }
 
@@ -122,26 +121,24 @@ fn try_closing(
     alloc: Global,
     number: usize,
     closing: &(Row, u8),
-) -> Result<(), Fail> {
+) {
     let (row, left) = closing;
-    try_row(rt, core, alloc, ([0; 4], number), row)?;
+    try_row(rt, core, alloc, ([0; 4], number), row);
     same_at(rt, number, reserve(core, row.0), (0, *left, true));
-    Ok(())
 }
 
-fn try_closings(rt: &impl Abort, core: &mut TestCore, alloc: Global) -> Result<(), Fail> {
+fn try_closings(rt: &impl Abort, core: &mut TestCore, alloc: Global) {
     for (number, closing) in CLOSINGS.iter().enumerate() {
-        try_closing(rt, core, alloc, number, closing)?;
+        try_closing(rt, core, alloc, number, closing);
     }
-    core.reserve(2)?;
+    must(rt, core.reserve(2));
     same(rt, core.journal.spare, 2);
-    Ok(())
 }
 
 #[test]
-fn sessions_are_closed_by_the_reserve(rt: HostRuntime) -> Result<(), Fail> {
+fn sessions_are_closed_by_the_reserve(rt: HostRuntime) {
     let alloc = rt.alloc();
-    let mut core = opened(alloc, MemoryDisk::new(alloc), STILL)?;
+    let mut core = opened(&rt, alloc, MemoryDisk::new(alloc), STILL);
     try_closings(&rt, &mut core, alloc)
 }
 
@@ -171,19 +168,14 @@ struct Ending<'a> {
 }
 
 /// What ends a lane by the last entries of its reserve, with what came before. It takes no memory, and another lane has what was its.
-fn end_lane(
-    rt: &impl Abort,
-    core: &mut TestCore,
-    alloc: Global,
-    case: &Ending<'_>,
-) -> Result<(), Fail> {
+fn end_lane(rt: &impl Abort, core: &mut TestCore, alloc: Global, case: &Ending<'_>) {
     let spot = [0; 4];
-    try_row(rt, core, alloc, (spot, 0), &case.first)?;
+    try_row(rt, core, alloc, (spot, 0), &case.first);
     for _ in 0..case.used {
         use_reserve(rt, core);
     }
     let before = capacities(core);
-    try_rows(rt, core, alloc, spot, case.ending)?;
+    try_rows(rt, core, alloc, spot, case.ending);
     same(
         rt,
         (capacities(core), core.collector.is_none()),
@@ -193,8 +185,8 @@ fn end_lane(
     try_row(rt, core, alloc, (spot, 1), &case.other)
 }
 
-fn try_ending(rt: &impl Abort, alloc: Global, case: &Ending<'_>) -> Result<(), Fail> {
-    let mut core = opened(alloc, MemoryDisk::new(alloc), STILL)?;
+fn try_ending(rt: &impl Abort, alloc: Global, case: &Ending<'_>) {
+    let mut core = opened(rt, alloc, MemoryDisk::new(alloc), STILL);
     end_lane(rt, &mut core, alloc, case)
 }
 
@@ -207,7 +199,7 @@ static WRITER_ENDS: Ending<'static> = Ending {
 };
 
 #[test]
-fn lanes_end_without_memory(rt: HostRuntime) -> Result<(), Fail> {
+fn lanes_end_without_memory(rt: HostRuntime) {
     try_ending(&rt, rt.alloc(), &WRITER_ENDS)
 }
 
@@ -220,6 +212,6 @@ static COLLECTOR_ENDS: Ending<'static> = Ending {
 };
 
 #[test]
-fn collections_end_without_memory(rt: HostRuntime) -> Result<(), Fail> {
+fn collections_end_without_memory(rt: HostRuntime) {
     try_ending(&rt, rt.alloc(), &COLLECTOR_ENDS)
 }

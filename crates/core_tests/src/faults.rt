@@ -1,7 +1,7 @@
 //! Collections on a disk that fails.
 
 use crate::acts::{Step, do_act};
-use crate::asserts::same_at;
+use crate::asserts::{must, same_at};
 use crate::cases::begun_with;
 use crate::collecting::ONE_NEEDED;
 use crate::fixtures::{Kept, STILL, TestCore, kept, opened_over};
@@ -10,7 +10,6 @@ use crate::sent::FILES;
 use disk_trait::FailingDisk;
 use std::alloc::Global;
 use std::process::Abort;
-use std::test::Fail;
 
 /// A collection of four acts behind its start, and one that finds none open.
 const WHOLE: &[(u32, Step)] = &[
@@ -57,48 +56,38 @@ static FAULTS: [Fault; 9] = [
 ];
 
 /// A core whose disk fails at one call, counted from its opening's first.
-fn begun(alloc: Global, call: u64) -> Result<TestCore, Fail> {
-    let disk = folder(alloc, ONE_NEEDED, Archives::Root(1))?;
-    let failing = FailingDisk::at_calls(disk, Vec::from_slice(alloc, &[call])?);
-    opened_over(alloc, failing, STILL)
+fn begun(rt: &impl Abort, alloc: Global, call: u64) -> TestCore {
+    let disk = folder(rt, alloc, ONE_NEEDED, Archives::Root(1));
+    let failing = FailingDisk::at_calls(disk, must(rt, Vec::from_slice(alloc, &[call])));
+    opened_over(rt, alloc, failing, STILL)
 }
 
-fn try_kinds(
-    rt: &impl Abort,
-    core: &mut TestCore,
-    alloc: Global,
-    number: usize,
-    row: &Fault,
-) -> Result<(), Fail> {
+fn try_kinds(rt: &impl Abort, core: &mut TestCore, alloc: Global, number: usize, row: &Fault) {
     let (steps, _, kinds, left) = row;
     for (step, kind) in steps.iter().zip(kinds) {
-        let found = do_act(rt, core, alloc, step.0, step.1)?.kind;
+        let found = do_act(rt, core, alloc, step.0, step.1).kind;
         same_at(rt, number, found, *kind);
     }
     let found = (kept(core), core.collector.is_none());
     same_at(rt, number, found, (*left, true));
-    Ok(())
 }
 
-fn try_fault(
-    rt: &impl Abort,
-    alloc: Global,
-    number: usize,
-    opening: u64,
-    row: &Fault,
-) -> Result<(), Fail> {
+fn try_fault(rt: &impl Abort, alloc: Global, number: usize, opening: u64, row: &Fault) {
     let (_, call, _, _) = row;
-    let mut core = begun(alloc, opening.saturating_add(*call))?;
+    let mut core = begun(rt, alloc, opening.saturating_add(*call));
     try_kinds(rt, &mut core, alloc, number, row)
 }
 
 /// A call of the disk that fails ends the collector, and so does one of another lane's.
 #[test]
-fn faults_end_collections(rt: HostRuntime) -> Result<(), Fail> {
+fn faults_end_collections(rt: HostRuntime) {
     let alloc = rt.alloc();
-    let (_, opening) = begun_with(alloc, folder(alloc, ONE_NEEDED, Archives::Root(1))?)?;
+    let (_, opening) = begun_with(
+        &rt,
+        alloc,
+        folder(&rt, alloc, ONE_NEEDED, Archives::Root(1)),
+    );
     for (number, row) in FAULTS.iter().enumerate() {
-        try_fault(&rt, alloc, number, opening, row)?;
+        try_fault(&rt, alloc, number, opening, row);
     }
-    Ok(())
 }

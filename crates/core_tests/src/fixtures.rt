@@ -1,12 +1,13 @@
 //! Cores over disks in memory, which may fail, and bytes that several tests use. Digests and checksums are made by
 //! `tests/make-tables`.
 
+use crate::asserts::must;
 use core_opening::open_on;
 use core_state::Core;
 use disk_trait::{FailingDisk, MemoryDisk};
 use port_traits::SetClock;
 use std::alloc::Global;
-use std::test::Fail;
+use std::process::Abort;
 use store_types::Digest32;
 
 pub(crate) type TestDisk = FailingDisk<MemoryDisk>;
@@ -60,17 +61,22 @@ pub(crate) const DE: Digest32 = Digest32([
 ]);
 
 /// A core that is opened over the disk, by such a clock.
-pub(crate) fn opened_over(alloc: Global, disk: TestDisk, clock: Clock) -> Result<TestCore, Fail> {
+pub(crate) fn opened_over(
+    rt: &impl Abort,
+    alloc: Global,
+    disk: TestDisk,
+    clock: Clock,
+) -> TestCore {
     let (moments, last) = clock;
-    let clock = SetClock::new(moments.to_vec(alloc)?, last);
+    let clock = SetClock::new(must(rt, moments.to_vec(alloc)), last);
     let opened = open_on(alloc, disk, None::<MemoryDisk>, clock);
-    Ok(opened.ok().ok_or("not opened")?)
+    must(rt, opened.ok().ok_or("not opened"))
 }
 
 /// The same over a disk that does not fail.
-pub(crate) fn opened(alloc: Global, disk: MemoryDisk, clock: Clock) -> Result<TestCore, Fail> {
+pub(crate) fn opened(rt: &impl Abort, alloc: Global, disk: MemoryDisk, clock: Clock) -> TestCore {
     let disk = FailingDisk::at_calls(disk, Vec::new(alloc));
-    opened_over(alloc, disk, clock)
+    opened_over(rt, alloc, disk, clock)
 }
 
 pub(crate) fn kept(core: &TestCore) -> Kept {

@@ -1,11 +1,12 @@
 //! Folders that stand before a core is opened over them, with indexes that are made. The bytes are made by
 //! `tests/make-tables`.
 
+use crate::asserts::must;
 use crate::fixtures::{ABC, DE, ROOT_PATH};
 use disk_trait::{Disk, MemoryDisk};
 use dynamic_index::DynamicWriter;
 use std::alloc::Global;
-use std::test::Fail;
+use std::process::Abort;
 use store_types::Digest32;
 
 /// Files by name and content.
@@ -44,86 +45,79 @@ const FIXED_DIGESTS: &[u8] =
 /// A piece of an index, by its digest and its length.
 type Piece = (Digest32, u32);
 
-fn push(writer: &mut DynamicWriter, piece: &Piece) -> Result<(), Fail> {
+fn push(rt: &impl Abort, writer: &mut DynamicWriter, piece: &Piece) {
     let (digest, length) = piece;
-    if writer.len() >= 1_048_576 || *length == 0 || *length > 16_777_216 {
-        return Err("no such piece".into());
-    }
-    writer.append(digest, *length)?;
-    Ok(())
+    assert!(rt; writer.len() < 1_048_576 && *length > 0 && *length <= 16_777_216);
+    must(rt, writer.append(digest, *length));
 }
 
 /// Puts a file, whose path has at most 255 letters.
-pub(crate) fn put<D: Disk>(
-    alloc: Global,
-    disk: &mut D,
-    path: &str,
-    bytes: &[u8],
-) -> Result<(), Fail> {
-    if path.len() > 255 {
-        return Err("a long path".into());
-    }
-    Ok(disk.put(alloc, path, bytes)?)
+pub(crate) fn put<D: Disk>(rt: &impl Abort, alloc: Global, disk: &mut D, path: &str, bytes: &[u8]) {
+    assert!(rt; path.len() <= 255);
+    must(rt, disk.put(alloc, path, bytes))
 }
 
 /// Puts an index of a piece so many times, and of a last one.
 fn put_index(
+    rt: &impl Abort,
     alloc: Global,
     disk: &mut MemoryDisk,
     path: &str,
     piece: (u32, Piece),
     last: Piece,
-) -> Result<(), Fail> {
+) {
     let (count, piece) = piece;
     let mut writer = DynamicWriter::new(alloc, [1; 16], 1_579_069_803);
     for _ in 0..count {
-        push(&mut writer, &piece)?;
+        push(rt, &mut writer, &piece);
     }
-    push(&mut writer, &last)?;
-    put(alloc, disk, path, &writer.close(alloc)?)
+    push(rt, &mut writer, &last);
+    put(rt, alloc, disk, path, &must(rt, writer.close(alloc)))
 }
 
 /// Puts the fixed index, and the one without entries.
-fn put_first_two(alloc: Global, disk: &mut MemoryDisk) -> Result<(), Fail> {
-    let mut fixed = FIXED_FRONT.to_vec(alloc)?;
-    fixed.resize(4096, 0)?;
-    fixed.extend_from_slice(FIXED_DIGESTS)?;
-    put(alloc, disk, FIRST_PATH, &fixed)?;
+fn put_first_two(rt: &impl Abort, alloc: Global, disk: &mut MemoryDisk) {
+    let mut fixed = must(rt, FIXED_FRONT.to_vec(alloc));
+    must(rt, fixed.resize(4096, 0));
+    must(rt, fixed.extend_from_slice(FIXED_DIGESTS));
+    put(rt, alloc, disk, FIRST_PATH, &fixed);
     let empty = DynamicWriter::new(alloc, [1; 16], 1_579_069_803);
-    put(alloc, disk, SECOND_PATH, &empty.close(alloc)?)
+    put(rt, alloc, disk, SECOND_PATH, &must(rt, empty.close(alloc)))
 }
 
 /// A disk with these files, and with these indexes.
 pub(crate) fn folder(
+    rt: &impl Abort,
     alloc: Global,
     files: Contents,
     archives: Archives,
-) -> Result<MemoryDisk, Fail> {
+) -> MemoryDisk {
     let mut disk = MemoryDisk::new(alloc);
     for (path, bytes) in files {
-        put(alloc, &mut disk, path, bytes)?;
+        put(rt, alloc, &mut disk, path, bytes);
     }
     let (abc, de) = ((ABC, 3), (DE, 2));
     match archives {
         Archives::Root(0) => {}
         Archives::Root(entries) => {
             put_index(
+                rt,
                 alloc,
                 &mut disk,
                 ROOT_PATH,
                 (entries.saturating_sub(1), de),
                 abc,
-            )?;
+            );
         }
         Archives::Pieces(length) => {
-            put_index(alloc, &mut disk, ROOT_PATH, (1, (ABC, length)), de)?;
+            put_index(rt, alloc, &mut disk, ROOT_PATH, (1, (ABC, length)), de);
         }
-        Archives::Three(0) => put_first_two(alloc, &mut disk)?,
+        Archives::Three(0) => put_first_two(rt, alloc, &mut disk),
         Archives::Three(entries) => {
-            put_first_two(alloc, &mut disk)?;
+            put_first_two(rt, alloc, &mut disk);
             let absent = (entries.saturating_sub(1), (ABSENT, 4096));
-            put_index(alloc, &mut disk, THIRD_PATH, absent, abc)?;
+            put_index(rt, alloc, &mut disk, THIRD_PATH, absent, abc);
         }
     }
-    Ok(disk)
+    disk
 }

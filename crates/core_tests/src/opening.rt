@@ -8,7 +8,6 @@ use crate::sent::{
     ABORT, BOTH_KEYS, DONE, FILES, FIRST_BASE, FORGET_OTHER, FORGET_SECOND, GROUP, IN_READER, LIST,
     NO_BASE, NO_SNAPSHOT, ONE_LISTED, OPEN_FIRST, OPEN_SECOND, READ_FIRST, READ_SECOND,
 };
-use std::test::Fail;
 
 /// The first is whole. Three bytes stand in place of the second's manifest, beside a file that none lists. The other's file is missing.
 const LEFT: Contents = &[
@@ -114,21 +113,20 @@ static AGAIN: [Row; 2] = [
 ];
 
 #[test]
-fn damaged_snapshots_are_told(rt: HostRuntime) -> Result<(), Fail> {
+fn damaged_snapshots_are_told(rt: HostRuntime) {
     try_tables(&rt, rt.alloc(), LEFT, Archives::Root(0), &[], &TOLD)
 }
 
 #[test]
-fn damaged_snapshots_are_no_base(rt: HostRuntime) -> Result<(), Fail> {
+fn damaged_snapshots_are_no_base(rt: HostRuntime) {
     try_tables(&rt, rt.alloc(), LEFT, Archives::Root(0), &[], &WRITTEN)
 }
 
 /// The damaged ones are forgotten. What no manifest listed is left, and goes as the folder is opened again.
 #[test]
-fn damaged_snapshots_are_forgotten(rt: HostRuntime) -> Result<(), Fail> {
+fn damaged_snapshots_are_forgotten(rt: HostRuntime) {
     let alloc = rt.alloc();
-    let left = folder(alloc, LEFT, Archives::Root(0))?;
-    let left = behind(&rt, alloc, left, &[], &FORGOTTEN)?;
-    drop(behind(&rt, alloc, left, &[], &AGAIN)?);
-    Ok(())
+    let left = folder(&rt, alloc, LEFT, Archives::Root(0));
+    let left = behind(&rt, alloc, left, &[], &FORGOTTEN);
+    drop(behind(&rt, alloc, left, &[], &AGAIN));
 }

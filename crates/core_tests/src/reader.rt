@@ -6,7 +6,6 @@ use crate::sent::{
     ABORT, BAD_NAME, CLOSE_READER, DONE, FINISH, IN_NONE, IN_READER, IN_WRITER, NO_BASE, NO_FILE,
     NO_SNAPSHOT, OPEN_FIRST, OPEN_OTHER, PUT_MANIFEST, READ_FIRST, READ_SECOND, UNREADABLE,
 };
-use std::test::Fail;
 
 /// The first snapshot, of its manifest alone.
 static WRITTEN: [Row; 3] = [
@@ -73,11 +72,11 @@ static CLOSED: [Row; 8] = [
 ];
 
 #[test]
-fn snapshots_are_read(rt: HostRuntime) -> Result<(), Fail> {
+fn snapshots_are_read(rt: HostRuntime) {
     try_tables(&rt, rt.alloc(), &[], Archives::Root(0), &WRITTEN, &READ)
 }
 
 #[test]
-fn readers_are_closed(rt: HostRuntime) -> Result<(), Fail> {
+fn readers_are_closed(rt: HostRuntime) {
     try_tables(&rt, rt.alloc(), &[], Archives::Root(0), &WRITTEN, &CLOSED)
 }

@@ -1,7 +1,6 @@
-use crate::asserts::same;
+use crate::asserts::{must, same};
 use core_state::Journal;
 use std::process::Abort;
-use std::test::Fail;
 use store_types::Entry;
 
 /// Enters an act of lane 7, where there is room: whether its entry was of the lane's reserve.
@@ -33,14 +32,13 @@ static FILLED: [Option<bool>; 5] = [Some(false), Some(true), Some(true), Some(tr
 
 /// Each lane has three entries, and those that are spare are used first.
 #[test]
-fn a_reserve_has_an_edge(rt: HostRuntime) -> Result<(), Fail> {
-    let mut journal = Journal::new(rt.alloc())?;
+fn a_reserve_has_an_edge(rt: HostRuntime) {
+    let mut journal = must(&rt, Journal::new(rt.alloc()));
     try_entries(&rt, &mut journal, &BEGUN);
     same(&rt, journal.room(6) && journal.room(8), true);
-    journal.reserve(2)?;
+    must(&rt, journal.reserve(2));
     try_entries(&rt, &mut journal, &SPARE);
-    journal.fill(7)?;
+    must(&rt, journal.fill(7));
     try_entries(&rt, &mut journal, &FILLED);
     same(&rt, (journal.entries.len(), journal.calls.len()), (9, 9));
-    Ok(())
 }

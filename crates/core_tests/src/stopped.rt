@@ -2,7 +2,7 @@
 //! bytes are made by `tests/make-tables`.
 
 use crate::acts::{Row, Rows, Step, do_act};
-use crate::asserts::same_at;
+use crate::asserts::{must, same_at};
 use crate::beside::{
     ABC, AT_END_OF_ONE, AT_END_OF_TWO, CLOSE, DE_ABC, OPENED_FIRST, OPENED_SECOND,
 };
@@ -14,7 +14,6 @@ use crate::sent::{IN_READER, LIST, NO_SNAPSHOT, READ_FIRST, READ_SECOND};
 use disk_trait::{FailingDisk, MemoryDisk};
 use std::alloc::Global;
 use std::process::Abort;
-use std::test::Fail;
 
 /// What is there is restored whole: the first snapshot.
 static FIRST_RESTORED: [Row; 9] = [
@@ -81,25 +80,25 @@ fn listed_after(acts: usize) -> usize {
 }
 
 /// What they are done on: a disk that fails at a call, or stops before it.
-fn begun(alloc: Global, stops: bool, call: u64) -> Result<TestDisk, Fail> {
+fn begun(rt: &impl Abort, alloc: Global, stops: bool, call: u64) -> TestDisk {
     let case = taken_over();
-    let disk = folder(alloc, case.files, case.archives)?;
+    let disk = folder(rt, alloc, case.files, case.archives);
     if stops {
-        return Ok(FailingDisk::stopping_after(disk, call));
+        return FailingDisk::stopping_after(disk, call);
     }
-    let calls = Vec::from_slice(alloc, &[call])?;
-    Ok(FailingDisk::at_calls(disk, calls))
+    let calls = must(rt, Vec::from_slice(alloc, &[call]));
+    FailingDisk::at_calls(disk, calls)
 }
 
 /// Does them all: how many were done before the disk failed.
-fn count_done(rt: &impl Abort, core: &mut TestCore, alloc: Global) -> Result<usize, Fail> {
+fn count_done(rt: &impl Abort, core: &mut TestCore, alloc: Global) -> usize {
     let mut done = 0usize;
     for (lane, step, _, _) in taken_over().steps {
-        if do_act(rt, core, alloc, *lane, *step)?.kind != 5 {
+        if do_act(rt, core, alloc, *lane, *step).kind != 5 {
             done = done.saturating_add(1);
         }
     }
-    Ok(done)
+    done
 }
 
 /// Which of the three is told.
@@ -113,49 +112,49 @@ fn listed(told: &[u8]) -> Option<usize> {
 }
 
 /// Which of them LIST tells.
-fn found_by(rt: &impl Abort, core: &mut TestCore, alloc: Global) -> Result<usize, Fail> {
-    let told = do_act(rt, core, alloc, 4, Step::Send(LIST))?;
-    Ok(listed(told.frame.as_bytes()).ok_or("other snapshots")?)
+fn found_by(rt: &impl Abort, core: &mut TestCore, alloc: Global) -> usize {
+    let told = do_act(rt, core, alloc, 4, Step::Send(LIST));
+    must(rt, listed(told.frame.as_bytes()).ok_or("other snapshots"))
 }
 
 /// What was there before the act that failed is found, or what is there after it, and is restored.
-fn try_found(rt: &impl Abort, core: &mut TestCore, alloc: Global, spot: Spot) -> Result<(), Fail> {
+fn try_found(rt: &impl Abort, core: &mut TestCore, alloc: Global, spot: Spot) {
     let [_, _, _, done] = spot;
-    let found = found_by(rt, core, alloc)?;
+    let found = found_by(rt, core, alloc);
     let fits = found == listed_after(done) || found == listed_after(done.saturating_add(1));
     same_at(rt, spot, fits, true);
     try_rows(rt, core, alloc, spot, restored(found))
 }
 
-fn try_crashed(rt: &impl Abort, alloc: Global, spot: Spot, disk: MemoryDisk) -> Result<(), Fail> {
-    let mut core = opened(alloc, disk, STILL)?;
+fn try_crashed(rt: &impl Abort, alloc: Global, spot: Spot, disk: MemoryDisk) {
+    let mut core = opened(rt, alloc, disk, STILL);
     try_found(rt, &mut core, alloc, spot)
 }
 
 /// A crash of each kind comes behind them. Gives whether all were done.
-fn try_call(rt: &impl Abort, alloc: Global, stops: bool, call: u64) -> Result<bool, Fail> {
-    let mut core = opened_over(alloc, begun(alloc, stops, call)?, STILL)?;
-    let done = count_done(rt, &mut core, alloc)?;
+fn try_call(rt: &impl Abort, alloc: Global, stops: bool, call: u64) -> bool {
+    let mut core = opened_over(rt, alloc, begun(rt, alloc, stops, call), STILL);
+    let done = count_done(rt, &mut core, alloc);
     let left = disk_of(core);
     for choice in 0..3u8 {
         let spot = [stops as usize, call as usize, choice as usize, done];
-        try_crashed(rt, alloc, spot, left.crashed(alloc, choice)?)?;
+        try_crashed(rt, alloc, spot, must(rt, left.crashed(alloc, choice)));
     }
-    Ok(done == taken_over().steps.len())
+    done == taken_over().steps.len()
 }
 
 /// From the first call behind those of opening on, until there is none more.
 #[test]
-fn faults_and_stops_lose_no_snapshot(rt: HostRuntime) -> Result<(), Fail> {
+fn faults_and_stops_lose_no_snapshot(rt: HostRuntime) {
     let alloc = rt.alloc();
-    let disk = folder(alloc, taken_over().files, taken_over().archives)?;
-    let (_, opened) = begun_with(alloc, disk)?;
+    let disk = folder(&rt, alloc, taken_over().files, taken_over().archives);
+    let (_, opened) = begun_with(&rt, alloc, disk);
     for call in opened..opened.saturating_add(1000) {
-        let is_done = try_call(&rt, alloc, false, call)?;
-        try_call(&rt, alloc, true, call)?;
+        let is_done = try_call(&rt, alloc, false, call);
+        try_call(&rt, alloc, true, call);
         if is_done {
-            return Ok(());
+            return;
         }
     }
-    Err("calls without an end".into())
+    panic!(rt; "calls without an end")
 }

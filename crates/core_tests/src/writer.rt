@@ -6,7 +6,6 @@ use crate::sent::{
     ABORT, DONE, EXISTS, FINISH, FIRST_BASE, GROUP_BUSY, IN_NONE, NO_BASE, NO_FILE, NOT_NEWER,
     NOTHING, OPEN_FIRST, OPEN_SECOND, PUT_DIGITS, PUT_WITH_FILE,
 };
-use std::test::Fail;
 
 /// A BLOB of nothing as `b.blob`.
 const PUT_EMPTY: &[u8] = b"\x11\x06b.blobB\xab8\x07\xbe\x83p\xa1\0\0\0\0";
@@ -41,7 +40,7 @@ static NEXT: [Row; 6] = [
 
 /// One snapshot from its writer's first command to its last, and one that is never finished.
 #[test]
-fn snapshots_are_written(rt: HostRuntime) -> Result<(), Fail> {
+fn snapshots_are_written(rt: HostRuntime) {
     try_tables(&rt, rt.alloc(), &[], Archives::Root(0), &WRITTEN, &NEXT)
 }
 
@@ -70,6 +69,6 @@ static ABORTED: [Row; 15] = [
 
 /// What an ABORT takes away, and what it leaves.
 #[test]
-fn writers_are_aborted(rt: HostRuntime) -> Result<(), Fail> {
+fn writers_are_aborted(rt: HostRuntime) {
     try_tables(&rt, rt.alloc(), &[], Archives::Root(0), &[], &ABORTED)
 }

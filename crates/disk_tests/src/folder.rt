@@ -1,13 +1,12 @@
 //! Which files and folders a disk over a folder syncs, and when.
 
-use crate::asserts::same_at;
+use crate::asserts::{must, same_at};
 use crate::sessions::{parted, told};
 use crate::watched::{Record, alone_at};
 use disk_trait::Disk;
-use std::alloc::{AllocError, Global};
+use std::alloc::Global;
 use std::fs;
 use std::process::Abort;
-use std::test::Fail;
 
 const ROOT: &str = "disk_tests_synced";
 
@@ -18,23 +17,22 @@ fn below_root(path: &str) -> &str {
     if name.is_empty() { "." } else { name }
 }
 
-fn add_names(text: &mut String, names: &[&str]) -> Result<(), AllocError> {
+fn add_names(rt: &impl Abort, text: &mut String, names: &[&str]) {
     for name in names {
-        text.push(' ')?;
-        text.push_str(name)?;
+        must(rt, text.push(' '));
+        must(rt, text.push_str(name));
     }
-    Ok(())
 }
 
 // Adds what was synced since the record was last taken, in byte order.
-fn tell_synced(alloc: Global, record: &Record, text: &mut String) -> Result<(), Fail> {
-    let all = record.taken(alloc)?;
+fn tell_synced(rt: &impl Abort, alloc: Global, record: &Record, text: &mut String) {
+    let all = must(rt, record.taken(alloc));
     let mut names: Vec<&str> = Vec::new(alloc);
     for path in all.as_str().lines() {
-        names.push(below_root(path))?;
+        must(rt, names.push(below_root(path)));
     }
-    names.sort()?;
-    Ok(add_names(text, &names)?)
+    must(rt, names.sort());
+    add_names(rt, text, &names)
 }
 
 // A call whose line begins so goes to a disk that is full, or that syncs nothing.
@@ -49,13 +47,19 @@ fn beset<'t>(record: &Record, line: &'t str) -> &'t str {
 }
 
 // What a call tells, and what is synced in it; of `reads` how many folders were read so far.
-fn seen<D: Disk>(alloc: Global, record: &Record, disk: &mut D, line: &str) -> Result<String, Fail> {
+fn seen<D: Disk>(
+    rt: &impl Abort,
+    alloc: Global,
+    record: &Record,
+    disk: &mut D,
+    line: &str,
+) -> String {
     if line == "reads" {
-        return Ok(format!(in alloc; "{}", record.reads.get())?);
+        return must(rt, format!(in alloc; "{}", record.reads.get()));
     }
-    let mut found = told(alloc, disk, "", beset(record, line))?;
-    tell_synced(alloc, record, &mut found)?;
-    Ok(found)
+    let mut found = told(rt, alloc, disk, "", beset(record, line));
+    tell_synced(rt, alloc, record, &mut found);
+    found
 }
 
 // Plays a session.
@@ -65,26 +69,24 @@ fn play_watched<D: Disk>(
     record: &Record,
     disk: &mut D,
     session: &str,
-) -> Result<(), Fail> {
+) {
     for line in session.lines() {
-        let (line, want) = line.split_once(" = ").ok_or("no line of a session")?;
-        let found = seen(alloc, record, disk, line)?;
+        let (line, want) = must(rt, line.split_once(" = ").ok_or("no line of a session"));
+        let found = seen(rt, alloc, record, disk, line);
         same_at(rt, line, found.as_str(), want);
     }
-    Ok(())
 }
 
 // Plays a session by a disk of its own.
-fn play_run(rt: HostRuntime, abort: &impl Abort, session: &str) -> Result<(), Fail> {
+fn play_run(rt: HostRuntime, abort: &impl Abort, session: &str) {
     let record = Record::new(rt.alloc());
-    let mut disk = alone_at(rt, &record, ROOT)?;
+    let mut disk = must(abort, alone_at(rt, &record, ROOT));
     play_watched(abort, rt.alloc(), &record, &mut disk, session)
 }
 
-fn make_root(rt: HostRuntime, below: &str) -> Result<(), Fail> {
+fn make_root(rt: HostRuntime, abort: &impl Abort, below: &str) {
     let _ = fs::remove_dir_all(&rt, ROOT);
-    fs::create_dir_all(&rt, below)?;
-    Ok(())
+    must(abort, fs::create_dir_all(&rt, below));
 }
 
 // What was there before is synced by the first sync; a file and its folder as it is put; a name that changes by the sync.
@@ -157,30 +159,24 @@ sync = done
 list '' = u/v/c x/h
 read x/h = one";
 
-fn play_all<D: Disk>(
-    rt: &impl Abort,
-    alloc: Global,
-    record: &Record,
-    disk: &mut D,
-) -> Result<(), Fail> {
-    play_watched(rt, alloc, record, disk, NAMES)?;
-    play_watched(rt, alloc, record, disk, EIGHT)?;
-    play_watched(rt, alloc, record, disk, FAILED)?;
+fn play_all<D: Disk>(rt: &impl Abort, alloc: Global, record: &Record, disk: &mut D) {
+    play_watched(rt, alloc, record, disk, NAMES);
+    play_watched(rt, alloc, record, disk, EIGHT);
+    play_watched(rt, alloc, record, disk, FAILED);
     play_watched(rt, alloc, record, disk, NINTH)
 }
 
-fn try_watched(rt: HostRuntime, abort: &impl Abort) -> Result<(), Fail> {
+fn try_watched(rt: HostRuntime, abort: &impl Abort) {
     let record = Record::new(rt.alloc());
-    let mut disk = alone_at(rt, &record, ROOT)?;
+    let mut disk = must(abort, alone_at(rt, &record, ROOT));
     play_all(abort, rt.alloc(), &record, &mut disk)
 }
 
 #[test]
-fn names_wait_for_the_sync(rt: HostRuntime) -> Result<(), Fail> {
-    make_root(rt, "disk_tests_synced/x/y")?;
-    try_watched(rt, &rt)?;
-    fs::remove_dir_all(&rt, ROOT)?;
-    Ok(())
+fn names_wait_for_the_sync(rt: HostRuntime) {
+    make_root(rt, &rt, "disk_tests_synced/x/y");
+    try_watched(rt, &rt);
+    must(&rt, fs::remove_dir_all(&rt, ROOT));
 }
 
 // A run that was then killed, and what the next one's first sync syncs. It syncs nothing more by the second.
@@ -206,14 +202,13 @@ rename c/1/k.tmp c/1/k = done",
 ];
 
 #[test]
-fn what_a_killed_run_left_is_synced(rt: HostRuntime) -> Result<(), Fail> {
+fn what_a_killed_run_left_is_synced(rt: HostRuntime) {
     for (killed, next) in &LEFT {
-        make_root(rt, ROOT)?;
-        play_run(rt, &rt, killed)?;
-        play_run(rt, &rt, next)?;
+        make_root(rt, &rt, ROOT);
+        play_run(rt, &rt, killed);
+        play_run(rt, &rt, next);
     }
-    fs::remove_dir_all(&rt, ROOT)?;
-    Ok(())
+    must(&rt, fs::remove_dir_all(&rt, ROOT));
 }
 
 // What is listed behind the first sync, twice, and how many folders were read until then: what the sync came by is not read
@@ -256,28 +251,25 @@ reads = 9",
 ];
 
 // A root with a file in a folder, and an empty folder.
-fn make_file(rt: HostRuntime) -> Result<(), Fail> {
-    make_root(rt, "disk_tests_synced/x/y")?;
-    fs::write(&rt, "disk_tests_synced/x/f", b"f")?;
-    Ok(())
+fn make_file(rt: HostRuntime, abort: &impl Abort) {
+    make_root(rt, abort, "disk_tests_synced/x/y");
+    must(abort, fs::write(&rt, "disk_tests_synced/x/f", b"f"));
 }
 
 #[test]
-fn a_first_sync_lists(rt: HostRuntime) -> Result<(), Fail> {
+fn a_first_sync_lists(rt: HostRuntime) {
     for session in &LISTED {
-        make_file(rt)?;
-        play_run(rt, &rt, session)?;
+        make_file(rt, &rt);
+        play_run(rt, &rt, session);
     }
-    fs::remove_dir_all(&rt, ROOT)?;
-    Ok(())
+    must(&rt, fs::remove_dir_all(&rt, ROOT));
 }
 
 // Right behind the first sync.
 #[test]
-fn names_below_a_folder_are_listed(rt: HostRuntime) -> Result<(), Fail> {
-    make_file(rt)?;
-    fs::write(&rt, "disk_tests_synced/g", b"g")?;
-    play_run(rt, &rt, "sync = done . x x/y\nlist x/ = x/f")?;
-    fs::remove_dir_all(&rt, ROOT)?;
-    Ok(())
+fn names_below_a_folder_are_listed(rt: HostRuntime) {
+    make_file(rt, &rt);
+    must(&rt, fs::write(&rt, "disk_tests_synced/g", b"g"));
+    play_run(rt, &rt, "sync = done . x x/y\nlist x/ = x/f");
+    must(&rt, fs::remove_dir_all(&rt, ROOT));
 }

@@ -1,20 +1,19 @@
 //! One disk a folder, or several that only read it.
 
-use crate::asserts::{same, same_at};
+use crate::asserts::{must, same, same_at};
 use crate::maps::ALL_FAIL;
 use crate::sessions::play;
 use crate::watched::{Record, alone_at, shared_at};
 use std::fs;
 use std::process::Abort;
-use std::test::Fail;
 
 const ROOT: &str = "disk_tests_held";
 
 // Each call of another disk fails.
-fn try_others(rt: HostRuntime, abort: &impl Abort, record: &Record) -> Result<(), Fail> {
-    let mut second = alone_at(rt, record, ROOT)?;
-    play(abort, rt.alloc(), &mut second, ALL_FAIL)?;
-    let mut third = shared_at(rt, record, ROOT)?;
+fn try_others(rt: HostRuntime, abort: &impl Abort, record: &Record) {
+    let mut second = must(abort, alone_at(rt, record, ROOT));
+    play(abort, rt.alloc(), &mut second, ALL_FAIL);
+    let mut third = must(abort, shared_at(rt, record, ROOT));
     play(abort, rt.alloc(), &mut third, ALL_FAIL)
 }
 
@@ -25,21 +24,21 @@ sync = done
 faults = 0";
 
 // The first has the folder from its first call on.
-fn try_alone(rt: HostRuntime, abort: &impl Abort, record: &Record) -> Result<(), Fail> {
-    let mut first = alone_at(rt, record, ROOT)?;
-    play(abort, rt.alloc(), &mut first, "put a one = done")?;
-    try_others(rt, abort, record)?;
+fn try_alone(rt: HostRuntime, abort: &impl Abort, record: &Record) {
+    let mut first = must(abort, alone_at(rt, record, ROOT));
+    play(abort, rt.alloc(), &mut first, "put a one = done");
+    try_others(rt, abort, record);
     play(abort, rt.alloc(), &mut first, BEHIND)
 }
 
 // When it has gone, the next has it.
-fn try_next(rt: HostRuntime, abort: &impl Abort, record: &Record) -> Result<(), Fail> {
-    let mut next = alone_at(rt, record, ROOT)?;
+fn try_next(rt: HostRuntime, abort: &impl Abort, record: &Record) {
+    let mut next = must(abort, alone_at(rt, record, ROOT));
     play(abort, rt.alloc(), &mut next, "list '' = a b")
 }
 
-fn try_kept_out(rt: HostRuntime, abort: &impl Abort, record: &Record) -> Result<(), Fail> {
-    let mut alone = alone_at(rt, record, ROOT)?;
+fn try_kept_out(rt: HostRuntime, abort: &impl Abort, record: &Record) {
+    let mut alone = must(abort, alone_at(rt, record, ROOT));
     play(abort, rt.alloc(), &mut alone, ALL_FAIL)
 }
 
@@ -50,18 +49,18 @@ rename a b = failed
 remove a = failed";
 
 // A second that reads the folder. Each call of one that would have it fails, and each change of its own.
-fn try_second(rt: HostRuntime, abort: &impl Abort, record: &Record) -> Result<(), Fail> {
-    let mut second = shared_at(rt, record, ROOT)?;
-    play(abort, rt.alloc(), &mut second, "list '' = a b")?;
-    try_kept_out(rt, abort, record)?;
+fn try_second(rt: HostRuntime, abort: &impl Abort, record: &Record) {
+    let mut second = must(abort, shared_at(rt, record, ROOT));
+    play(abort, rt.alloc(), &mut second, "list '' = a b");
+    try_kept_out(rt, abort, record);
     play(abort, rt.alloc(), &mut second, NO_CHANGE)
 }
 
 // Two read the folder.
-fn try_shared(rt: HostRuntime, abort: &impl Abort, record: &Record) -> Result<(), Fail> {
-    let mut first = shared_at(rt, record, ROOT)?;
-    play(abort, rt.alloc(), &mut first, "sync = done\nsize a = 3")?;
-    try_second(rt, abort, record)?;
+fn try_shared(rt: HostRuntime, abort: &impl Abort, record: &Record) {
+    let mut first = must(abort, shared_at(rt, record, ROOT));
+    play(abort, rt.alloc(), &mut first, "sync = done\nsize a = 3");
+    try_second(rt, abort, record);
     play(abort, rt.alloc(), &mut first, "list '' = a b")
 }
 
@@ -74,32 +73,30 @@ sync = failed
 size a = failed";
 
 // The folder at the root is another than was locked.
-fn try_other(rt: HostRuntime, abort: &impl Abort, record: &Record) -> Result<(), Fail> {
-    let mut disk = alone_at(rt, record, ROOT)?;
-    play(abort, rt.alloc(), &mut disk, "sync = done")?;
-    fs::rename(&rt, ROOT, "disk_tests_moved")?;
-    fs::create_dir(&rt, ROOT)?;
-    play(abort, rt.alloc(), &mut disk, MOVED)?;
-    let moved = fs::read_to_string(&rt, "disk_tests_moved/a")?;
+fn try_other(rt: HostRuntime, abort: &impl Abort, record: &Record) {
+    let mut disk = must(abort, alone_at(rt, record, ROOT));
+    play(abort, rt.alloc(), &mut disk, "sync = done");
+    must(abort, fs::rename(&rt, ROOT, "disk_tests_moved"));
+    must(abort, fs::create_dir(&rt, ROOT));
+    play(abort, rt.alloc(), &mut disk, MOVED);
+    let moved = must(abort, fs::read_to_string(&rt, "disk_tests_moved/a"));
     same_at(abort, ROOT, moved.as_str(), "one");
-    same(abort, fs::read_dir(&rt, ROOT)?.count(), 0);
-    fs::remove_dir_all(&rt, "disk_tests_moved")?;
-    Ok(())
+    same(abort, must(abort, fs::read_dir(&rt, ROOT)).count(), 0);
+    must(abort, fs::remove_dir_all(&rt, "disk_tests_moved"));
 }
 
-fn try_all(rt: HostRuntime, abort: &impl Abort, record: &Record) -> Result<(), Fail> {
-    try_alone(rt, abort, record)?;
-    try_next(rt, abort, record)?;
-    try_shared(rt, abort, record)?;
+fn try_all(rt: HostRuntime, abort: &impl Abort, record: &Record) {
+    try_alone(rt, abort, record);
+    try_next(rt, abort, record);
+    try_shared(rt, abort, record);
     try_other(rt, abort, record)
 }
 
 #[test]
-fn one_disk_has_a_folder(rt: HostRuntime) -> Result<(), Fail> {
+fn one_disk_has_a_folder(rt: HostRuntime) {
     let _ = fs::remove_dir_all(&rt, ROOT);
-    fs::create_dir(&rt, ROOT)?;
+    must(&rt, fs::create_dir(&rt, ROOT));
     let record = Record::new(rt.alloc());
-    try_all(rt, &rt, &record)?;
-    fs::remove_dir_all(&rt, ROOT)?;
-    Ok(())
+    try_all(rt, &rt, &record);
+    must(&rt, fs::remove_dir_all(&rt, ROOT));
 }

@@ -1,12 +1,11 @@
 //! Links, and folders in the place of files: each call that meets one fails, and nothing is changed behind it.
 
-use crate::asserts::same_at;
+use crate::asserts::{must, same_at};
 use crate::sessions::{parted, play, play_at};
 use crate::watched::{Record, alone_at};
 use std::fs;
 use std::os::unix::fs::symlink;
 use std::process::Abort;
-use std::test::Fail;
 
 const ROOT: &str = "disk_tests_linked";
 
@@ -42,75 +41,77 @@ calls = 11
 faults = 10";
 
 // A root with a file `old`, a folder `host/a` and a link, which leads to a folder beside it.
-fn make_linked(rt: HostRuntime, link: &str, to: &str) -> Result<(), Fail> {
+fn make_linked(rt: HostRuntime, abort: &impl Abort, link: &str, to: &str) {
     let _ = fs::remove_dir_all(&rt, ROOT);
     let _ = fs::remove_dir_all(&rt, OUTSIDE);
-    fs::create_dir_all(&rt, "disk_tests_outside/host/a")?;
-    fs::write(&rt, "disk_tests_outside/host/a/m", b"kept")?;
-    fs::create_dir(&rt, ROOT)?;
-    fs::write(&rt, "disk_tests_linked/old", b"old")?;
+    must(abort, fs::create_dir_all(&rt, "disk_tests_outside/host/a"));
+    must(
+        abort,
+        fs::write(&rt, "disk_tests_outside/host/a/m", b"kept"),
+    );
+    must(abort, fs::create_dir(&rt, ROOT));
+    must(abort, fs::write(&rt, "disk_tests_linked/old", b"old"));
     if link != "host" {
-        fs::create_dir(&rt, "disk_tests_linked/host")?;
+        must(abort, fs::create_dir(&rt, "disk_tests_linked/host"));
     }
     if link != "host" && link != "host/a" {
-        fs::create_dir(&rt, "disk_tests_linked/host/a")?;
+        must(abort, fs::create_dir(&rt, "disk_tests_linked/host/a"));
     }
-    let place = format!(in rt.alloc(); "{ROOT}/{link}")?;
-    symlink(&rt, to, place.as_str())?;
-    Ok(())
+    let place = must(abort, format!(in rt.alloc(); "{ROOT}/{link}"));
+    must(abort, symlink(&rt, to, place.as_str()));
 }
 
 // Outside nothing has changed.
-fn try_outside(rt: HostRuntime, abort: &impl Abort, record: &Record) -> Result<(), Fail> {
-    let mut outside = alone_at(rt, record, OUTSIDE)?;
+fn try_outside(rt: HostRuntime, abort: &impl Abort, record: &Record) {
+    let mut outside = must(abort, alone_at(rt, record, OUTSIDE));
     play(abort, rt.alloc(), &mut outside, "list '' = host/a/m")
 }
 
-fn try_link(rt: HostRuntime, abort: &impl Abort, record: &Record, name: &str) -> Result<(), Fail> {
-    let mut disk = alone_at(rt, record, ROOT)?;
-    play_at(abort, rt.alloc(), &mut disk, name, MET)?;
+fn try_link(rt: HostRuntime, abort: &impl Abort, record: &Record, name: &str) {
+    let mut disk = must(abort, alone_at(rt, record, ROOT));
+    play_at(abort, rt.alloc(), &mut disk, name, MET);
     play_at(abort, rt.alloc(), &mut disk, name, MET_BELOW)
 }
 
 // One line of the links.
-fn try_line(rt: HostRuntime, abort: &impl Abort, record: &Record, line: &str) -> Result<(), Fail> {
+fn try_line(rt: HostRuntime, abort: &impl Abort, record: &Record, line: &str) {
     let (link, rest) = parted(line);
     let (to, name) = parted(rest);
-    make_linked(rt, link, to)?;
-    try_link(rt, abort, record, name)?;
-    try_outside(rt, abort, record)?;
-    let kept = fs::read_to_string(&rt, "disk_tests_outside/host/a/m")?;
+    make_linked(rt, abort, link, to);
+    try_link(rt, abort, record, name);
+    try_outside(rt, abort, record);
+    let kept = must(
+        abort,
+        fs::read_to_string(&rt, "disk_tests_outside/host/a/m"),
+    );
     same_at(abort, line, kept.as_str(), "kept");
-    Ok(())
 }
 
 #[test]
-fn no_link_is_followed(rt: HostRuntime) -> Result<(), Fail> {
+fn no_link_is_followed(rt: HostRuntime) {
     let record = Record::new(rt.alloc());
     for line in LINKS.lines() {
-        try_line(rt, &rt, &record, line)?;
+        try_line(rt, &rt, &record, line);
     }
-    fs::remove_dir_all(&rt, ROOT)?;
-    fs::remove_dir_all(&rt, OUTSIDE)?;
-    Ok(())
+    must(&rt, fs::remove_dir_all(&rt, ROOT));
+    must(&rt, fs::remove_dir_all(&rt, OUTSIDE));
 }
 
 // A folder stands where a file should be. It may be listed.
-fn try_folder_as_file(rt: HostRuntime, abort: &impl Abort, root: &str) -> Result<(), Fail> {
+fn try_folder_as_file(rt: HostRuntime, abort: &impl Abort, root: &str) {
     let record = Record::new(rt.alloc());
-    let mut disk = alone_at(rt, &record, root)?;
-    play(abort, rt.alloc(), &mut disk, "sync = done")?;
-    play_at(abort, rt.alloc(), &mut disk, "m", MET)?;
+    let mut disk = must(abort, alone_at(rt, &record, root));
+    play(abort, rt.alloc(), &mut disk, "sync = done");
+    play_at(abort, rt.alloc(), &mut disk, "m", MET);
     play(abort, rt.alloc(), &mut disk, "list '' = old")
 }
 
 #[test]
-fn a_folder_is_no_file(rt: HostRuntime) -> Result<(), Fail> {
+fn a_folder_is_no_file(rt: HostRuntime) {
     let root = "disk_tests_as_file";
     let _ = fs::remove_dir_all(&rt, root);
-    fs::create_dir_all(&rt, "disk_tests_as_file/m")?;
-    fs::write(&rt, "disk_tests_as_file/old", b"old")?;
-    try_folder_as_file(rt, &rt, root)?;
-    fs::remove_dir_all(&rt, root)?;
-    Ok(())
+    must(&rt, fs::create_dir_all(&rt, "disk_tests_as_file/m"));
+    must(&rt, fs::write(&rt, "disk_tests_as_file/old", b"old"));
+    try_folder_as_file(rt, &rt, root);
+    must(&rt, fs::remove_dir_all(&rt, root));
 }

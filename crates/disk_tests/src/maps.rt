@@ -1,13 +1,12 @@
 //! What any disk does: it is a map from names to bytes.
 
-use crate::asserts::{same, same_at};
+use crate::asserts::{must, same, same_at};
 use crate::sessions::{play, play_at};
 use disk_trait::{Disk, FailingDisk, MemoryDisk};
 use file_disk::{AtOnce, FileDisk};
 use std::alloc::{AllocError, Global};
 use std::fs;
 use std::process::Abort;
-use std::test::Fail;
 use std::thread::Threads;
 
 // Puts, reads, lists, renames and removes.
@@ -48,16 +47,16 @@ rename NAME g = none
 remove NAME = none";
 
 // As any disk does.
-fn try_all<D: Disk>(rt: &impl Abort, alloc: Global, disk: &mut D) -> Result<(), Fail> {
-    play(rt, alloc, disk, MAP)?;
+fn try_all<D: Disk>(rt: &impl Abort, alloc: Global, disk: &mut D) {
+    play(rt, alloc, disk, MAP);
     for name in ABSENT_NAMES.split(' ') {
-        play_at(rt, alloc, disk, name, ABSENT)?;
+        play_at(rt, alloc, disk, name, ABSENT);
     }
     play(rt, alloc, disk, "list '' = a/b e/f\nfaults = 0")
 }
 
 #[test]
-fn memory_is_a_map(rt: HostRuntime) -> Result<(), Fail> {
+fn memory_is_a_map(rt: HostRuntime) {
     try_all(&rt, rt.alloc(), &mut MemoryDisk::new(rt.alloc()))
 }
 
@@ -96,35 +95,34 @@ faults = 7";
 
 const ROOT: &str = "disk_tests_map";
 
-fn try_missing<R: Threads + Sync + Abort>(rt: HostRuntime, threads: &R) -> Result<(), Fail> {
+fn try_missing<R: Threads + Sync + Abort>(rt: HostRuntime, threads: &R) {
     play(
         threads,
         rt.alloc(),
-        &mut folder_at(rt, threads, ROOT)?,
+        &mut must(threads, folder_at(rt, threads, ROOT)),
         ALL_FAIL,
     )
 }
 
-fn try_folder<R: Threads + Sync + Abort>(rt: HostRuntime, threads: &R) -> Result<(), Fail> {
-    let mut disk = folder_at(rt, threads, ROOT)?;
-    try_all(threads, rt.alloc(), &mut disk)?;
+fn try_folder<R: Threads + Sync + Abort>(rt: HostRuntime, threads: &R) {
+    let mut disk = must(threads, folder_at(rt, threads, ROOT));
+    try_all(threads, rt.alloc(), &mut disk);
     play(threads, rt.alloc(), &mut disk, BAD_NAMES)
 }
 
 #[test]
-fn folder_is_a_map(rt: HostRuntime) -> Result<(), Fail> {
+fn folder_is_a_map(rt: HostRuntime) {
     let _ = fs::remove_dir_all(&rt, ROOT);
-    try_missing(rt, &rt)?;
-    same(&rt, fs::exists(&rt, ROOT)?, false);
-    fs::write(&rt, ROOT, b"a file")?;
-    try_missing(rt, &rt)?;
-    fs::remove_file(&rt, ROOT)?;
-    fs::create_dir(&rt, ROOT)?;
-    try_folder(rt, &rt)?;
-    let text = fs::read_to_string(&rt, "disk_tests_map/e/f")?;
+    try_missing(rt, &rt);
+    same(&rt, must(&rt, fs::exists(&rt, ROOT)), false);
+    must(&rt, fs::write(&rt, ROOT, b"a file"));
+    try_missing(rt, &rt);
+    must(&rt, fs::remove_file(&rt, ROOT));
+    must(&rt, fs::create_dir(&rt, ROOT));
+    try_folder(rt, &rt);
+    let text = must(&rt, fs::read_to_string(&rt, "disk_tests_map/e/f"));
     same_at(&rt, ROOT, text.as_str(), "four");
-    fs::remove_dir_all(&rt, ROOT)?;
-    Ok(())
+    must(&rt, fs::remove_dir_all(&rt, ROOT));
 }
 
 // What a disk must be to be moved to another thread.
@@ -133,9 +131,8 @@ fn try_sent<D: Disk + Send + Drop>(rt: &impl Abort, disk: D) {
 }
 
 #[test]
-fn crosses_threads(rt: HostRuntime) -> Result<(), Fail> {
+fn crosses_threads(rt: HostRuntime) {
     let memory = MemoryDisk::new(rt.alloc());
     try_sent(&rt, FailingDisk::stopping_after(memory, 0));
-    try_sent(&rt, folder_at(rt, &rt, "none")?);
-    Ok(())
+    try_sent(&rt, must(&rt, folder_at(rt, &rt, "none")));
 }

@@ -1,11 +1,10 @@
 //! Sessions with a disk, as texts. A line is a call and what is told: `done` for a change, `none` where nothing stands at a
 //! name, `failed`, or what is read. In it `''` stands for no bytes, and `NAME` for a name that the session is played at.
 
-use crate::asserts::same_at;
+use crate::asserts::{must, same_at};
 use disk_trait::{Disk, DiskError};
-use std::alloc::{AllocError, Global};
+use std::alloc::Global;
 use std::process::Abort;
-use std::test::Fail;
 
 /// A text up to its first space, and what stands behind.
 pub fn parted(text: &str) -> (&str, &str) {
@@ -32,41 +31,45 @@ fn number(digits: &str) -> u64 {
     number
 }
 
-fn text_of(alloc: Global, bytes: &[u8]) -> Result<String, AllocError> {
-    String::from_str(alloc, str::from_utf8(bytes).unwrap_or("no text"))
+fn text_of(rt: &impl Abort, alloc: Global, bytes: &[u8]) -> String {
+    must(
+        rt,
+        String::from_str(alloc, str::from_utf8(bytes).unwrap_or("no text")),
+    )
 }
 
-fn number_or_none(alloc: Global, found: Option<u64>) -> Result<String, AllocError> {
+fn number_or_none(rt: &impl Abort, alloc: Global, found: Option<u64>) -> String {
     match found {
-        Some(number) => format!(in alloc; "{number}"),
-        None => String::from_str(alloc, "none"),
+        Some(number) => must(rt, format!(in alloc; "{number}")),
+        None => must(rt, String::from_str(alloc, "none")),
     }
 }
 
-fn bytes_or_none(alloc: Global, found: Option<Vec<u8>>) -> Result<String, AllocError> {
+fn bytes_or_none(rt: &impl Abort, alloc: Global, found: Option<Vec<u8>>) -> String {
     match found {
-        Some(bytes) => text_of(alloc, &bytes),
-        None => String::from_str(alloc, "none"),
+        Some(bytes) => text_of(rt, alloc, &bytes),
+        None => must(rt, String::from_str(alloc, "none")),
     }
 }
 
 // The names with spaces between them.
-fn listed(alloc: Global, names: &[String]) -> Result<String, AllocError> {
+fn listed(rt: &impl Abort, alloc: Global, names: &[String]) -> String {
     let mut text = String::new(alloc);
     for name in names {
         if !text.is_empty() {
-            text.push(' ')?;
+            must(rt, text.push(' '));
         }
-        text.push_str(name.as_str())?;
+        must(rt, text.push_str(name.as_str()));
     }
     if text.is_empty() {
-        text.push_str("no names")?;
+        must(rt, text.push_str("no names"));
     }
-    Ok(text)
+    text
 }
 
 // How many bytes of a file are read from an offset on, and what then stands where they were to go.
 fn part<D: Disk>(
+    rt: &impl Abort,
     alloc: Global,
     disk: &mut D,
     name: &str,
@@ -80,9 +83,12 @@ fn part<D: Disk>(
         Some(count) => Some(count as u64),
         None => None,
     };
-    let mut text = number_or_none(alloc, count)?;
-    text.push(' ')?;
-    text.push_str(str::from_utf8(&into).unwrap_or("no text"))?;
+    let mut text = number_or_none(rt, alloc, count);
+    must(rt, text.push(' '));
+    must(
+        rt,
+        text.push_str(str::from_utf8(&into).unwrap_or("no text")),
+    );
     Ok(text)
 }
 
@@ -108,6 +114,7 @@ fn change<D: Disk>(
 
 // Makes a call: what it tells.
 fn call<D: Disk>(
+    rt: &impl Abort,
     alloc: Global,
     disk: &mut D,
     verb: &str,
@@ -115,58 +122,47 @@ fn call<D: Disk>(
     rest: &str,
 ) -> Result<String, DiskError> {
     match verb {
-        "size" => Ok(number_or_none(alloc, disk.size(name)?)?),
-        "read" => Ok(bytes_or_none(alloc, disk.read(alloc, name)?)?),
-        "part" => part(alloc, disk, name, rest),
-        "list" => Ok(listed(alloc, &disk.list(alloc, name)?)?),
-        "calls" => Ok(number_or_none(alloc, Some(disk.calls()))?),
-        "faults" => Ok(number_or_none(alloc, Some(disk.faults()))?),
+        "size" => Ok(number_or_none(rt, alloc, disk.size(name)?)),
+        "read" => Ok(bytes_or_none(rt, alloc, disk.read(alloc, name)?)),
+        "part" => part(rt, alloc, disk, name, rest),
+        "list" => Ok(listed(rt, alloc, &disk.list(alloc, name)?)),
+        "calls" => Ok(number_or_none(rt, alloc, Some(disk.calls()))),
+        "faults" => Ok(number_or_none(rt, alloc, Some(disk.faults()))),
         _ => {
             let is_there = change(alloc, disk, verb, name, rest)?;
             let word = if is_there { "done" } else { "none" };
-            Ok(String::from_str(alloc, word)?)
+            Ok(must(rt, String::from_str(alloc, word)))
         }
     }
 }
 
 /// Makes the call of a line, at a name: what it tells.
 pub fn told<D: Disk>(
+    rt: &impl Abort,
     alloc: Global,
     disk: &mut D,
     name: &str,
     line: &str,
-) -> Result<String, AllocError> {
+) -> String {
     let (verb, words) = parted(line);
     let (first, rest) = parted(words);
-    match call(alloc, disk, verb, meant(first, name), meant(rest, name)) {
-        Ok(text) => Ok(text),
-        Err(DiskError::Failed) => String::from_str(alloc, "failed"),
-        Err(DiskError::NoMemory) => Err(AllocError),
+    match call(rt, alloc, disk, verb, meant(first, name), meant(rest, name)) {
+        Ok(text) => text,
+        Err(DiskError::Failed) => must(rt, String::from_str(alloc, "failed")),
+        Err(DiskError::NoMemory) => panic!(rt; "no memory"),
     }
 }
 
 /// Plays a session at a name.
-pub fn play_at<D: Disk>(
-    rt: &impl Abort,
-    alloc: Global,
-    disk: &mut D,
-    name: &str,
-    session: &str,
-) -> Result<(), Fail> {
+pub fn play_at<D: Disk>(rt: &impl Abort, alloc: Global, disk: &mut D, name: &str, session: &str) {
     for line in session.lines() {
-        let (line, want) = line.split_once(" = ").ok_or("no line of a session")?;
-        let found = told(alloc, disk, name, line)?;
+        let (line, want) = must(rt, line.split_once(" = ").ok_or("no line of a session"));
+        let found = told(rt, alloc, disk, name, line);
         same_at(rt, line, found.as_str(), want);
     }
-    Ok(())
 }
 
 /// Plays a session without such a name.
-pub fn play<D: Disk>(
-    rt: &impl Abort,
-    alloc: Global,
-    disk: &mut D,
-    session: &str,
-) -> Result<(), Fail> {
+pub fn play<D: Disk>(rt: &impl Abort, alloc: Global, disk: &mut D, session: &str) {
     play_at(rt, alloc, disk, "", session)
 }

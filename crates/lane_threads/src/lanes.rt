@@ -36,12 +36,16 @@ pub fn serve_lanes<R: Threads + Wait + Sync, C: Serves<T, U> + Sync, T: Send, U:
     let (reports, more) = join_mut(
         rt,
         &mut || -> Reports
-            requires can { IsSync R.row × IsSync C.row × CanServe (C.turn on.now) (C.state seat.now) first (length front.now) }
-            ensures served { AreServed C.runs first front.entry.now front.exit.now result.items (C.state seat.entry.now) (C.state seat.exit.now) }
+            requires can { IsSync R.row × IsSync C.row
+                × CanServe (C.turn on.now) (C.state seat.now) first (length front.now) }
+            ensures served { AreServed C.runs first front.entry.now front.exit.now result.items
+                (C.state seat.entry.now) (C.state seat.exit.now) }
         { serve_lanes(rt, on, seat, first, front) },
         &mut || -> Reports
-            requires can { IsSync R.row × IsSync C.row × CanServe (C.turn on.now) (C.state other) middle (length back.now) }
-            ensures served { AreServed C.runs middle back.entry.now back.exit.now result.items (C.state other.entry) (C.state other.exit) }
+            requires can { IsSync R.row × IsSync C.row
+                × CanServe (C.turn on.now) (C.state other) middle (length back.now) }
+            ensures served { AreServed C.runs middle back.entry.now back.exit.now result.items
+                (C.state other.entry) (C.state other.exit) }
         { serve_lanes(rt, on, &mut other, middle, back) },
     );
     on.absorb(seat, other);

@@ -40,7 +40,8 @@ pub trait Serves<T, U> {
 
     /// Puts a second seat into one, which then has both seats' own places.
     fn absorb(&self, seat: &mut T, other: T)
-        requires own { ((state seat.old).turn ≡ turn self.now) × ((state other).turn ≡ turn self.now) }
+        requires own { ((state seat.old).turn ≡ turn self.now)
+            × ((state other).turn ≡ turn self.now) }
         requires idle { ((state seat.old).holding ≡ false) × ((state other).holding ≡ false) }
         ensures seat { state seat.new ≡ seat_after_join (state seat.old) (state other) }
         ensures left { IsPrefix (state seat.old).seen (state seat.new).seen }

@@ -1,15 +1,14 @@
 //! A session that ends beside another, each on a lane and in a thread of its own.
 
-use crate::asserts::same;
+use crate::asserts::{must, same};
 use crate::serving::gated::{BACKED_UP, BACKUP_A, BACKUPS};
 use crate::stores::{opened, order_of};
 use crate::talks::{Talk, session, two_sessions};
 use crate::watch::Watch;
 use port_traits::FreeGate;
-use std::alloc::{AllocError, Global};
+use std::alloc::Global;
 use std::process::Abort;
 use std::sync::Wait;
-use std::test::Fail;
 use std::thread::Threads;
 use store_types::Entry;
 
@@ -20,15 +19,14 @@ pub(crate) fn assert_lane(
     order: &[Entry],
     lane: u32,
     kinds: &[u8],
-) -> Result<(), AllocError> {
+) {
     let mut found = Vec::new(alloc);
     for entry in order {
         if entry.lane == lane {
-            found.push(entry.kind)?;
+            must(rt, found.push(entry.kind));
         }
     }
     same(rt, &found, kinds);
-    Ok(())
 }
 
 /// A session that ends without a FINISH that is done: what it is sent; which read of its source fails, and which write of its sink, each of one
@@ -81,29 +79,27 @@ const AGAIN: (&[u8], &[u8]) = (
 );
 
 /// The session is on lane 0. On lane 1 `host/b` is backed up at the same time.
-fn try_ending(
-    rt: &(impl Threads + Wait + Abort + Sync),
-    alloc: Global,
-    row: &Ending,
-) -> Result<(), Fail> {
+fn try_ending(rt: &(impl Threads + Wait + Abort + Sync), alloc: Global, row: &Ending) {
     let (sent, read, write, told, kinds) = *row;
-    let (store, seat) = opened(alloc, Watch::of(alloc, false)?)?;
-    let ending = Talk::failing(alloc, sent, told, read, write)?;
-    let other = Talk::of(alloc, BACKUPS[1], BACKED_UP)?;
-    let again = Talk::of(alloc, AGAIN.0, AGAIN.1)?;
-    let seat = two_sessions(rt, alloc, &store, seat, 0, (ending, other), &FreeGate);
-    let seat = session(rt, alloc, &store, seat, 2, again, &FreeGate);
+    let (store, seat) = must(rt, opened(alloc, must(rt, Watch::of(alloc, false))));
+    let ending = must(rt, Talk::failing(alloc, sent, told, read, write));
+    let other = must(rt, Talk::of(alloc, BACKUPS[1], BACKED_UP));
+    let mut both = (ending, other);
+    let mut again = must(rt, Talk::of(alloc, AGAIN.0, AGAIN.1));
+    let seat = two_sessions(rt, alloc, &store, seat, 0, &mut both, &FreeGate);
+    let seat = session(rt, alloc, &store, seat, 2, &mut again, &FreeGate);
+    for talk in [&both.0, &both.1, &again] {
+        talk.assert_told(rt);
+    }
     let order = order_of(store, seat);
-    assert_lane(rt, alloc, &order, 0, kinds)?;
-    assert_lane(rt, alloc, &order, 1, &[0, 0, 0, 6])?;
-    assert_lane(rt, alloc, &order, 2, &[0, 0, 6])?;
-    Ok(())
+    assert_lane(rt, alloc, &order, 0, kinds);
+    assert_lane(rt, alloc, &order, 1, &[0, 0, 0, 6]);
+    assert_lane(rt, alloc, &order, 2, &[0, 0, 6]);
 }
 
 #[test]
-fn a_lane_ends_beside_another(rt: HostRuntime) -> Result<(), Fail> {
+fn a_lane_ends_beside_another(rt: HostRuntime) {
     for row in &ENDINGS {
-        try_ending(&rt, rt.alloc(), row)?;
+        try_ending(&rt, rt.alloc(), row);
     }
-    Ok(())
 }

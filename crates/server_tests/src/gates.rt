@@ -1,4 +1,4 @@
-//! Gates of several lanes: one that fixes in which order commands are done, and one that counts them.
+//! Gates of several lanes: one that fixes in which order commands are done, one at which all lanes meet, and one that counts commands.
 
 use crate::watch::LOOKS;
 use port_traits::Gate;
@@ -90,6 +90,55 @@ impl Gate for TurnGate {
     fn after(&self, lane: u32, _number: u64) {
         raise(&self.answered, lane);
     }
+}
+
+/// It holds the first command of each lane until all lanes have come to theirs.
+#[derive(Drop)]
+pub(crate) struct MeetingGate {
+    lanes: u64,
+    /// How often a lane looks for the others before it goes on alone.
+    looks: u32,
+    /// How many lanes have come.
+    come: AtomicU64,
+    gave_up: AtomicBool,
+}
+
+impl MeetingGate {
+    /// It takes no memory.
+    pub(crate) fn of(lanes: u64, looks: u32) -> MeetingGate {
+        MeetingGate {
+            lanes,
+            looks,
+            come: AtomicU64::new(0),
+            gave_up: AtomicBool::new(false),
+        }
+    }
+
+    /// All lanes have come, and none went on before.
+    pub(crate) fn have_met(&self) -> bool {
+        self.come.load(SeqCst) == self.lanes && !self.gave_up.load(SeqCst)
+    }
+
+    fn meet(&self) {
+        self.come.fetch_add(1, SeqCst);
+        for _ in 0..self.looks {
+            if self.come.load(SeqCst) >= self.lanes {
+                return;
+            }
+            yield_now();
+        }
+        self.gave_up.store(true, SeqCst);
+    }
+}
+
+impl Gate for MeetingGate {
+    fn before(&self, _lane: u32, number: u64) {
+        if number == 0 {
+            self.meet();
+        }
+    }
+
+    fn after(&self, _lane: u32, _number: u64) {}
 }
 
 /// It counts its calls by lane, and those that come out of turn: with another number, or not before and after a command in turn.

@@ -6,6 +6,7 @@ ghost use Rattle.seat_history.specs.Entered.{OwnRises};
 ghost use Rattle.shared_store.specs.Comes.{CanAct};
 ghost use Rattle.server_tests.specs.Seats.{ComesBackIdle};
 
+use crate::asserts::must;
 use crate::seats::list_act;
 use crate::serving::long::{LARGE, with_zeros};
 use crate::stores::{Place, Store, opened, order_of};
@@ -17,7 +18,6 @@ use std::process::Abort;
 use std::sync::Wait;
 use std::sync::atomic::AtomicBool;
 use std::sync::atomic::Ordering::SeqCst;
-use std::test::Fail;
 use std::thread::{Threads, join, yield_now};
 use store_types::Entry;
 
@@ -74,12 +74,12 @@ fn list_often<R: Wait>(
 }
 
 /// OPEN_WRITER and a CHUNK of the greatest size on lane 0. As the CHUNK has begun, another thread acts on lane 1.
-fn chunk_beside<R: Threads + Wait + Abort + Sync>(
+fn chunk_beside<R: Threads + Wait + Sync>(
     rt: &R,
     alloc: Global,
     store: &Store,
     seat: Place,
-    chunk: Talk,
+    chunk: &mut Talk,
     gate: &SecondBegun,
 ) -> Place
     requires can { CanAct store.now.turn.id seat }
@@ -112,24 +112,28 @@ fn is_last_but_end(order: &[Entry]) -> bool {
     }
 }
 
-fn try_once(rt: &(impl Threads + Wait + Abort + Sync), alloc: Global) -> Result<bool, Fail> {
+fn try_once(rt: &(impl Threads + Wait + Abort + Sync), alloc: Global) -> bool {
     let (front, zeros, replies) = LARGE[1];
-    let chunk = Talk::of(alloc, &with_zeros(alloc, front, zeros)?, replies)?;
-    let (store, seat) = opened(alloc, Watch::of(alloc, false)?)?;
+    let mut chunk = must(
+        rt,
+        Talk::of(alloc, &must(rt, with_zeros(alloc, front, zeros)), replies),
+    );
+    let (store, seat) = must(rt, opened(alloc, must(rt, Watch::of(alloc, false))));
     let gate = SecondBegun {
         has_begun: AtomicBool::new(false),
     };
-    let seat = chunk_beside(rt, alloc, &store, seat, chunk, &gate);
-    Ok(is_last_but_end(&order_of(store, seat)))
+    let seat = chunk_beside(rt, alloc, &store, seat, &mut chunk, &gate);
+    chunk.assert_told(rt);
+    is_last_but_end(&order_of(store, seat))
 }
 
 /// A lane that had the turn as it hashes would let none of these acts go before its own.
 #[test]
-fn others_act_as_a_lane_hashes(rt: HostRuntime) -> Result<(), Fail> {
+fn others_act_as_a_lane_hashes(rt: HostRuntime) {
     for _ in 0..TRIES {
-        if try_once(&rt, rt.alloc())? {
-            return Ok(());
+        if try_once(&rt, rt.alloc()) {
+            return;
         }
     }
-    Err("no act went before the CHUNK's".into())
+    panic!(rt; "no act went before the CHUNK's")
 }

@@ -1,11 +1,11 @@
 //! Sessions on lanes of one store, one after another.
 
+use crate::asserts::must;
 use crate::stores::opened;
 use crate::talks::{Talk, session};
 use crate::watch::Watch;
 use core_state::Act;
 use port_traits::FreeGate;
-use std::test::Fail;
 use store_types::Bytes;
 use wire_commands::Command;
 
@@ -27,19 +27,24 @@ const REMOVED: &[u8] =
 
 /// A PRUNE of which another lane reads what is to go, and again as it has been closed.
 #[test]
-fn held_snapshots_stay(rt: HostRuntime) -> Result<(), Fail> {
+fn held_snapshots_stay(rt: HostRuntime) {
     let alloc = rt.alloc();
-    let backups = Talk::of(alloc, TWO_SENT, TWO_TOLD)?;
-    let held = Talk::of(alloc, PRUNED, HELD)?;
-    let removed = Talk::of(alloc, PRUNED, REMOVED)?;
-    let snapshot = Bytes::from_slice(alloc, b"host/a/2020-01-15T06:30:03Z")?;
-    let (store, seat) = opened(alloc, Watch::of(alloc, false)?)?;
-    let mut seat = session(&rt, alloc, &store, seat, 3, backups, &FreeGate);
+    let mut backups = must(&rt, Talk::of(alloc, TWO_SENT, TWO_TOLD));
+    let mut held = must(&rt, Talk::of(alloc, PRUNED, HELD));
+    let mut removed = must(&rt, Talk::of(alloc, PRUNED, REMOVED));
+    let snapshot = must(
+        &rt,
+        Bytes::from_slice(alloc, b"host/a/2020-01-15T06:30:03Z"),
+    );
+    let (store, seat) = must(&rt, opened(alloc, must(&rt, Watch::of(alloc, false))));
+    let mut seat = session(&rt, alloc, &store, seat, 3, &mut backups, &FreeGate);
     let open = Act::Plain(Command::OpenReader { snapshot });
     let _ = store.act(&rt, alloc, &mut seat, 5, open);
-    let mut seat = session(&rt, alloc, &store, seat, 4, held, &FreeGate);
+    let mut seat = session(&rt, alloc, &store, seat, 4, &mut held, &FreeGate);
     let close = Act::Plain(Command::CloseReader);
     let _ = store.act(&rt, alloc, &mut seat, 5, close);
-    let _ = session(&rt, alloc, &store, seat, 2, removed, &FreeGate);
-    Ok(())
+    let _ = session(&rt, alloc, &store, seat, 2, &mut removed, &FreeGate);
+    for talk in [&backups, &held, &removed] {
+        talk.assert_told(&rt);
+    }
 }

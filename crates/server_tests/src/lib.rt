@@ -10,6 +10,10 @@ mod gates;
 #[cfg(test)]
 mod hashing;
 #[cfg(test)]
+mod judged;
+#[cfg(test)]
+mod lacking;
+#[cfg(test)]
 mod lanes;
 #[cfg(test)]
 mod seats;

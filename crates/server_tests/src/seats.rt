@@ -6,14 +6,13 @@ ghost use Rattle.store_history.specs.Acts.{IsWellFormed};
 ghost use Rattle.shared_store.specs.Comes.{CanAct};
 ghost use Rattle.server_tests.specs.Seats.{ComesBackIdle};
 
-use crate::asserts::same_numbers;
+use crate::asserts::{must, same_numbers};
 use crate::stores::{Place, Store, opened, order_of};
 use crate::watch::{LOOKS, Watch, WatchHandle};
 use core_state::Act;
 use std::alloc::Global;
 use std::process::Abort;
 use std::sync::{Arc, Wait};
-use std::test::Fail;
 use std::thread::{Threads, join, yield_now};
 use store_types::{Bytes, Entry};
 use wire_commands::Command;
@@ -157,13 +156,13 @@ fn try_two(
     rt: &(impl Threads + Wait + Abort + Sync),
     alloc: Global,
     times: &(When, When),
-) -> Result<[u64; 4], Fail> {
-    let watch = Watch::of(alloc, is_held(times))?;
-    let (store, seat) = opened(alloc, Arc::try_clone(&watch)?)?;
+) -> [u64; 4] {
+    let watch = must(rt, Watch::of(alloc, is_held(times)));
+    let (store, seat) = must(rt, opened(alloc, must(rt, Arc::try_clone(&watch))));
     let seat = act_in_two(rt, alloc, &store, seat, times, &watch);
     let order = order_of(store, seat);
     same_numbers(rt, &[watch.overlaps()], &[0]);
-    Ok(pair_of(&order).ok_or("not two entries")?)
+    must(rt, pair_of(&order).ok_or("not two entries"))
 }
 
 /// When each thread acts, and whose lane is then first; none where either may be.
@@ -176,22 +175,20 @@ static ORDERS: [((When, When), Option<u64>); 5] = [
 ];
 
 #[test]
-fn two_seats_see_each_other(rt: HostRuntime) -> Result<(), Fail> {
+fn two_seats_see_each_other(rt: HostRuntime) {
     for (times, first) in &ORDERS {
-        let [one, kind, other, its_kind] = try_two(&rt, rt.alloc(), times)?;
+        let [one, kind, other, its_kind] = try_two(&rt, rt.alloc(), times);
         let first = first.unwrap_or(one);
         same_numbers(&rt, &[one, kind, its_kind, one ^ other], &[first, 0, 0, 1]);
     }
-    Ok(())
 }
 
 /// Where a growth is refused, both threads act all the same, and the act that lacked memory is entered with kind 2; neither the turn nor a front
 /// takes any. The kinds are printed. It fails where the datastore is not opened, or there is no turn.
 #[test]
-fn two_seats_lack_memory(rt: HostRuntime) -> Result<(), Fail> {
+fn two_seats_lack_memory(rt: HostRuntime) {
     let times = (When::Behind(0), When::Behind(1));
-    let pair = try_two(&rt, rt.alloc(), &times)?;
+    let pair = try_two(&rt, rt.alloc(), &times);
     let (kind, other) = (pair[1], pair[3]);
-    println!(rt; "kinds {kind} and {other}")?;
-    Ok(())
+    must(&rt, println!(rt; "kinds {kind} and {other}"));
 }

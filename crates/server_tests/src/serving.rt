@@ -1,5 +1,6 @@
 //! Sessions by `serve` on datastores in memory. The bytes are made by `tests/make-tables`.
 
+mod disk_faults;
 pub(crate) mod gated;
 pub(crate) mod long;
 mod memory;
@@ -7,7 +8,7 @@ mod port_faults;
 mod together;
 mod words;
 
-use crate::asserts::{same, same_numbers};
+use crate::asserts::{must, same, same_numbers};
 use disk_trait::{Disk, MemoryDisk};
 use lane::{Ending, LaneReport, Port};
 use pbs_server::{Served, Status, serve};
@@ -15,7 +16,6 @@ use port_traits::{FreeGate, MemSink, MemSource, SetClock};
 use std::alloc::{AllocError, Global};
 use std::process::Abort;
 use std::sync::Wait;
-use std::test::Fail;
 use std::thread::Threads;
 
 /// How a session was served.
@@ -106,27 +106,21 @@ fn session(
 }
 
 /// The run has this status, and its one lane this report.
-fn assert_report(
-    rt: &impl Abort,
-    served: &Run,
-    status: Status,
-    want: LaneReport,
-) -> Result<(), Fail> {
+fn assert_report(rt: &impl Abort, served: &Run, status: Status, want: LaneReport) {
     let [report] = served.report.lanes.as_slice() else {
-        return Err("not one lane".into());
+        panic!(rt; "not one lane");
     };
     let is_so = report.ending == want.ending && served.status == status;
     let found = [report.taken, report.given, u64::from(is_so)];
     same_numbers(rt, &found, &[want.taken, want.given, 1]);
-    Ok(())
 }
 
 /// The order has entries of these kinds, all of lane 0 at 1,600,000,000, and as many counts of calls.
-fn assert_kinds(rt: &impl Abort, alloc: Global, served: &Run, kinds: &[u8]) -> Result<(), Fail> {
+fn assert_kinds(rt: &impl Abort, alloc: Global, served: &Run, kinds: &[u8]) {
     let mut found = Vec::new(alloc);
     for entry in &served.order {
         let is_one = entry.lane == 0 && entry.moment == 1_600_000_000;
-        found.push(if is_one { entry.kind } else { 99 })?;
+        must(rt, found.push(if is_one { entry.kind } else { 99 }));
     }
     same(rt, &found, kinds);
     same_numbers(
@@ -134,7 +128,6 @@ fn assert_kinds(rt: &impl Abort, alloc: Global, served: &Run, kinds: &[u8]) -> R
         &[served.report.calls.len() as u64],
         &[kinds.len() as u64],
     );
-    Ok(())
 }
 
 /// The manifest of a snapshot without other files, of 86 bytes.

@@ -8,19 +8,19 @@ ghost use Rattle.server_tests.specs.Seats.{ComesBackIdle};
 
 use crate::asserts::same;
 use crate::stores::{Place, Store};
-use lane::{Port, run_lane};
+use lane::{Ending, Port, run_lane};
 use port_traits::{Gate, MemSink, MemSource};
 use std::alloc::{AllocError, Global};
 use std::process::Abort;
 use std::sync::Wait;
 use std::thread::{Threads, join};
 
-/// What a lane is sent, and what it is told.
+/// What a lane is sent and is to be told, and what it was told and how it ended.
 #[derive(Drop)]
 pub(crate) struct Talk {
-    source: MemSource,
-    sink: MemSink,
+    port: Port<MemSource, MemSink>,
     replies: &'static [u8],
+    pub(crate) ending: Ending,
 }
 
 impl Talk {
@@ -29,11 +29,9 @@ impl Talk {
         sent: &[u8],
         replies: &'static [u8],
     ) -> Result<Talk, AllocError> {
-        Ok(Talk {
-            source: MemSource::new(sent.to_vec(alloc)?, Vec::new(alloc)),
-            sink: MemSink::new(alloc, Vec::new(alloc)),
-            replies,
-        })
+        let source = MemSource::new(sent.to_vec(alloc)?, Vec::new(alloc));
+        let sink = MemSink::new(alloc, Vec::new(alloc));
+        Ok(Talk::over(source, sink, replies))
     }
 
     /// The same, where the read and the write with these numbers fail. Each write takes one byte.
@@ -46,22 +44,35 @@ impl Talk {
     ) -> Result<Talk, AllocError> {
         let source = MemSource::new(sent.to_vec(alloc)?, [read].to_vec(alloc)?);
         let sink = MemSink::new(alloc, [write].to_vec(alloc)?).at_most(1);
-        Ok(Talk {
-            source,
-            sink,
+        Ok(Talk::over(source, sink, replies))
+    }
+
+    fn over(source: MemSource, sink: MemSink, replies: &'static [u8]) -> Talk {
+        Talk {
+            port: Port { source, sink },
             replies,
-        })
+            ending: Ending::Clean,
+        }
+    }
+
+    pub(crate) fn told(&self) -> &[u8] {
+        self.port.sink.as_bytes()
+    }
+
+    /// It was told what it is to be told.
+    pub(crate) fn assert_told(&self, rt: &impl Abort) {
+        same(rt, self.told(), self.replies);
     }
 }
 
-/// A session, which is told what it must be.
+/// Serves a session.
 pub(crate) fn session(
-    rt: &(impl Threads + Wait + Abort + Sync),
+    rt: &(impl Threads + Wait + Sync),
     alloc: Global,
     store: &Store,
     seat: Place,
     lane: u32,
-    talk: Talk,
+    talk: &mut Talk,
     gate: &impl Gate,
 ) -> Place
     requires lane { lane < 64 }
@@ -70,25 +81,19 @@ pub(crate) fn session(
     ensures back { ComesBackIdle seat result }
     ensures rises { OwnRises result }
 {
-    let Talk {
-        source,
-        sink,
-        replies,
-    } = talk;
-    let mut port = Port { source, sink };
-    let (seat, _) = run_lane(rt, alloc, store, seat, lane, &mut port, gate);
-    same(rt, port.sink.as_bytes(), replies);
+    let (seat, report) = run_lane(rt, alloc, store, seat, lane, &mut talk.port, gate);
+    talk.ending = report.ending;
     seat
 }
 
 /// Two at once, on this lane and the next, each in a thread of its own.
-pub(crate) fn two_sessions<R: Threads + Wait + Abort + Sync, G: Gate + Sync>(
+pub(crate) fn two_sessions<R: Threads + Wait + Sync, G: Gate + Sync>(
     rt: &R,
     alloc: Global,
     store: &Store,
     seat: Place,
     lane: u32,
-    talks: (Talk, Talk),
+    talks: &mut (Talk, Talk),
     gate: &G,
 ) -> Place
     requires lane { lane + 1 < 64 }

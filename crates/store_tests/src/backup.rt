@@ -1,15 +1,14 @@
 //! Sessions against sizes and checksums that were made elsewhere.
 
-ghost use Rattle.std.specs.Prelude.{◌≡◌, None, IfOk, OnOk};
+ghost use Rattle.std.specs.Prelude.{◌≡◌, None};
 
-use crate::asserts::same_at;
+use crate::asserts::{must, same_at};
 use crate::faults::{Fault, refusal};
 use crate::fixtures::{ABC, DE, NINES, NOTHING, SEVENS, key, named};
 use backup_session::{Writer, open_writer};
 use blob_codec::{decode, encode};
 use std::alloc::Global;
 use std::process::Abort;
-use std::test::Fail;
 use store_types::{CloseFault, Digest32, FileName, Refusal};
 
 /// The checksum of the index of both.
@@ -62,122 +61,128 @@ enum Call {
 type Told = Result<u64, Refusal>;
 
 /// The refusal, unless memory was wanting.
-fn refused(refusal: Refusal) -> Result<Told, Fail> {
+fn refused(rt: &impl Abort, refusal: Refusal) -> Told {
     match refusal {
-        Refusal::NoMemory => Err("no memory".into()),
-        refusal => Ok(Err(refusal)),
+        Refusal::NoMemory => panic!(rt; "no memory"),
+        refusal => Err(refusal),
     }
 }
 
 type Calls = &'static [(Call, Result<u64, Fault>)];
 
-fn expected_of(alloc: Global, expected: Result<u64, Fault>) -> Result<Told, Fail> {
+fn expected_of(rt: &impl Abort, alloc: Global, expected: Result<u64, Fault>) -> Told {
     match expected {
-        Ok(value) => Ok(Ok(value)),
-        Err(fault) => Ok(Err(refusal(alloc, fault)?)),
+        Ok(value) => Ok(value),
+        Err(fault) => Err(refusal(rt, alloc, fault)),
     }
 }
 
-fn begin(w: &mut Writer, alloc: Global, name: &str) -> Result<Told, Fail>
+fn begin(rt: &impl Abort, w: &mut Writer, alloc: Global, name: &str) -> Told
     requires { w.old.pending ≡ None }
     ensures { w.new.pending ≡ None }
 {
-    let name = named(alloc, name)?;
+    let name = named(rt, alloc, name);
     match w.new_dynamic(alloc, name, 1_579_069_803) {
-        Ok(number) => Ok(Ok(number as u64)),
-        Err(refusal) => refused(refusal),
+        Ok(number) => Ok(number as u64),
+        Err(refusal) => refused(rt, refusal),
     }
 }
 
 fn begin_fixed(
+    rt: &impl Abort,
     w: &mut Writer,
     alloc: Global,
     name: &str,
     size: u64,
     chunk_size: u64,
-) -> Result<Told, Fail>
+) -> Told
     requires { w.old.pending ≡ None }
     ensures { w.new.pending ≡ None }
 {
-    let name = named(alloc, name)?;
+    let name = named(rt, alloc, name);
     match w.new_fixed(alloc, name, 1_579_069_803, size, chunk_size) {
-        Ok(number) => Ok(Ok(number as u64)),
-        Err(refusal) => refused(refusal),
+        Ok(number) => Ok(number as u64),
+        Err(refusal) => refused(rt, refusal),
     }
 }
 
-fn note_chunk(w: &mut Writer, digest: &Digest32, length: u32) -> Result<Told, Fail>
+fn note_chunk(rt: &impl Abort, w: &mut Writer, digest: &Digest32, length: u32) -> Told
     requires { w.old.pending ≡ None }
     ensures { w.new.pending ≡ None }
 {
-    if length == 0 || length > 16_777_216 {
-        return Err("no chunk's length".into());
-    }
-    w.chunk(digest, length)?;
-    Ok(Ok(0))
+    assert!(rt; length > 0 && length <= 16_777_216);
+    must(rt, w.chunk(digest, length));
+    Ok(0)
 }
 
 /// Pieces of the base may be appended, the second of one byte.
-fn note_short(w: &mut Writer, alloc: Global) -> Result<Told, Fail>
+fn note_short(rt: &impl Abort, w: &mut Writer, alloc: Global) -> Told
     requires { w.old.pending ≡ None }
     ensures { w.new.pending ≡ None }
 {
-    w.previous(alloc, &[(SEVENS, 4096), (NINES, 1), (DE, 2)])?;
-    Ok(Ok(0))
+    must(
+        rt,
+        w.previous(alloc, &[(SEVENS, 4096), (NINES, 1), (DE, 2)]),
+    );
+    Ok(0)
 }
 
 /// Two whole pieces of the base may be appended.
-fn note_whole(w: &mut Writer, alloc: Global) -> Result<Told, Fail>
+fn note_whole(rt: &impl Abort, w: &mut Writer, alloc: Global) -> Told
     requires { w.old.pending ≡ None }
     ensures { w.new.pending ≡ None }
 {
-    w.previous(alloc, &[(SEVENS, 4096), (NINES, 4096)])?;
-    Ok(Ok(0))
+    must(rt, w.previous(alloc, &[(SEVENS, 4096), (NINES, 4096)]));
+    Ok(0)
 }
 
-fn append(w: &mut Writer, alloc: Global, entries: &[(Digest32, u64)]) -> Result<Told, Fail>
+fn append(rt: &impl Abort, w: &mut Writer, alloc: Global, entries: &[(Digest32, u64)]) -> Told
     requires { w.old.pending ≡ None }
     ensures { w.new.pending ≡ None }
 {
     match w.append(alloc, 0, entries) {
-        Ok(()) => Ok(Ok(0)),
-        Err(refusal) => refused(refusal),
+        Ok(()) => Ok(0),
+        Err(refusal) => refused(rt, refusal),
     }
 }
 
 /// As many entries as a call has, of `abc`, from an offset on.
-fn entries_from(alloc: Global, start: u64) -> Result<Vec<(Digest32, u64)>, Fail> {
-    let mut entries = Vec::with_capacity(alloc, 4096)?;
+fn entries_from(rt: &impl Abort, alloc: Global, start: u64) -> Vec<(Digest32, u64)> {
+    let mut entries = must(rt, Vec::with_capacity(alloc, 4096));
     for place in 0..4096u64 {
-        entries.push((ABC, start.saturating_add(place.saturating_mul(3))))?;
+        must(
+            rt,
+            entries.push((ABC, start.saturating_add(place.saturating_mul(3)))),
+        );
     }
-    Ok(entries)
+    entries
 }
 
-fn append_on(w: &mut Writer, alloc: Global) -> Result<Told, Fail>
+fn append_on(rt: &impl Abort, w: &mut Writer, alloc: Global) -> Told
     requires { w.old.pending ≡ None }
-    ensures { OnOk result (w.new.pending ≡ None) }
+    ensures { w.new.pending ≡ None }
 {
     for call in 0..257u64 {
-        let entries = entries_from(alloc, call.saturating_mul(12_288))?;
-        let told = append(w, alloc, &entries)?;
+        let entries = entries_from(rt, alloc, call.saturating_mul(12_288));
+        let told = append(rt, w, alloc, &entries);
         if told.is_err() {
-            return Ok(told);
+            return told;
         }
     }
-    Ok(Ok(0))
+    Ok(0)
 }
 
 fn close(
+    rt: &impl Abort,
     w: &mut Writer,
     alloc: Global,
     count: u64,
     size: u64,
     csum: &Digest32,
     kept: bool,
-) -> Result<Told, Fail>
+) -> Told
     requires { w.old.pending ≡ None }
-    ensures { OnOk result (w.new.pending ≡ None) }
+    ensures { w.new.pending ≡ None }
 {
     match w.close_index(alloc, 0, count, size, csum) {
         Ok(text) => {
@@ -186,24 +191,25 @@ fn close(
             } else {
                 w.back()
             }
-            Ok(Ok(text.len() as u64))
+            Ok(text.len() as u64)
         }
-        Err(refusal) => refused(refusal),
+        Err(refusal) => refused(rt, refusal),
     }
 }
 
 fn take(
+    rt: &impl Abort,
     w: &mut Writer,
     alloc: Global,
     name: FileName,
     data: &[u8],
     kept: bool,
-) -> Result<Told, Fail>
+) -> Told
     requires { w.old.pending ≡ None }
-    ensures { OnOk result (w.new.pending ≡ None) }
+    ensures { w.new.pending ≡ None }
 {
-    let text = encode(alloc, data)??;
-    decode(&text)?;
+    let text = must(rt, must(rt, encode(alloc, data)));
+    must(rt, decode(&text));
     match w.blob(alloc, name, &text) {
         Ok(()) => {
             if kept {
@@ -211,39 +217,46 @@ fn take(
             } else {
                 w.back()
             }
-            Ok(Ok(0))
+            Ok(0)
         }
-        Err(refusal) => refused(refusal),
+        Err(refusal) => refused(rt, refusal),
     }
 }
 
-fn finish(w: &Writer, alloc: Global) -> Result<Told, Fail>
+fn finish(rt: &impl Abort, w: &Writer, alloc: Global) -> Told
     requires { w.now.pending ≡ None }
 {
     match w.finish_check(alloc) {
-        Ok(manifest) => Ok(Ok(manifest.files.as_slice().len() as u64)),
-        Err(refusal) => refused(refusal),
+        Ok(manifest) => Ok(manifest.files.as_slice().len() as u64),
+        Err(refusal) => refused(rt, refusal),
     }
 }
 
-fn make(w: &mut Writer, alloc: Global, call: Call) -> Result<Told, Fail>
+fn make(rt: &impl Abort, w: &mut Writer, alloc: Global, call: Call) -> Told
     requires { w.old.pending ≡ None }
-    ensures { OnOk result (w.new.pending ≡ None) }
+    ensures { w.new.pending ≡ None }
 {
     match call {
-        Call::Dynamic(name) => begin(w, alloc, name),
-        Call::Fixed(name, size, chunk_size) => begin_fixed(w, alloc, name, size, chunk_size),
-        Call::Chunk(digest, length) => note_chunk(w, &digest, length),
-        Call::PreviousShort => note_short(w, alloc),
-        Call::PreviousWhole => note_whole(w, alloc),
-        Call::Append(entries) => append(w, alloc, entries),
-        Call::AppendOn => append_on(w, alloc),
-        Call::Close(count, size, csum) => close(w, alloc, count, size, &csum, true),
-        Call::CloseBack(count, size, csum) => close(w, alloc, count, size, &csum, false),
-        Call::Blob(name) => take(w, alloc, named(alloc, name)?, b"", true),
-        Call::BlobBack(name) => take(w, alloc, named(alloc, name)?, b"", false),
-        Call::Manifest(data) => take(w, alloc, FileName::manifest(alloc)?, data, true),
-        Call::Finish => finish(w, alloc),
+        Call::Dynamic(name) => begin(rt, w, alloc, name),
+        Call::Fixed(name, size, chunk_size) => begin_fixed(rt, w, alloc, name, size, chunk_size),
+        Call::Chunk(digest, length) => note_chunk(rt, w, &digest, length),
+        Call::PreviousShort => note_short(rt, w, alloc),
+        Call::PreviousWhole => note_whole(rt, w, alloc),
+        Call::Append(entries) => append(rt, w, alloc, entries),
+        Call::AppendOn => append_on(rt, w, alloc),
+        Call::Close(count, size, csum) => close(rt, w, alloc, count, size, &csum, true),
+        Call::CloseBack(count, size, csum) => close(rt, w, alloc, count, size, &csum, false),
+        Call::Blob(name) => take(rt, w, alloc, named(rt, alloc, name), b"", true),
+        Call::BlobBack(name) => take(rt, w, alloc, named(rt, alloc, name), b"", false),
+        Call::Manifest(data) => take(
+            rt,
+            w,
+            alloc,
+            must(rt, FileName::manifest(alloc)),
+            data,
+            true,
+        ),
+        Call::Finish => finish(rt, w, alloc),
     }
 }
 
@@ -253,48 +266,37 @@ fn try_call(
     alloc: Global,
     number: usize,
     row: &(Call, Result<u64, Fault>),
-) -> Result<(), Fail>
+)
     requires { w.old.pending ≡ None }
-    ensures { OnOk result (w.new.pending ≡ None) }
+    ensures { w.new.pending ≡ None }
 {
     let (call, expected) = row;
-    let told = make(w, alloc, *call)?;
-    same_at(rt, number, told, expected_of(alloc, *expected)?);
-    Ok(())
+    let told = make(rt, w, alloc, *call);
+    same_at(rt, number, told, expected_of(rt, alloc, *expected));
 }
 
 /// Makes the calls one after another, and compares what each tells.
-fn try_calls(
-    rt: &impl Abort,
-    w: &mut Writer,
-    alloc: Global,
-    calls: &[(Call, Result<u64, Fault>)],
-) -> Result<(), Fail>
+fn try_calls(rt: &impl Abort, w: &mut Writer, alloc: Global, calls: &[(Call, Result<u64, Fault>)])
     requires { w.old.pending ≡ None }
-    ensures { OnOk result (w.new.pending ≡ None) }
+    ensures { w.new.pending ≡ None }
 {
     for (number, row) in calls.iter().enumerate() {
-        try_call(rt, w, alloc, number, row)?;
+        try_call(rt, w, alloc, number, row);
     }
-    Ok(())
 }
 
 /// A new writer after these calls.
-fn after(
-    rt: &impl Abort,
-    alloc: Global,
-    calls: &[(Call, Result<u64, Fault>)],
-) -> Result<Writer, Fail>
-    ensures { IfOk result (λ w. w.pending ≡ None) }
+fn after(rt: &impl Abort, alloc: Global, calls: &[(Call, Result<u64, Fault>)]) -> Writer
+    ensures { result.pending ≡ None }
 {
-    let mut w = open_writer(alloc, key(alloc)?, 1_579_069_803, None);
-    try_calls(rt, &mut w, alloc, calls)?;
-    Ok(w)
+    let mut w = open_writer(alloc, key(rt, alloc), 1_579_069_803, None);
+    try_calls(rt, &mut w, alloc, calls);
+    w
 }
 
 /// Makes calls of a new writer, and then the calls that are tried.
-fn try_after(rt: &impl Abort, alloc: Global, before: Calls, calls: Calls) -> Result<(), Fail> {
-    let mut w = after(rt, alloc, before)?;
+fn try_after(rt: &impl Abort, alloc: Global, before: Calls, calls: Calls) {
+    let mut w = after(rt, alloc, before);
     try_calls(rt, &mut w, alloc, calls)
 }
 
@@ -453,24 +455,23 @@ static FINISHES: [(Calls, Calls); 3] = [
     (UPLOADED, MISLISTED),
 ];
 
-fn try_sessions(rt: &impl Abort, alloc: Global, sessions: &[(Calls, Calls)]) -> Result<(), Fail> {
+fn try_sessions(rt: &impl Abort, alloc: Global, sessions: &[(Calls, Calls)]) {
     for (before, calls) in sessions {
-        try_after(rt, alloc, *before, *calls)?;
+        try_after(rt, alloc, *before, *calls);
     }
-    Ok(())
 }
 
 #[test]
-fn dynamic_archives_are_written(rt: HostRuntime) -> Result<(), Fail> {
+fn dynamic_archives_are_written(rt: HostRuntime) {
     try_sessions(&rt, rt.alloc(), &DYNAMIC)
 }
 
 #[test]
-fn fixed_archives_and_blobs_are_written(rt: HostRuntime) -> Result<(), Fail> {
+fn fixed_archives_and_blobs_are_written(rt: HostRuntime) {
     try_sessions(&rt, rt.alloc(), &FIXED)
 }
 
 #[test]
-fn sessions_are_finished(rt: HostRuntime) -> Result<(), Fail> {
+fn sessions_are_finished(rt: HostRuntime) {
     try_sessions(&rt, rt.alloc(), &FINISHES)
 }

@@ -1,14 +1,13 @@
 ghost use Rattle.std.specs.Prelude.{◌≡◌};
 ghost use Rattle.sha2.specs.Sha256.{sha256};
 
-use crate::asserts::{same, same_at};
+use crate::asserts::{must, same, same_at};
 use crate::fixtures::{ABC, NOTHING};
 use chunk_store::{Chunk, ChunkName, LoadFault, insert, load, remove, scan};
 use disk_trait::{Disk, DiskError, Failed, FailingDisk, MemoryDisk};
 use sha2::{Digest, Sha256};
 use std::alloc::Global;
 use std::process::Abort;
-use std::test::Fail;
 use store_types::{ChunkFault, Digest32};
 
 const ABC_CHUNK: &str =
@@ -23,12 +22,9 @@ fn digest_of(piece: &[u8]) -> Digest32
     Digest32(Sha256::digest(piece))
 }
 
-fn put(alloc: Global, disk: &mut MemoryDisk, piece: &[u8]) -> Result<(), Fail> {
-    if piece.is_empty() || piece.len() > 16_777_216 {
-        return Err("no piece".into());
-    }
-    insert(disk, alloc, &digest_of(piece), piece)?;
-    Ok(())
+fn put(rt: &impl Abort, alloc: Global, disk: &mut MemoryDisk, piece: &[u8]) {
+    assert!(rt; !piece.is_empty() && piece.len() <= 16_777_216);
+    must(rt, insert(disk, alloc, &digest_of(piece), piece));
 }
 
 fn load_from(disk: &mut MemoryDisk, alloc: Global, digest: &Digest32) -> Result<Chunk, LoadFault> {
@@ -36,16 +32,15 @@ fn load_from(disk: &mut MemoryDisk, alloc: Global, digest: &Digest32) -> Result<
 }
 
 /// The chunk of `abc` is there.
-fn try_abc(rt: &impl Abort, alloc: Global, disk: &mut MemoryDisk) -> Result<(), Fail> {
-    let chunk = load_from(disk, alloc, &ABC)?;
+fn try_abc(rt: &impl Abort, alloc: Global, disk: &mut MemoryDisk) {
+    let chunk = must(rt, load_from(disk, alloc, &ABC));
     same(rt, chunk.piece(), b"abc".as_slice());
     same(rt, chunk.blob(), ABC_BLOB);
     same(rt, chunk.into_blob().as_slice(), ABC_BLOB);
-    Ok(())
 }
 
-fn remove_abc(disk: &mut MemoryDisk) -> Result<bool, Fail> {
-    Ok(remove(disk, &ABC)?)
+fn remove_abc(rt: &impl Abort, disk: &mut MemoryDisk) -> bool {
+    must(rt, remove(disk, &ABC))
 }
 
 #[test]
@@ -55,23 +50,21 @@ fn names_of_pieces(rt: HostRuntime) {
 }
 
 /// Puts `abc`, which takes three steps the first time, and none where it is there.
-fn put_abc(rt: &impl Abort, alloc: Global, disk: &mut MemoryDisk) -> Result<(), Fail> {
-    put(alloc, disk, b"abc")?;
+fn put_abc(rt: &impl Abort, alloc: Global, disk: &mut MemoryDisk) {
+    put(rt, alloc, disk, b"abc");
     same(rt, disk.steps().len(), 3);
-    Ok(())
 }
 
-fn try_kept(rt: &impl Abort, alloc: Global, disk: &mut MemoryDisk) -> Result<(), Fail> {
-    put_abc(rt, alloc, disk)?;
-    put_abc(rt, alloc, disk)?;
-    try_abc(rt, alloc, disk)?;
-    same(rt, remove_abc(disk)?, true);
-    same(rt, remove_abc(disk)?, false);
-    Ok(())
+fn try_kept(rt: &impl Abort, alloc: Global, disk: &mut MemoryDisk) {
+    put_abc(rt, alloc, disk);
+    put_abc(rt, alloc, disk);
+    try_abc(rt, alloc, disk);
+    same(rt, remove_abc(rt, disk), true);
+    same(rt, remove_abc(rt, disk), false);
 }
 
 #[test]
-fn pieces_are_kept(rt: HostRuntime) -> Result<(), Fail> {
+fn pieces_are_kept(rt: HostRuntime) {
     try_kept(&rt, rt.alloc(), &mut MemoryDisk::new(rt.alloc()))
 }
 
@@ -109,30 +102,28 @@ fn try_damage(
     digest: Digest32,
     text: Option<&[u8]>,
     found: ChunkFault,
-) -> Result<(), Fail> {
+) {
     let mut disk = MemoryDisk::new(alloc);
     if let Some(text) = text {
-        disk.put(alloc, ChunkName::of(&digest).as_str(), text)?;
+        must(rt, disk.put(alloc, ChunkName::of(&digest).as_str(), text));
     }
     let fault = load_from(&mut disk, alloc, &digest).err();
     let damaged = LoadFault::Damaged { digest, found };
     same_at(rt, text, fault, Some(damaged));
-    Ok(())
 }
 
 #[test]
-fn damage_is_told(rt: HostRuntime) -> Result<(), Fail> {
+fn damage_is_told(rt: HostRuntime) {
     for (digest, text, found) in &DAMAGE {
-        try_damage(&rt, rt.alloc(), *digest, *text, *found)?;
+        try_damage(&rt, rt.alloc(), *digest, *text, *found);
     }
-    Ok(())
 }
 
 /// A file of one byte more than a blob has is damaged, and its size alone is asked.
 #[test]
-fn what_is_too_long_is_not_read(rt: HostRuntime) -> Result<(), Fail> {
+fn what_is_too_long_is_not_read(rt: HostRuntime) {
     let mut disk = MemoryDisk::new(rt.alloc());
-    put_long(&mut disk, rt.alloc())?;
+    put_long(&rt, &mut disk, rt.alloc());
     let fault = load_from(&mut disk, rt.alloc(), &ABC).err();
     let damaged = LoadFault::Damaged {
         digest: ABC,
@@ -140,14 +131,12 @@ fn what_is_too_long_is_not_read(rt: HostRuntime) -> Result<(), Fail> {
     };
     same(&rt, fault, Some(damaged));
     same(&rt, disk.calls(), 2);
-    Ok(())
 }
 
-fn put_long(disk: &mut MemoryDisk, alloc: Global) -> Result<(), Fail> {
+fn put_long(rt: &impl Abort, disk: &mut MemoryDisk, alloc: Global) {
     let mut text = Vec::new(alloc);
-    text.resize(16_777_229, 0)?;
-    disk.put(alloc, ABC_CHUNK, &text)?;
-    Ok(())
+    must(rt, text.resize(16_777_229, 0));
+    must(rt, disk.put(alloc, ABC_CHUNK, &text));
 }
 
 /// Names that are none of a chunk.
@@ -160,36 +149,33 @@ static NAMES: [&str; 6] = [
     "host/a/2020-01-15T06:30:03Z/index.json.blob",
 ];
 
-fn put_names(disk: &mut MemoryDisk, alloc: Global) -> Result<(), Fail> {
+fn put_names(rt: &impl Abort, disk: &mut MemoryDisk, alloc: Global) {
     for name in &NAMES {
-        disk.put(alloc, name, b"")?;
+        must(rt, disk.put(alloc, name, b""));
     }
-    Ok(())
 }
 
-fn digests_on(disk: &mut MemoryDisk, alloc: Global) -> Result<Vec<Digest32>, Fail> {
-    Ok(scan(disk, alloc)?)
+fn digests_on(rt: &impl Abort, disk: &mut MemoryDisk, alloc: Global) -> Vec<Digest32> {
+    must(rt, scan(disk, alloc))
 }
 
-fn put_three(disk: &mut MemoryDisk, alloc: Global) -> Result<(), Fail> {
-    put(alloc, disk, b"abc")?;
-    put(alloc, disk, b"abd")?;
-    disk.put(alloc, ChunkName::of(&NOTHING).as_str(), b"")?;
-    Ok(())
+fn put_three(rt: &impl Abort, disk: &mut MemoryDisk, alloc: Global) {
+    put(rt, alloc, disk, b"abc");
+    put(rt, alloc, disk, b"abd");
+    must(rt, disk.put(alloc, ChunkName::of(&NOTHING).as_str(), b""));
 }
 
-fn try_listed(rt: &impl Abort, alloc: Global, disk: &mut MemoryDisk) -> Result<(), Fail> {
-    put_names(disk, alloc)?;
-    same(rt, digests_on(disk, alloc)?.len(), 0);
-    put_three(disk, alloc)?;
-    let digests = digests_on(disk, alloc)?;
+fn try_listed(rt: &impl Abort, alloc: Global, disk: &mut MemoryDisk) {
+    put_names(rt, disk, alloc);
+    same(rt, digests_on(rt, disk, alloc).len(), 0);
+    put_three(rt, disk, alloc);
+    let digests = digests_on(rt, disk, alloc);
     let wanted = [digest_of(b"abd"), ABC, NOTHING];
     same(rt, digests.as_slice(), wanted.as_slice());
-    Ok(())
 }
 
 #[test]
-fn names_of_the_form_are_listed(rt: HostRuntime) -> Result<(), Fail> {
+fn names_of_the_form_are_listed(rt: HostRuntime) {
     try_listed(&rt, rt.alloc(), &mut MemoryDisk::new(rt.alloc()))
 }
 
@@ -226,16 +212,15 @@ fn try_others(rt: &impl Abort, alloc: Global, disk: &mut Failing) {
     same(rt, disk.faults(), 4);
 }
 
-fn try_load(rt: &impl Abort, alloc: Global, disk: &mut Failing) -> Result<(), Fail> {
-    let chunk = load_abc(disk, alloc)?;
+fn try_load(rt: &impl Abort, alloc: Global, disk: &mut Failing) {
+    let chunk = must(rt, load_abc(disk, alloc));
     same(rt, chunk.piece(), b"abc".as_slice());
-    Ok(())
 }
 
 #[test]
-fn faults_are_told(rt: HostRuntime) -> Result<(), Fail> {
+fn faults_are_told(rt: HostRuntime) {
     let alloc = rt.alloc();
-    let plan = Vec::from_slice(alloc, &[1, 6, 7, 8])?;
+    let plan = must(&rt, Vec::from_slice(alloc, &[1, 6, 7, 8]));
     let mut disk = FailingDisk::at_calls(MemoryDisk::new(alloc), plan);
     try_inserts(&rt, alloc, &mut disk);
     try_others(&rt, alloc, &mut disk);

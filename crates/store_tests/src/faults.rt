@@ -1,6 +1,8 @@
 //! Refusals as tables have them.
 
-use std::alloc::{AllocError, Global};
+use crate::asserts::must;
+use std::alloc::Global;
+use std::process::Abort;
 use store_types::{Bytes, CloseFault, Refusal};
 
 /// A refusal, with its values in order.
@@ -21,7 +23,7 @@ pub(crate) enum Fault {
     Unreadable(&'static str),
 }
 
-pub(crate) fn refusal(alloc: Global, fault: Fault) -> Result<Refusal, AllocError> {
+pub(crate) fn refusal(rt: &impl Abort, alloc: Global, fault: Fault) -> Refusal {
     let refusal = match fault {
         Fault::BadName => Refusal::BadName,
         Fault::NoFile => Refusal::NoFile,
@@ -33,14 +35,14 @@ pub(crate) fn refusal(alloc: Global, fault: Fault) -> Result<Refusal, AllocError
         Fault::OpenIndexes(count) => Refusal::OpenIndexes { count },
         Fault::BadManifest(cause) => Refusal::BadManifest { cause },
         Fault::ManifestMismatch(name, field) => Refusal::ManifestMismatch {
-            file: Bytes::from_slice(alloc, name.as_bytes())?,
+            file: must(rt, Bytes::from_slice(alloc, name.as_bytes())),
             field,
         },
         Fault::TooMany(limit) => Refusal::TooMany { limit },
         Fault::BadRange(size) => Refusal::BadRange { size },
         Fault::Unreadable(path) => Refusal::Unreadable {
-            name: Bytes::from_slice(alloc, path.as_bytes())?,
+            name: must(rt, Bytes::from_slice(alloc, path.as_bytes())),
         },
     };
-    Ok(refusal)
+    refusal
 }

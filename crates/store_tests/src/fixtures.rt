@@ -1,10 +1,10 @@
 //! Names and digests that several tests use. The digests were made elsewhere.
 
-ghost use Rattle.std.specs.Prelude.{IfOk};
 ghost use Rattle.store_types.specs.Names.{IsKey};
 
+use crate::asserts::must;
 use std::alloc::Global;
-use std::test::Fail;
+use std::process::Abort;
 use store_types::{Digest32, FileName, SnapshotKey};
 
 /// SHA-256 of `abc`.
@@ -34,12 +34,18 @@ pub(crate) const NINES: Digest32 = Digest32([9; 32]);
 pub(crate) const ROOT: &str = "host/a/2020-01-15T06:30:03Z/root.didx";
 
 /// The snapshot that a session is of.
-pub(crate) fn key(alloc: Global) -> Result<SnapshotKey, Fail>
-    ensures { IfOk result IsKey }
+pub(crate) fn key(rt: &impl Abort, alloc: Global) -> SnapshotKey
+    ensures { IsKey result }
 {
-    Ok(SnapshotKey::parse(alloc, b"host/a/2020-01-15T06:30:03Z")??)
+    must(
+        rt,
+        must(
+            rt,
+            SnapshotKey::parse(alloc, b"host/a/2020-01-15T06:30:03Z"),
+        ),
+    )
 }
 
-pub(crate) fn named(alloc: Global, name: &str) -> Result<FileName, Fail> {
-    Ok(FileName::check(alloc, name.as_bytes())??)
+pub(crate) fn named(rt: &impl Abort, alloc: Global, name: &str) -> FileName {
+    must(rt, must(rt, FileName::check(alloc, name.as_bytes())))
 }

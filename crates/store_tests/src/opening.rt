@@ -1,11 +1,10 @@
 //! Folders that a run left, opened again: at each call the disk fails, or a crash comes.
 
-use crate::asserts::{same, same_at};
+use crate::asserts::{must, same, same_at};
 use disk_trait::{Disk, DiskError, FailingDisk, MemoryDisk};
 use opening_files::{Inventory, open_files};
 use std::alloc::Global;
 use std::process::Abort;
-use std::test::Fail;
 
 /// The blob of a manifest of `host/a-b` that lists nothing.
 const EMPTY: &[u8] =
@@ -44,47 +43,47 @@ fn names_leaving() -> &'static [&'static str] {
     &LEAVING
 }
 
-fn put_all(disk: &mut MemoryDisk, alloc: Global, names: &[&str]) -> Result<(), Fail> {
+fn put_all(rt: &impl Abort, disk: &mut MemoryDisk, alloc: Global, names: &[&str]) {
     for name in names {
-        if name.len() > 255 {
-            return Err("a long name".into());
-        }
+        assert!(rt; name.len() <= 255);
         let bytes = if name.starts_with("host/") {
             EMPTY
         } else {
             b"abc"
         };
-        disk.put(alloc, name, bytes)?;
+        must(rt, disk.put(alloc, name, bytes));
     }
-    Ok(())
 }
 
-fn folder(alloc: Global) -> Result<MemoryDisk, Fail> {
+fn folder(rt: &impl Abort, alloc: Global) -> MemoryDisk {
     let mut disk = MemoryDisk::new(alloc);
-    put_all(&mut disk, alloc, names_leaving())?;
-    put_all(&mut disk, alloc, names_staying())?;
-    Ok(disk)
+    put_all(rt, &mut disk, alloc, names_leaving());
+    put_all(rt, &mut disk, alloc, names_staying());
+    disk
 }
 
 /// How many of these stand there.
-fn count(disk: &mut MemoryDisk, names: &[&str]) -> Result<usize, Fail> {
+fn count(rt: &impl Abort, disk: &mut MemoryDisk, names: &[&str]) -> usize {
     let mut count = 0;
     for name in names {
-        if disk.size(name)?.is_some() {
+        if must(rt, disk.size(name)).is_some() {
             count += 1;
         }
     }
-    Ok(count)
+    count
 }
 
 /// The snapshots' types with what makes them damaged, and how many chunks there are.
-fn told(alloc: Global, found: &Inventory) -> Result<String, Fail> {
+fn told(rt: &impl Abort, alloc: Global, found: &Inventory) -> String {
     let mut text = String::new(alloc);
     for found in &found.snapshots {
-        write!(text, "{:?} {} ", found.key.kind, found.unreadable.is_some())?;
+        must(
+            rt,
+            write!(text, "{:?} {} ", found.key.kind, found.unreadable.is_some()),
+        );
     }
-    write!(text, "{}", found.chunks.len())?;
-    Ok(text)
+    must(rt, write!(text, "{}", found.chunks.len()));
+    text
 }
 
 const TOLD: &str = "Ct true Host false 1";
@@ -98,95 +97,84 @@ fn open<D: Disk>(disk: &mut D, alloc: Global) -> Result<Inventory, DiskError> {
     open_files(disk, alloc)
 }
 
-fn open_and_tell(disk: &mut MemoryDisk, alloc: Global) -> Result<String, Fail> {
-    told(alloc, &open(disk, alloc)?)
+fn open_and_tell(rt: &impl Abort, disk: &mut MemoryDisk, alloc: Global) -> String {
+    told(rt, alloc, &must(rt, open(disk, alloc)))
 }
 
 /// All that stays is there, and nothing else.
-fn try_left(rt: &impl Abort, alloc: Global, disk: &mut MemoryDisk, k: u64) -> Result<(), Fail> {
+fn try_left(rt: &impl Abort, alloc: Global, disk: &mut MemoryDisk, k: u64) {
     let staying = names_staying();
-    same_at(rt, k, disk.list(alloc, "")?.len(), staying.len());
-    same_at(rt, k, count(disk, staying)?, staying.len());
-    Ok(())
+    same_at(rt, k, must(rt, disk.list(alloc, "")).len(), staying.len());
+    same_at(rt, k, count(rt, disk, staying), staying.len());
 }
 
 #[test]
-fn a_folder_is_opened(rt: HostRuntime) -> Result<(), Fail> {
-    let mut disk = folder(rt.alloc())?;
+fn a_folder_is_opened(rt: HostRuntime) {
+    let mut disk = folder(&rt, rt.alloc());
     let before = disk.calls();
-    let text = open_and_tell(&mut disk, rt.alloc())?;
+    let text = open_and_tell(&rt, &mut disk, rt.alloc());
     same(&rt, text.as_str(), TOLD);
     same(&rt, disk.calls(), before.saturating_add(CALLS));
     try_left(&rt, rt.alloc(), &mut disk, CALLS)
 }
 
 #[test]
-fn an_empty_folder_is_opened(rt: HostRuntime) -> Result<(), Fail> {
-    let text = open_and_tell(&mut MemoryDisk::new(rt.alloc()), rt.alloc())?;
+fn an_empty_folder_is_opened(rt: HostRuntime) {
+    let text = open_and_tell(&rt, &mut MemoryDisk::new(rt.alloc()), rt.alloc());
     same(&rt, text.as_str(), "0");
-    Ok(())
 }
 
 /// What a crash leaves is opened.
-fn open_left(
-    rt: &impl Abort,
-    alloc: Global,
-    left: &MemoryDisk,
-    k: u64,
-    choice: u8,
-) -> Result<(), Fail> {
-    let mut crashed = left.crashed(alloc, choice)?;
-    let text = open_and_tell(&mut crashed, alloc)?;
+fn open_left(rt: &impl Abort, alloc: Global, left: &MemoryDisk, k: u64, choice: u8) {
+    let mut crashed = must(rt, left.crashed(alloc, choice));
+    let text = open_and_tell(rt, &mut crashed, alloc);
     same_at(rt, (k, choice), text.as_str(), TOLD);
     try_left(rt, alloc, &mut crashed, k)
 }
 
 /// The disk fails at its call k, from 0, alone or from there on. Files leave from the third call on.
-fn try_opening(
-    rt: &impl Abort,
-    alloc: Global,
-    mut disk: FailingDisk<MemoryDisk>,
-    k: u64,
-) -> Result<(), Fail> {
+fn try_opening(rt: &impl Abort, alloc: Global, mut disk: FailingDisk<MemoryDisk>, k: u64) {
     let has_failed = matches!(open(&mut disk, alloc), Err(DiskError::Failed));
     same_at(rt, k, has_failed, k < CALLS);
     same_at(rt, k, disk.faults(), if k < CALLS { 1 } else { 0 });
     let mut left = disk.into_inner();
-    count_left(rt, &mut left, k)?;
+    count_left(rt, &mut left, k);
     for choice in 0..3u8 {
-        open_left(rt, alloc, &left, k, choice)?;
+        open_left(rt, alloc, &left, k, choice);
     }
-    Ok(())
 }
 
 /// So many of the names stand there when the call k has failed.
-fn count_left(rt: &impl Abort, left: &mut MemoryDisk, k: u64) -> Result<(), Fail> {
-    let staying = count(left, names_staying())?;
+fn count_left(rt: &impl Abort, left: &mut MemoryDisk, k: u64) {
+    let staying = count(rt, left, names_staying());
     same_at(rt, k, staying, names_staying().len());
-    let leaving = count(left, names_leaving())?;
+    let leaving = count(rt, left, names_leaving());
     same_at(rt, k, leaving as u64, 9u64.saturating_sub(k.max(2)));
-    Ok(())
 }
 
 /// All is synced, so that the first sync is not missed where it fails.
-fn synced(alloc: Global) -> Result<MemoryDisk, Fail> {
-    let mut disk = folder(alloc)?;
-    disk.sync()?;
-    Ok(disk)
+fn synced(rt: &impl Abort, alloc: Global) -> MemoryDisk {
+    let mut disk = folder(rt, alloc);
+    must(rt, disk.sync());
+    disk
 }
 
 #[test]
-fn each_call_of_an_opening_fails(rt: HostRuntime) -> Result<(), Fail> {
+fn each_call_of_an_opening_fails(rt: HostRuntime) {
     let alloc = rt.alloc();
     for k in 0..CALLS + 1 {
-        let plan = Vec::from_slice(alloc, &[k])?;
-        try_opening(&rt, alloc, FailingDisk::at_calls(synced(alloc)?, plan), k)?;
+        let plan = must(&rt, Vec::from_slice(alloc, &[k]));
         try_opening(
             &rt,
             alloc,
-            FailingDisk::stopping_after(synced(alloc)?, k),
+            FailingDisk::at_calls(synced(&rt, alloc), plan),
             k,
-        )?;
+        );
+        try_opening(
+            &rt,
+            alloc,
+            FailingDisk::stopping_after(synced(&rt, alloc), k),
+            k,
+        );
     }
-    Ok(())
 }

@@ -1,6 +1,6 @@
 ghost use Rattle.std.specs.Prelude.{None, Some, if◌then◌else◌};
 
-use crate::asserts::{same, same_at};
+use crate::asserts::{must, same, same_at};
 use crate::fixtures::{ROOT, key, named};
 use blob_codec::encode;
 use disk_trait::{Disk, DiskError, Failed, FailingDisk, MemoryDisk};
@@ -10,7 +10,6 @@ use snapshot_files::{
 };
 use std::alloc::Global;
 use std::process::Abort;
-use std::test::Fail;
 
 const MANIFEST: &str = "host/a/2020-01-15T06:30:03Z/index.json.blob";
 
@@ -41,44 +40,43 @@ fn calls_of(change: Change) -> u64 {
 
 type Outcome = Result<(), DiskError>;
 
-fn finish_it<D: Disk>(disk: &mut D, alloc: Global) -> Result<Outcome, Fail> {
-    let path = manifest_path_of(alloc, &key(alloc)?)?;
-    Ok(finish(disk, alloc, &path, b"manifest"))
+fn finish_it<D: Disk>(rt: &impl Abort, disk: &mut D, alloc: Global) -> Outcome {
+    let path = must(rt, manifest_path_of(alloc, &key(rt, alloc)));
+    finish(disk, alloc, &path, b"manifest")
 }
 
-fn forget_it<D: Disk>(disk: &mut D, alloc: Global) -> Result<Outcome, Fail> {
-    let key = key(alloc)?;
-    let files = [named(alloc, "set.blob")?, named(alloc, "root.didx")?];
-    Ok(forget(disk, alloc, &key, &files))
+fn forget_it<D: Disk>(rt: &impl Abort, disk: &mut D, alloc: Global) -> Outcome {
+    let key = key(rt, alloc);
+    let files = [named(rt, alloc, "set.blob"), named(rt, alloc, "root.didx")];
+    forget(disk, alloc, &key, &files)
 }
 
 // `false` where the disk failed.
-fn make<D: Disk>(disk: &mut D, alloc: Global, change: Change) -> Result<bool, Fail> {
+fn make<D: Disk>(rt: &impl Abort, disk: &mut D, alloc: Global, change: Change) -> bool {
     let outcome = match change {
-        Change::PutFile => put_file(disk, alloc, &path(alloc, "set.blob")?, b"newest"),
-        Change::Finish => finish_it(disk, alloc)?,
-        Change::Forget => forget_it(disk, alloc)?,
+        Change::PutFile => put_file(disk, alloc, &path(rt, alloc, "set.blob"), b"newest"),
+        Change::Finish => finish_it(rt, disk, alloc),
+        Change::Forget => forget_it(rt, disk, alloc),
     };
     if outcome == Err(DiskError::Failed) {
-        return Ok(false);
+        return false;
     }
-    outcome?;
-    Ok(true)
+    must(rt, outcome);
+    true
 }
 
-fn put_all(disk: &mut MemoryDisk, alloc: Global, files: &[(&str, &[u8])]) -> Result<(), Fail> {
+fn put_all(rt: &impl Abort, disk: &mut MemoryDisk, alloc: Global, files: &[(&str, &[u8])]) {
     for (path, text) in files {
-        if path.len() > 255 {
-            return Err("a long path".into());
-        }
-        disk.put(alloc, path, text)?;
+        assert!(rt; path.len() <= 255);
+        must(rt, disk.put(alloc, path, text));
     }
-    Ok(())
 }
 
-fn put_set(disk: &mut MemoryDisk, alloc: Global) -> Result<(), Fail> {
-    put_file(disk, alloc, &path(alloc, "set.blob")?, b"set")?;
-    Ok(())
+fn put_set(rt: &impl Abort, disk: &mut MemoryDisk, alloc: Global) {
+    must(
+        rt,
+        put_file(disk, alloc, &path(rt, alloc, "set.blob"), b"set"),
+    );
 }
 
 static REPLACED: [(&str, &[u8]); 2] = [(OTHER, b"other"), (SET, b"old")];
@@ -91,38 +89,41 @@ static FORGOTTEN: [(&str, &[u8]); 4] = [
 ];
 
 // What is there before. All is synced, but for the file that is put before a snapshot is finished.
-fn disk_before(alloc: Global, change: Change) -> Result<MemoryDisk, Fail> {
+fn disk_before(rt: &impl Abort, alloc: Global, change: Change) -> MemoryDisk {
     let mut disk = MemoryDisk::new(alloc);
     match change {
-        Change::PutFile => put_all(&mut disk, alloc, &REPLACED)?,
+        Change::PutFile => put_all(rt, &mut disk, alloc, &REPLACED),
         Change::Finish => {
-            disk.put(alloc, OTHER, b"other")?;
-            put_set(&mut disk, alloc)?;
-            return Ok(disk);
+            must(rt, disk.put(alloc, OTHER, b"other"));
+            put_set(rt, &mut disk, alloc);
+            return disk;
         }
-        Change::Forget => put_all(&mut disk, alloc, &FORGOTTEN)?,
+        Change::Forget => put_all(rt, &mut disk, alloc, &FORGOTTEN),
     }
-    disk.sync()?;
-    Ok(disk)
+    must(rt, disk.sync());
+    disk
 }
 
 // What stands at the manifest, its temporary name, the index, the blob, its temporary name, and of the other snapshot,
 // each with a slash after it.
-fn shown(alloc: Global, disk: &mut MemoryDisk) -> Result<String, Fail> {
+fn shown(rt: &impl Abort, alloc: Global, disk: &mut MemoryDisk) -> String {
     let mut text = String::new(alloc);
     for name in [MANIFEST, STAGED, ROOT, SET, STAGED_BLOB, OTHER] {
-        if let Some(bytes) = disk.read(alloc, name)? {
-            text.push_str(str::from_utf8(bytes.as_slice()).unwrap_or("no text"))?;
+        if let Some(bytes) = must(rt, disk.read(alloc, name)) {
+            must(
+                rt,
+                text.push_str(str::from_utf8(bytes.as_slice()).unwrap_or("no text")),
+            );
         }
-        text.push('/')?;
+        must(rt, text.push('/'));
     }
-    Ok(text)
+    text
 }
 
 // What a crash leaves, by its choice.
-fn shown_after(alloc: Global, left: &MemoryDisk, choice: u8) -> Result<String, Fail> {
-    let mut crashed = left.crashed(alloc, choice)?;
-    shown(alloc, &mut crashed)
+fn shown_after(rt: &impl Abort, alloc: Global, left: &MemoryDisk, choice: u8) -> String {
+    let mut crashed = must(rt, left.crashed(alloc, choice));
+    shown(rt, alloc, &mut crashed)
 }
 
 // What stands there before a change and after it.
@@ -171,21 +172,20 @@ fn try_change(
     change: Change,
     k: u64,
     wants: [Left; 3],
-) -> Result<(), Fail> {
+) {
     let is_whole = k == calls_of(change);
-    let is_made = make(&mut disk, alloc, change)?;
+    let is_made = make(rt, &mut disk, alloc, change);
     same_at(rt, (change, k), is_made, is_whole);
     let faults = if is_whole { 0 } else { 1 };
     same_at(rt, (change, k), disk.faults(), faults);
     let mut left = disk.into_inner();
-    let reads = shown(alloc, &mut left)?;
+    let reads = shown(rt, alloc, &mut left);
     same_at(rt, (change, k), reads.as_str(), text_of(wants[1]));
     for choice in 0..3u8 {
-        let reads = shown_after(alloc, &left, choice)?;
+        let reads = shown_after(rt, alloc, &left, choice);
         let want = text_of(wants[choice as usize]);
         same_at(rt, (change, k, choice), reads.as_str(), want);
     }
-    Ok(())
 }
 
 static CHANGES: [(Change, u64, (Left, Left, Left)); 14] = [
@@ -214,37 +214,29 @@ static CHANGES: [(Change, u64, (Left, Left, Left)); 14] = [
 ];
 
 // The change fails at its call k alone, and from there on.
-fn try_both(
-    rt: &impl Abort,
-    alloc: Global,
-    change: Change,
-    k: u64,
-    wants: [Left; 3],
-) -> Result<(), Fail> {
-    let plan = Vec::from_slice(alloc, &[k])?;
-    let failing = FailingDisk::at_calls(disk_before(alloc, change)?, plan);
-    try_change(rt, alloc, failing, change, k, wants)?;
-    let stopping = FailingDisk::stopping_after(disk_before(alloc, change)?, k);
+fn try_both(rt: &impl Abort, alloc: Global, change: Change, k: u64, wants: [Left; 3]) {
+    let plan = must(rt, Vec::from_slice(alloc, &[k]));
+    let failing = FailingDisk::at_calls(disk_before(rt, alloc, change), plan);
+    try_change(rt, alloc, failing, change, k, wants);
+    let stopping = FailingDisk::stopping_after(disk_before(rt, alloc, change), k);
     try_change(rt, alloc, stopping, change, k, wants)
 }
 
 #[test]
-fn each_call_fails(rt: HostRuntime) -> Result<(), Fail> {
+fn each_call_fails(rt: HostRuntime) {
     let alloc = rt.alloc();
     for (change, k, left) in &CHANGES {
         let wants = [left.0, left.1, left.2];
-        try_both(&rt, alloc, *change, *k, wants)?;
+        try_both(&rt, alloc, *change, *k, wants);
     }
-    Ok(())
 }
 
-fn path(alloc: Global, name: &str) -> Result<FilePath, Fail> {
-    Ok(path_of(alloc, &key(alloc)?, &named(alloc, name)?)?)
+fn path(rt: &impl Abort, alloc: Global, name: &str) -> FilePath {
+    must(rt, path_of(alloc, &key(rt, alloc), &named(rt, alloc, name)))
 }
 
-fn remove(disk: &mut MemoryDisk, paths: &[FilePath]) -> Result<(), Fail> {
-    remove_files(disk, paths)?;
-    Ok(())
+fn remove(rt: &impl Abort, disk: &mut MemoryDisk, paths: &[FilePath]) {
+    must(rt, remove_files(disk, paths));
 }
 
 /// A row that may have a file.
@@ -262,46 +254,43 @@ impl Stored for MayBePut {
     }
 }
 
-fn row(alloc: Global, name: &str, is_put: bool) -> Result<MayBePut, Fail> {
-    let path = path(alloc, name)?;
-    Ok(MayBePut { path, is_put })
+fn row(rt: &impl Abort, alloc: Global, name: &str, is_put: bool) -> MayBePut {
+    let path = path(rt, alloc, name);
+    MayBePut { path, is_put }
 }
 
-fn remove_set(rt: &impl Abort, alloc: Global, disk: &mut MemoryDisk) -> Result<(), Fail> {
-    let files = [path(alloc, "set.blob")?, path(alloc, "b.blob")?];
+fn remove_set(rt: &impl Abort, alloc: Global, disk: &mut MemoryDisk) {
+    let files = [path(rt, alloc, "set.blob"), path(rt, alloc, "b.blob")];
     same(rt, files[0].as_str(), SET);
-    remove(disk, &files)
+    remove(rt, disk, &files)
 }
 
 #[test]
-fn files_are_removed(rt: HostRuntime) -> Result<(), Fail> {
-    let mut disk = disk_before(rt.alloc(), Change::Forget)?;
-    remove_set(&rt, rt.alloc(), &mut disk)?;
-    let reads = shown(rt.alloc(), &mut disk)?;
+fn files_are_removed(rt: HostRuntime) {
+    let mut disk = disk_before(&rt, rt.alloc(), Change::Forget);
+    remove_set(&rt, rt.alloc(), &mut disk);
+    let reads = shown(&rt, rt.alloc(), &mut disk);
     same(&rt, reads.as_str(), "manifest//root///other/");
-    Ok(())
 }
 
 // What has no file is passed over; where nothing has one, the disk is not called.
 #[test]
-fn rows_with_a_file_are_removed(rt: HostRuntime) -> Result<(), Fail> {
+fn rows_with_a_file_are_removed(rt: HostRuntime) {
     let alloc = rt.alloc();
-    let mut disk = FailingDisk::stopping_after(disk_before(alloc, Change::Forget)?, 1);
-    try_rows(&rt, alloc, &mut disk)?;
-    let reads = shown(alloc, &mut disk.into_inner())?;
+    let mut disk = FailingDisk::stopping_after(disk_before(&rt, alloc, Change::Forget), 1);
+    try_rows(&rt, alloc, &mut disk);
+    let reads = shown(&rt, alloc, &mut disk.into_inner());
     same(&rt, reads.as_str(), "manifest//root///other/");
-    Ok(())
 }
 
-fn try_rows<D: Disk>(rt: &impl Abort, alloc: Global, disk: &mut D) -> Result<(), Fail> {
+fn try_rows<D: Disk>(rt: &impl Abort, alloc: Global, disk: &mut D) {
     let rows = [
-        row(alloc, "root.didx", false)?,
-        row(alloc, "set.blob", true)?,
+        row(rt, alloc, "root.didx", false),
+        row(rt, alloc, "set.blob", true),
     ];
     same(rt, remove_files(disk, &rows), Ok(()));
     same(rt, remove_files(disk, &rows[..1]), Ok(()));
     same(rt, remove_files(disk, &rows), Err(Failed));
-    Ok(())
 }
 
 // The blob of a manifest of `host/a-b` that lists nothing.
@@ -309,55 +298,65 @@ const OTHER_BLOB: &[u8] =
     b"B\xab8\x07\xbe\x83p\xa1\xd8\x04\xd8h{\"backup-type\":\"host\",\"backup-id\":\"a-b\",\"backup-time\":1579069803,\"files\":[]}";
 
 // A manifest of `host/a` that lists `set.blob`, `root.didx` and so many further files.
-fn manifest_of(alloc: Global, further: u32) -> Result<Vec<u8>, Fail> {
+fn manifest_of(rt: &impl Abort, alloc: Global, further: u32) -> Vec<u8> {
     let zeros = "0000000000000000000000000000000000000000000000000000000000000000";
-    let mut text = String::from_str(
-        alloc,
-        "{\"backup-type\":\"host\",\"backup-id\":\"a\",\"backup-time\":1579069803,\"files\":[",
-    )?;
+    let mut text = must(
+        rt,
+        String::from_str(
+            alloc,
+            "{\"backup-type\":\"host\",\"backup-id\":\"a\",\"backup-time\":1579069803,\"files\":[",
+        ),
+    );
     for i in 0..further {
+        must(
+            rt,
+            write!(
+                text,
+                "{{\"filename\":\"{i}.blob\",\"size\":12,\"csum\":\"{zeros}\"}},"
+            ),
+        );
+    }
+    must(
+        rt,
         write!(
             text,
-            "{{\"filename\":\"{i}.blob\",\"size\":12,\"csum\":\"{zeros}\"}},"
-        )?;
-    }
-    write!(
-        text,
-        "{{\"filename\":\"set.blob\",\"size\":12,\"csum\":\"{zeros}\"}},"
-    )?;
-    write!(
-        text,
-        "{{\"filename\":\"root.didx\",\"size\":0,\"csum\":\"{zeros}\"}}]}}"
-    )?;
-    Ok(encode(alloc, text.as_str().as_bytes())??)
+            "{{\"filename\":\"set.blob\",\"size\":12,\"csum\":\"{zeros}\"}},"
+        ),
+    );
+    must(
+        rt,
+        write!(
+            text,
+            "{{\"filename\":\"root.didx\",\"size\":0,\"csum\":\"{zeros}\"}}]}}"
+        ),
+    );
+    must(rt, must(rt, encode(alloc, text.as_str().as_bytes())))
 }
 
-fn push_name(text: &mut String, name: &[u8]) -> Result<(), Fail> {
-    text.push_str(str::from_utf8(name).unwrap_or("no text"))?;
-    Ok(())
+fn push_name(rt: &impl Abort, text: &mut String, name: &[u8]) {
+    must(rt, text.push_str(str::from_utf8(name).unwrap_or("no text")));
 }
 
-fn tell(text: &mut String, found: &Found) -> Result<(), Fail> {
-    write!(text, "[{:?} ", found.key.kind)?;
-    push_name(text, found.key.id.as_slice())?;
+fn tell(rt: &impl Abort, text: &mut String, found: &Found) {
+    must(rt, write!(text, "[{:?} ", found.key.kind));
+    push_name(rt, text, found.key.id.as_slice());
     if let Some(manifest) = &found.manifest {
-        write!(text, " {}", manifest.files.as_slice().len())?;
+        must(rt, write!(text, " {}", manifest.files.as_slice().len()));
     }
     if let Some(name) = &found.unreadable {
-        text.push(' ')?;
-        push_name(text, name.as_slice())?;
+        must(rt, text.push(' '));
+        push_name(rt, text, name.as_slice());
     }
-    text.push(']')?;
-    Ok(())
+    must(rt, text.push(']'));
 }
 
 // Each snapshot with the number of files that its manifest lists, and the name that makes it damaged.
-fn found_on(alloc: Global, disk: &mut MemoryDisk) -> Result<String, Fail> {
+fn found_on(rt: &impl Abort, alloc: Global, disk: &mut MemoryDisk) -> String {
     let mut text = String::new(alloc);
-    for found in &scan(disk, alloc)? {
-        tell(&mut text, found)?;
+    for found in &must(rt, scan(disk, alloc)) {
+        tell(rt, &mut text, found);
     }
-    Ok(text)
+    text
 }
 
 // Names whose byte order is not the snapshots', a snapshot without a manifest, and names that are none of a snapshot.
@@ -375,10 +374,10 @@ static FILES: [(&str, &[u8]); 8] = [
     ),
 ];
 
-fn datastore(alloc: Global) -> Result<MemoryDisk, Fail> {
+fn datastore(rt: &impl Abort, alloc: Global) -> MemoryDisk {
     let mut disk = MemoryDisk::new(alloc);
-    put_all(&mut disk, alloc, &FILES)?;
-    Ok(disk)
+    put_all(rt, &mut disk, alloc, &FILES);
+    disk
 }
 
 // How many files the manifest of `host/a` lists beside two that are there or not, and what is found of it.
@@ -410,82 +409,83 @@ static FOUND: [(u32, bool, bool, &str); 5] = [
     ),
 ];
 
-fn listed(alloc: Global, further: u32, has_set: bool, has_root: bool) -> Result<MemoryDisk, Fail> {
-    let mut disk = datastore(alloc)?;
-    disk.put(alloc, MANIFEST, &manifest_of(alloc, further)?)?;
-    if has_set {
-        disk.put(alloc, SET, b"set")?;
-    }
-    if has_root {
-        disk.put(alloc, ROOT, b"root")?;
-    }
-    Ok(disk)
-}
-
-fn expected_of(alloc: Global, wanted: &str) -> Result<String, Fail> {
-    Ok(format!(in alloc;
-        "[Ct z ct/z/2020-01-15T06:30:03Z/index.json.blob]{wanted}[Host a-b 0][Vm a 0]"
-    )?)
-}
-
-fn try_found(
+fn listed(
     rt: &impl Abort,
     alloc: Global,
-    disk: &mut MemoryDisk,
-    wanted: &str,
-) -> Result<(), Fail> {
-    let text = found_on(alloc, disk)?;
-    let expected = expected_of(alloc, wanted)?;
+    further: u32,
+    has_set: bool,
+    has_root: bool,
+) -> MemoryDisk {
+    let mut disk = datastore(rt, alloc);
+    must(
+        rt,
+        disk.put(alloc, MANIFEST, &manifest_of(rt, alloc, further)),
+    );
+    if has_set {
+        must(rt, disk.put(alloc, SET, b"set"));
+    }
+    if has_root {
+        must(rt, disk.put(alloc, ROOT, b"root"));
+    }
+    disk
+}
+
+fn expected_of(rt: &impl Abort, alloc: Global, wanted: &str) -> String {
+    must(
+        rt,
+        format!(in alloc;
+            "[Ct z ct/z/2020-01-15T06:30:03Z/index.json.blob]{wanted}[Host a-b 0][Vm a 0]"
+        ),
+    )
+}
+
+fn try_found(rt: &impl Abort, alloc: Global, disk: &mut MemoryDisk, wanted: &str) {
+    let text = found_on(rt, alloc, disk);
+    let expected = expected_of(rt, alloc, wanted);
     same(rt, text.as_str(), expected.as_str());
-    Ok(())
 }
 
 #[test]
-fn what_is_found(rt: HostRuntime) -> Result<(), Fail> {
+fn what_is_found(rt: HostRuntime) {
     for (further, has_set, has_root, wanted) in &FOUND {
-        let mut disk = listed(rt.alloc(), *further, *has_set, *has_root)?;
-        try_found(&rt, rt.alloc(), &mut disk, wanted)?;
+        let mut disk = listed(&rt, rt.alloc(), *further, *has_set, *has_root);
+        try_found(&rt, rt.alloc(), &mut disk, wanted);
     }
-    Ok(())
 }
 
-fn try_scan(rt: &impl Abort, alloc: Global, k: u64, fails: bool) -> Result<(), Fail> {
-    let mut disk = datastore(alloc)?;
-    disk.put(alloc, MANIFEST, &manifest_of(alloc, 0)?)?;
-    let plan = Vec::from_slice(alloc, &[k])?;
+fn try_scan(rt: &impl Abort, alloc: Global, k: u64, fails: bool) {
+    let mut disk = datastore(rt, alloc);
+    must(rt, disk.put(alloc, MANIFEST, &manifest_of(rt, alloc, 0)));
+    let plan = must(rt, Vec::from_slice(alloc, &[k]));
     let mut failing = FailingDisk::at_calls(disk, plan);
     let outcome = scan(&mut failing, alloc);
     let has_failed = matches!(&outcome, Err(DiskError::Failed));
     same_at(rt, k, has_failed, fails);
-    Ok(())
 }
 
 // Three lists, the size of four manifests and a read of each, and the two files that one of them lists.
 #[test]
-fn each_call_of_a_scan_fails(rt: HostRuntime) -> Result<(), Fail> {
+fn each_call_of_a_scan_fails(rt: HostRuntime) {
     let alloc = rt.alloc();
     for k in 0..14 {
-        try_scan(&rt, alloc, k, k < 13)?;
+        try_scan(&rt, alloc, k, k < 13);
     }
-    Ok(())
 }
 
 /// A manifest's file of one byte more than a blob has makes its snapshot damaged, and is not read: there are the three lists, its size,
 /// and the calls of the other three snapshots.
 #[test]
-fn a_manifest_that_is_too_long_is_none(rt: HostRuntime) -> Result<(), Fail> {
-    let mut disk = datastore(rt.alloc())?;
-    put_long(&mut disk, rt.alloc())?;
+fn a_manifest_that_is_too_long_is_none(rt: HostRuntime) {
+    let mut disk = datastore(&rt, rt.alloc());
+    put_long(&rt, &mut disk, rt.alloc());
     let before = disk.calls();
     let wanted = "[Host a host/a/2020-01-15T06:30:03Z/index.json.blob]";
-    try_found(&rt, rt.alloc(), &mut disk, wanted)?;
+    try_found(&rt, rt.alloc(), &mut disk, wanted);
     same(&rt, disk.calls(), before.saturating_add(10));
-    Ok(())
 }
 
-fn put_long(disk: &mut MemoryDisk, alloc: Global) -> Result<(), Fail> {
+fn put_long(rt: &impl Abort, disk: &mut MemoryDisk, alloc: Global) {
     let mut text = Vec::new(alloc);
-    text.resize(16_777_229, 0)?;
-    disk.put(alloc, MANIFEST, &text)?;
-    Ok(())
+    must(rt, text.resize(16_777_229, 0));
+    must(rt, disk.put(alloc, MANIFEST, &text));
 }

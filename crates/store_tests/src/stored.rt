@@ -1,6 +1,6 @@
 //! Files on a disk in memory.
 
-use crate::asserts::{same, same_at};
+use crate::asserts::{must, same, same_at};
 use crate::faults::{Fault, refusal};
 use crate::fixtures::{NINES, ROOT, SEVENS};
 use disk_trait::{Disk, FailingDisk, MemoryDisk};
@@ -9,7 +9,6 @@ use fixed_index::FixedWriter;
 use snapshot_files::{IndexPart, lengths_of, read_index, read_part};
 use std::alloc::Global;
 use std::process::Abort;
-use std::test::Fail;
 use store_stops::Stop;
 use store_types::{Digest32, Refusal};
 use wire_commands::Reply;
@@ -22,28 +21,31 @@ const CUT: &str = "host/a/2020-01-15T06:30:03Z/cut.didx";
 const NOTHING: &str = "host/a/2020-01-15T06:30:03Z/none.didx";
 
 /// The index of 4,097 bytes in pieces of 4,096. It has 4,160 bytes.
-fn fixed_text(alloc: Global) -> Result<Vec<u8>, Fail> {
+fn fixed_text(rt: &impl Abort, alloc: Global) -> Vec<u8> {
     let mut writer = FixedWriter::new(alloc, [1; 16], 1_579_069_803, 4097, 4096);
-    writer.append(&SEVENS, 4096)?;
-    writer.append(&NINES, 1)?;
-    Ok(writer.close(alloc)?)
+    must(rt, writer.append(&SEVENS, 4096));
+    must(rt, writer.append(&NINES, 1));
+    must(rt, writer.close(alloc))
 }
 
 /// The index of a piece of 3 bytes and one of 2. It has 4,176 bytes.
-fn dynamic_text(alloc: Global) -> Result<Vec<u8>, Fail> {
+fn dynamic_text(rt: &impl Abort, alloc: Global) -> Vec<u8> {
     let mut writer = DynamicWriter::new(alloc, [1; 16], 1_579_069_803);
-    writer.append(&SEVENS, 3)?;
-    writer.append(&NINES, 2)?;
-    Ok(writer.close(alloc)?)
+    must(rt, writer.append(&SEVENS, 3));
+    must(rt, writer.append(&NINES, 2));
+    must(rt, writer.close(alloc))
 }
 
-fn disk_of_indexes(alloc: Global) -> Result<MemoryDisk, Fail> {
+fn disk_of_indexes(rt: &impl Abort, alloc: Global) -> MemoryDisk {
     let mut disk = MemoryDisk::new(alloc);
-    disk.put(alloc, FIXED, &fixed_text(alloc)?)?;
-    let text = dynamic_text(alloc)?;
-    disk.put(alloc, ROOT, &text)?;
-    disk.put(alloc, CUT, text.get(..4175).ok_or("short")?)?;
-    Ok(disk)
+    must(rt, disk.put(alloc, FIXED, &fixed_text(rt, alloc)));
+    let text = dynamic_text(rt, alloc);
+    must(rt, disk.put(alloc, ROOT, &text));
+    must(
+        rt,
+        disk.put(alloc, CUT, must(rt, text.get(..4175).ok_or("short"))),
+    );
+    disk
 }
 
 /// What is read from an offset of a file on: of an index, whose kind is told, or of any file.
@@ -58,57 +60,56 @@ enum Read {
 type Told = (u64, &'static [u8], &'static [(Digest32, u64)]);
 
 /// What is read, or the refusal.
-fn told<T: Drop>(read: Result<T, Stop>) -> Result<Result<T, Refusal>, Fail> {
+fn told<T: Drop>(rt: &impl Abort, read: Result<T, Stop>) -> Result<T, Refusal> {
     match read {
-        Ok(value) => Ok(Ok(value)),
-        Err(Stop::Refused(refusal)) => Ok(Err(refusal)),
-        Err(Stop::NoMemory) => Err("no memory".into()),
-        Err(Stop::DiskFailed) => Err("the disk failed".into()),
+        Ok(value) => Ok(value),
+        Err(Stop::Refused(refusal)) => Err(refusal),
+        Err(Stop::NoMemory) => panic!(rt; "no memory"),
+        Err(Stop::DiskFailed) => panic!(rt; "the disk failed"),
     }
 }
 
 /// The index of the kind, where the path is no longer than a path may be.
 fn index_at(
+    rt: &impl Abort,
     disk: &mut MemoryDisk,
     alloc: Global,
     path: &str,
     is_fixed: bool,
     offset: u64,
-) -> Result<Result<IndexPart, Refusal>, Fail> {
-    if path.len() > 255 {
-        return Err("a long path".into());
-    }
-    told(read_index(disk, alloc, path, is_fixed, offset))
+) -> Result<IndexPart, Refusal> {
+    assert!(rt; path.len() <= 255);
+    told(rt, read_index(disk, alloc, path, is_fixed, offset))
 }
 
 /// The part of any file, as that of an index without entries.
 fn part_at(
+    rt: &impl Abort,
     disk: &mut MemoryDisk,
     alloc: Global,
     path: &str,
     offset: u64,
-) -> Result<Result<IndexPart, Refusal>, Fail> {
-    if path.len() > 255 {
-        return Err("a long path".into());
-    }
-    match told(read_part(disk, alloc, path, offset))? {
-        Ok(part) => Ok(Ok(IndexPart {
+) -> Result<IndexPart, Refusal> {
+    assert!(rt; path.len() <= 255);
+    match told(rt, read_part(disk, alloc, path, offset)) {
+        Ok(part) => Ok(IndexPart {
             part,
             entries: Vec::new(alloc),
-        })),
-        Err(refusal) => Ok(Err(refusal)),
+        }),
+        Err(refusal) => Err(refusal),
     }
 }
 
 fn make(
+    rt: &impl Abort,
     disk: &mut MemoryDisk,
     alloc: Global,
     read: Read,
-) -> Result<Result<IndexPart, Refusal>, Fail> {
+) -> Result<IndexPart, Refusal> {
     match read {
-        Read::Fixed(path, offset) => index_at(disk, alloc, path, true, offset),
-        Read::Dynamic(path, offset) => index_at(disk, alloc, path, false, offset),
-        Read::Part(path, offset) => part_at(disk, alloc, path, offset),
+        Read::Fixed(path, offset) => index_at(rt, disk, alloc, path, true, offset),
+        Read::Dynamic(path, offset) => index_at(rt, disk, alloc, path, false, offset),
+        Read::Part(path, offset) => part_at(rt, disk, alloc, path, offset),
     }
 }
 
@@ -128,11 +129,10 @@ fn try_read(
     alloc: Global,
     number: usize,
     row: &(Read, Told),
-) -> Result<(), Fail> {
+) {
     let (read, wanted) = row;
-    let told = make(disk, alloc, *read)?.ok().ok_or("refused")?;
+    let told = must(rt, make(rt, disk, alloc, *read).ok().ok_or("refused"));
     try_told(rt, number, &told, wanted);
-    Ok(())
 }
 
 fn try_refused(
@@ -141,11 +141,10 @@ fn try_refused(
     alloc: Global,
     number: usize,
     row: &(Read, Fault),
-) -> Result<(), Fail> {
+) {
     let (read, fault) = row;
-    let found = make(disk, alloc, *read)?.err();
-    same_at(rt, number, found, Some(refusal(alloc, *fault)?));
-    Ok(())
+    let found = make(rt, disk, alloc, *read).err();
+    same_at(rt, number, found, Some(refusal(rt, alloc, *fault)));
 }
 
 /// Where the pieces of both indexes end.
@@ -176,23 +175,21 @@ static REFUSED: [(Read, Fault); 8] = [
 ];
 
 #[test]
-fn parts_are_read(rt: HostRuntime) -> Result<(), Fail> {
+fn parts_are_read(rt: HostRuntime) {
     let alloc = rt.alloc();
-    let mut disk = disk_of_indexes(alloc)?;
+    let mut disk = disk_of_indexes(&rt, alloc);
     for (number, row) in READ.iter().enumerate() {
-        try_read(&rt, &mut disk, alloc, number, row)?;
+        try_read(&rt, &mut disk, alloc, number, row);
     }
-    Ok(())
 }
 
 #[test]
-fn parts_are_refused(rt: HostRuntime) -> Result<(), Fail> {
+fn parts_are_refused(rt: HostRuntime) {
     let alloc = rt.alloc();
-    let mut disk = disk_of_indexes(alloc)?;
+    let mut disk = disk_of_indexes(&rt, alloc);
     for (number, row) in REFUSED.iter().enumerate() {
-        try_refused(&rt, &mut disk, alloc, number, row)?;
+        try_refused(&rt, &mut disk, alloc, number, row);
     }
-    Ok(())
 }
 
 fn read_root(disk: &mut FailingDisk<MemoryDisk>, alloc: Global) -> Result<IndexPart, Stop> {
@@ -200,25 +197,20 @@ fn read_root(disk: &mut FailingDisk<MemoryDisk>, alloc: Global) -> Result<IndexP
 }
 
 /// A disk that fails at its call of this number, and then no more.
-fn failing_at(alloc: Global, number: u64) -> Result<FailingDisk<MemoryDisk>, Fail> {
-    let plan = Vec::from_slice(alloc, &[number])?;
-    Ok(FailingDisk::at_calls(disk_of_indexes(alloc)?, plan))
+fn failing_at(rt: &impl Abort, alloc: Global, number: u64) -> FailingDisk<MemoryDisk> {
+    let plan = must(rt, Vec::from_slice(alloc, &[number]));
+    FailingDisk::at_calls(disk_of_indexes(rt, alloc), plan)
 }
 
 static ROOT_READ: Told = (4176, &[9; 32], DYNAMIC_ENDS);
 
-fn try_root(
-    rt: &impl Abort,
-    alloc: Global,
-    disk: &mut FailingDisk<MemoryDisk>,
-) -> Result<(), Fail> {
-    let told = read_root(disk, alloc).ok().ok_or("not read")?;
+fn try_root(rt: &impl Abort, alloc: Global, disk: &mut FailingDisk<MemoryDisk>) {
+    let told = must(rt, read_root(disk, alloc).ok().ok_or("not read"));
     try_told(rt, 0, &told, &ROOT_READ);
-    Ok(())
 }
 
-fn try_fault(rt: &impl Abort, alloc: Global, number: u64) -> Result<(), Fail> {
-    let mut disk = failing_at(alloc, number)?;
+fn try_fault(rt: &impl Abort, alloc: Global, number: u64) {
+    let mut disk = failing_at(rt, alloc, number);
     let failed = read_root(&mut disk, alloc).err();
     same_at(rt, number, failed, Some(Stop::DiskFailed));
     try_root(rt, alloc, &mut disk)
@@ -226,16 +218,15 @@ fn try_fault(rt: &impl Abort, alloc: Global, number: u64) -> Result<(), Fail> {
 
 /// The size is asked first, and then the text.
 #[test]
-fn a_call_fails(rt: HostRuntime) -> Result<(), Fail> {
+fn a_call_fails(rt: HostRuntime) {
     let alloc = rt.alloc();
-    try_fault(&rt, alloc, 0)?;
+    try_fault(&rt, alloc, 0);
     try_fault(&rt, alloc, 1)
 }
 
 #[test]
-fn lengths(rt: HostRuntime) -> Result<(), Fail> {
-    let pieces = lengths_of(rt.alloc(), DYNAMIC_ENDS)?;
+fn lengths(rt: HostRuntime) {
+    let pieces = must(&rt, lengths_of(rt.alloc(), DYNAMIC_ENDS));
     let wanted = [(SEVENS, 3), (NINES, 2)];
     same(&rt, pieces.as_slice(), wanted.as_slice());
-    Ok(())
 }

@@ -2,41 +2,45 @@
 
 use super::*;
 use crate::at_once::assert_lane;
-use crate::gates::{CountingGate, Held, TurnGate};
+use crate::gates::{CountingGate, Held, MeetingGate, TurnGate};
+use crate::watch::LOOKS;
+use disk_trait::FailingDisk;
 use port_traits::Gate;
 use store_types::Entry;
 
 /// What became of several sessions.
 #[derive(Drop)]
-struct All {
-    ports: Vec<Port<MemSource, MemSink>>,
-    served: Run,
+pub(crate) struct All {
+    pub(crate) ports: Vec<Port<MemSource, MemSink>>,
+    pub(crate) served: Served<FailingDisk<MemoryDisk>, MemoryDisk>,
 }
 
-/// Serves sessions at once, on an empty datastore.
-fn sessions<G: Gate + Sync>(
-    rt: &(impl Threads + Wait + Sync),
+/// Serves sessions at once, on an empty datastore, of whose disk the calls with these numbers fail.
+pub(crate) fn sessions<G: Gate + Sync>(
+    rt: &(impl Abort + Threads + Wait + Sync),
     alloc: Global,
     sent: &[&[u8]],
+    failing: &[u64],
     gate: &G,
-) -> Result<All, AllocError> {
+) -> All {
     let mut ports = Vec::new(alloc);
     for bytes in sent {
-        ports.push(port_of(alloc, bytes)?)?;
+        must(rt, ports.push(must(rt, port_of(alloc, bytes))));
     }
-    let words = words::asking(alloc, sent.len())?;
+    let words = words::asking(rt, alloc, sent.len());
+    let disk = FailingDisk::at_calls(MemoryDisk::new(alloc), must(rt, failing.to_vec(alloc)));
     let served = serve(
         rt,
         alloc,
         &words,
         &mut ports,
-        MemoryDisk::new(alloc),
+        disk,
         None::<MemoryDisk>,
         standing(alloc),
         &mut empty_sink(alloc),
         gate,
     );
-    Ok(All { ports, served })
+    All { ports, served }
 }
 
 /// OPEN_WRITER, BLOB of a manifest without files, FINISH.
@@ -60,9 +64,9 @@ const FOUR_LISTED: &[u8] =
     b"{\0\0\0\0\x04\0\x1bhost/a/2020-01-15T06:30:03Z\0\x01\x1bhost/b/2020-01-15T06:30:03Z\0\x01\x1bhost/c/2020-01-15T06:30:03Z\0\x01\x1bhost/d/2020-01-15T06:30:03Z\0\x01";
 
 /// The lanes of the first four entries.
-fn assert_firsts(rt: &impl Abort, order: &[Entry], lanes: &[u64]) -> Result<(), Fail> {
+fn assert_firsts(rt: &impl Abort, order: &[Entry], lanes: &[u64]) {
     let [a, b, c, d, ..] = order else {
-        return Err("not four entries".into());
+        panic!(rt; "not four entries");
     };
     let found = [
         u64::from(a.lane),
@@ -71,7 +75,6 @@ fn assert_firsts(rt: &impl Abort, order: &[Entry], lanes: &[u64]) -> Result<(), 
         u64::from(d.lane),
     ];
     same_numbers(rt, &found, lanes);
-    Ok(())
 }
 
 /// The first command of lanes 0 to 2 waits for the next lane's first, and the second of lanes 1 to 3 for lane 0's first.
@@ -100,9 +103,9 @@ fn try_gated(
     alloc: Global,
     held: &'static [Held],
     lanes: &[u64],
-) -> Result<(), Fail> {
-    let gate = TurnGate::of(alloc, BACKUPS.len(), held)?;
-    let All { ports, served } = sessions(rt, alloc, &BACKUPS, &gate)?;
+) {
+    let gate = must(rt, TurnGate::of(alloc, BACKUPS.len(), held));
+    let All { ports, served } = sessions(rt, alloc, &BACKUPS, &[], &gate);
     same_numbers(
         rt,
         &[u64::from(gate.gave_up()), u64::from(served.status.number())],
@@ -111,20 +114,47 @@ fn try_gated(
     for port in &ports {
         same(rt, port.sink.as_bytes(), BACKED_UP);
     }
-    assert_firsts(rt, &served.order, lanes)?;
+    assert_firsts(rt, &served.order, lanes);
     for lane in 0..4 {
-        assert_lane(rt, alloc, &served.order, lane, &[0, 0, 0, 6])?;
+        assert_lane(rt, alloc, &served.order, lane, &[0, 0, 0, 6]);
     }
-    let list = port_of(alloc, LIST)?;
-    let Ran { sink, .. } = session(rt, alloc, list, served.disk, None, standing(alloc))?;
+    let list = must(rt, port_of(alloc, LIST));
+    let disk = served.disk.into_inner();
+    let Ran { sink, .. } = must(rt, session(rt, alloc, list, disk, None, standing(alloc)));
     same(rt, sink.as_bytes(), FOUR_LISTED);
-    Ok(())
 }
 
 #[test]
-fn four_lanes_wait_for_each_other(rt: HostRuntime) -> Result<(), Fail> {
-    try_gated(&rt, rt.alloc(), &FROM_LAST, &[3, 2, 1, 0])?;
+fn four_lanes_wait_for_each_other(rt: HostRuntime) {
+    try_gated(&rt, rt.alloc(), &FROM_LAST, &[3, 2, 1, 0]);
     try_gated(&rt, rt.alloc(), &FROM_FIRST, &[0, 1, 2, 3])
+}
+
+/// LIST of no snapshot, and BYE.
+const LIST_AND_BYE: &[u8] = b"\x02\0\0\0\x1e\0\x01\0\0\0?";
+
+const NONE_LISTED: &[u8] = b"\x03\0\0\0\0\0\0\x01\0\0\0\0";
+
+/// As many sessions as there may be, each with a LIST that waits until all have come to theirs. All are answered and entered.
+#[test]
+fn sixty_four_lanes_meet(rt: HostRuntime) {
+    let alloc = rt.alloc();
+    let gate = MeetingGate::of(64, LOOKS);
+    let sent: Vec<&[u8]> = must(&rt, vec![in alloc; LIST_AND_BYE; 64]);
+    let All { ports, served } = sessions(&rt, alloc, &sent, &[], &gate);
+    let found = [
+        u64::from(gate.have_met()),
+        u64::from(served.status.number()),
+        served.order.len() as u64,
+        served.report.lanes.len() as u64,
+    ];
+    same_numbers(&rt, &found, &[1, 0, 128, 64]);
+    for port in &ports {
+        same(&rt, port.sink.as_bytes(), NONE_LISTED);
+    }
+    for lane in 0..64 {
+        assert_lane(&rt, alloc, &served.order, lane, &[0, 6]);
+    }
 }
 
 /// Each command has its two calls, a job or a collection as one command; BYE has none, and neither has what is no command.
@@ -141,13 +171,12 @@ static COUNTS: [(u32, u64); 5] = [(0, 0), (1, 0), (2, 2), (3, 1), (4, 9)];
 
 /// A gate is called so often before the commands of each session, and after them, and never out of turn.
 #[test]
-fn gates_stand_round_each_command(rt: HostRuntime) -> Result<(), Fail> {
+fn gates_stand_round_each_command(rt: HostRuntime) {
     let alloc = rt.alloc();
-    let gate = CountingGate::of(alloc, GATED.len())?;
-    let all = sessions(&rt, alloc, &GATED, &gate)?;
+    let gate = must(&rt, CountingGate::of(alloc, GATED.len()));
+    let all = sessions(&rt, alloc, &GATED, &[], &gate);
     for (lane, count) in &COUNTS {
         same_numbers(&rt, &gate.counts(*lane), &[*count, *count, 0]);
     }
     same(&rt, &[all.served.status.number()], &[1]);
-    Ok(())
 }

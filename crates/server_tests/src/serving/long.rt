@@ -22,19 +22,19 @@ fn try_large(
     rt: &(impl Abort + Threads + Wait + Sync),
     alloc: Global,
     row: &(&[u8], usize, &[u8]),
-) -> Result<(), Fail> {
+) {
     let (front, zeros, replies) = row;
-    let sent = with_zeros(alloc, front, *zeros)?;
-    let port = port_of(alloc, &sent)?;
+    let sent = must(rt, with_zeros(alloc, front, *zeros));
+    let port = must(rt, port_of(alloc, &sent));
     let disk = MemoryDisk::new(alloc);
-    let Ran { sink, served } = session(rt, alloc, port, disk, None, standing(alloc))?;
+    let Ran { sink, served } = must(rt, session(rt, alloc, port, disk, None, standing(alloc)));
     same(rt, sink.as_bytes(), replies);
     let report = LaneReport {
         taken: sent.len() as u64,
         given: replies.len() as u64,
         ending: Ending::Clean,
     };
-    assert_report(rt, &served, Status::Ok, report)?;
+    assert_report(rt, &served, Status::Ok, report);
     assert_kinds(rt, alloc, &served, &[0, 0, 6])
 }
 
@@ -46,12 +46,12 @@ pub fn with_zeros(alloc: Global, front: &[u8], zeros: usize) -> Result<Vec<u8>, 
 }
 
 #[test]
-fn blobs_have_a_limit(rt: HostRuntime) -> Result<(), Fail> {
+fn blobs_have_a_limit(rt: HostRuntime) {
     try_large(&rt, rt.alloc(), &LARGE[0])
 }
 
 #[test]
-fn chunks_have_the_same_limit(rt: HostRuntime) -> Result<(), Fail> {
+fn chunks_have_the_same_limit(rt: HostRuntime) {
     try_large(&rt, rt.alloc(), &LARGE[1])
 }
 
@@ -86,49 +86,47 @@ static LARGE_BLOBS: [Blob; 2] = [
     ),
 ];
 
-fn with_blob(alloc: Global, row: &Blob) -> Result<MemoryDisk, DiskError> {
+fn with_blob(rt: &impl Abort, alloc: Global, row: &Blob) -> MemoryDisk {
     let (header, zeros, manifest, _, _) = row;
     let mut disk = MemoryDisk::new(alloc);
-    let file = with_zeros(alloc, header, *zeros)?;
-    disk.put(alloc, "host/a/2020-01-15T06:30:03Z/a.blob", &file)?;
-    disk.put(alloc, MANIFEST, manifest)?;
-    Ok(disk)
+    let file = must(rt, with_zeros(alloc, header, *zeros));
+    must(
+        rt,
+        disk.put(alloc, "host/a/2020-01-15T06:30:03Z/a.blob", &file),
+    );
+    must(rt, disk.put(alloc, MANIFEST, manifest));
+    disk
 }
 
 #[test]
-fn files_are_read_in_parts(rt: HostRuntime) -> Result<(), Fail> {
+fn files_are_read_in_parts(rt: HostRuntime) {
     let alloc = rt.alloc();
     for row in &LARGE_BLOBS {
-        let port = port_of(alloc, VERIFY)?;
-        let disk = with_blob(alloc, row)?;
-        let Ran { sink, served } = session(&rt, alloc, port, disk, None, standing(alloc))?;
+        let port = must(&rt, port_of(alloc, VERIFY));
+        let disk = with_blob(&rt, alloc, row);
+        let Ran { sink, served } = must(
+            &rt,
+            session(&rt, alloc, port, disk, None, standing(alloc)),
+        );
         same(&rt, sink.as_bytes(), TWO_FILES);
         let found = [u64::from(served.status.number()), served.order.len() as u64];
         same_numbers(&rt, &found, &[0, row.3]);
     }
-    Ok(())
 }
 
 /// Every file of the remote stands here, and no other, beside the books of touches.
-fn same_files(
-    rt: &impl Abort,
-    alloc: Global,
-    disk: &mut MemoryDisk,
-    remote: &mut MemoryDisk,
-) -> Result<(), Fail> {
-    let _ = disk.remove(".chunks/book")?;
-    let _ = remote.remove(".chunks/book")?;
-    let names = remote.list(alloc, "")?;
+fn same_files(rt: &impl Abort, alloc: Global, disk: &mut MemoryDisk, remote: &mut MemoryDisk) {
+    let _ = must(rt, disk.remove(".chunks/book"));
+    let _ = must(rt, remote.remove(".chunks/book"));
+    let names = must(rt, remote.list(alloc, ""));
     same_numbers(
         rt,
-        &[disk.list(alloc, "")?.len() as u64],
+        &[must(rt, disk.list(alloc, "")).len() as u64],
         &[names.len() as u64],
     );
     for name in &names {
-        let here = disk.read(alloc, name.as_str())?.unwrap_or(Vec::new(alloc));
-        let there = remote
-            .read(alloc, name.as_str())?
-            .unwrap_or(Vec::new(alloc));
+        let here = must(rt, disk.read(alloc, name.as_str())).unwrap_or(Vec::new(alloc));
+        let there = must(rt, remote.read(alloc, name.as_str())).unwrap_or(Vec::new(alloc));
         let is_same = here == there;
         same_numbers(
             rt,
@@ -136,7 +134,6 @@ fn same_files(
             &[there.len() as u64, 1],
         );
     }
-    Ok(())
 }
 
 /// A SYNC on an empty datastore, with these kinds of entries. The remote stays as it was, and all of it is here then.
@@ -145,31 +142,33 @@ fn try_pull(
     alloc: Global,
     remote: MemoryDisk,
     kinds: &[u8],
-) -> Result<(), Fail> {
+) {
     let steps = remote.steps().len() as u64;
-    let port = port_of(alloc, SYNC)?;
+    let port = must(rt, port_of(alloc, SYNC));
     let disk = MemoryDisk::new(alloc);
-    let Ran { sink, served } = session(rt, alloc, port, disk, Some(remote), standing(alloc))?;
+    let Ran { sink, served } = must(
+        rt,
+        session(rt, alloc, port, disk, Some(remote), standing(alloc)),
+    );
     same(rt, sink.as_bytes(), ONE_KEY);
     same(rt, &[served.status.number()], &[0]);
-    assert_kinds(rt, alloc, &served, kinds)?;
+    assert_kinds(rt, alloc, &served, kinds);
     let Served {
         mut disk,
         remote,
         ..
     } = served;
-    let mut remote = remote.ok_or("no remote")?;
+    let mut remote = must(rt, remote.ok_or("no remote"));
     same_numbers(rt, &[remote.steps().len() as u64], &[steps]);
     same_files(rt, alloc, &mut disk, &mut remote)
 }
 
 #[test]
-fn large_files_are_pulled_in_parts(rt: HostRuntime) -> Result<(), Fail> {
+fn large_files_are_pulled_in_parts(rt: HostRuntime) {
     let alloc = rt.alloc();
     for row in &LARGE_BLOBS {
-        try_pull(&rt, alloc, with_blob(alloc, row)?, row.4)?;
+        try_pull(&rt, alloc, with_blob(&rt, alloc, row), row.4);
     }
-    Ok(())
 }
 
 /// An archive of so many pieces `x`: its index up to its reserved bytes, the snapshot's manifest, and the kinds. There is an APPEND for
@@ -227,10 +226,9 @@ pub fn long_remote(alloc: Global, row: &Long) -> Result<MemoryDisk, DiskError> {
 }
 
 #[test]
-fn long_archives_are_appended_in_parts(rt: HostRuntime) -> Result<(), Fail> {
+fn long_archives_are_appended_in_parts(rt: HostRuntime) {
     let alloc = rt.alloc();
     for row in &LONG_ARCHIVES {
-        try_pull(&rt, alloc, long_remote(alloc, row)?, row.3)?;
+        try_pull(&rt, alloc, must(&rt, long_remote(alloc, row)), row.3);
     }
-    Ok(())
 }

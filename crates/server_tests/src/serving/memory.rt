@@ -21,7 +21,7 @@ fn served(
 
 /// The status tells whose growth was refused, if any: the memory disk's record, the sink, or the store itself. Where none was, the replies
 /// are the session's.
-fn assert_status(rt: &impl Abort, lacking: &Ran, replies: &[u8]) -> Result<(), Fail> {
+fn assert_status(rt: &impl Abort, lacking: &Ran, replies: &[u8]) {
     let expected = match lacking.served.status {
         Status::Ok => {
             same(rt, lacking.sink.as_bytes(), replies);
@@ -30,20 +30,19 @@ fn assert_status(rt: &impl Abort, lacking: &Ran, replies: &[u8]) -> Result<(), F
         Status::NoMemory => [0, 0],
         Status::DiskFault => [1, 0],
         Status::SinkFault => [0, 1],
-        _ => return Err("another status".into()),
+        _ => panic!(rt; "another status"),
     };
     same_numbers(
         rt,
         &[lacking.served.disk.faults(), lacking.sink.faults()],
         &expected,
     );
-    Ok(())
 }
 
 /// The order ends with the lane's end. Before it are commands, and what was answered for want of memory or for a fault.
-fn assert_fits(rt: &impl Abort, order: &[Entry], status: Status) -> Result<(), Fail> {
+fn assert_fits(rt: &impl Abort, order: &[Entry], status: Status) {
     let [acts @ .., end] = order else {
-        return Err("no entry".into());
+        panic!(rt; "no entry");
     };
     same(rt, &[end.kind], &[6]);
     let other = match status {
@@ -55,7 +54,6 @@ fn assert_fits(rt: &impl Abort, order: &[Entry], status: Status) -> Result<(), F
         let fits = entry.lane == 0 && (entry.kind == 0 || entry.kind == other);
         same(rt, &[u8::from(fits)], &[1]);
     }
-    Ok(())
 }
 
 /// A session, and its replies.
@@ -76,32 +74,28 @@ const ALL_BUT_ONE: Talk = (
 );
 
 /// A snapshot whose FINISH was answered is there in every case. The status is printed.
-fn try_lacking(
-    rt: &(impl Abort + Threads + Wait + Sync),
-    alloc: Global,
-    talk: &Talk,
-) -> Result<u8, Fail> {
+fn try_lacking(rt: &(impl Abort + Threads + Wait + Sync), alloc: Global, talk: &Talk) -> u8 {
     let (sent, replies) = talk;
     let disk = MemoryDisk::new(alloc);
     let Some(mut lacking) = served(rt, alloc, sent, disk, None, standing(alloc)) else {
-        return Ok(0);
+        return 0;
     };
-    assert_status(rt, &lacking, replies)?;
+    assert_status(rt, &lacking, replies);
     if lacking.sink.as_bytes().starts_with(front(replies, 16)) {
-        let size = lacking.served.disk.size(MANIFEST)?.unwrap_or(0);
+        let size = must(rt, lacking.served.disk.size(MANIFEST)).unwrap_or(0);
         same_numbers(rt, &[size], &[86]);
     }
     if lacking.served.report.lanes.is_empty() {
         same_numbers(rt, &[lacking.served.order.len() as u64], &[0]);
     } else {
-        assert_fits(rt, &lacking.served.order, lacking.served.status)?;
+        assert_fits(rt, &lacking.served.order, lacking.served.status);
     }
-    Ok(lacking.served.status.number())
+    lacking.served.status.number()
 }
 
 /// Four sessions, of which at most one growth is refused. The statuses are printed.
 #[test]
-fn memory_is_refused(rt: HostRuntime) -> Result<(), Fail> {
+fn memory_is_refused(rt: HostRuntime) {
     let talks = [
         (READ_BACK, READ_BACK_REPLIES),
         (UNFINISHED, UNFINISHED_REPLIES),
@@ -109,10 +103,9 @@ fn memory_is_refused(rt: HostRuntime) -> Result<(), Fail> {
         ALL_BUT_ONE,
     ];
     for talk in &talks {
-        let status = try_lacking(&rt, rt.alloc(), talk)?;
-        println!(rt; "status {status}")?;
+        let status = try_lacking(&rt, rt.alloc(), talk);
+        must(&rt, println!(rt; "status {status}"));
     }
-    Ok(())
 }
 
 /// Whether memory was wanting for an entry between these places: the next then closes what was open.
@@ -143,14 +136,14 @@ const VERIFIED: Talk = (
 /// A VERIFY that lacked memory leaves no reader. The entries of its steps in the reader are those behind the ninth, up to the fifteenth, which
 /// closes it. The status is printed.
 #[test]
-fn a_verify_lacks_memory(rt: HostRuntime) -> Result<(), Fail> {
+fn a_verify_lacks_memory(rt: HostRuntime) {
     let alloc = rt.alloc();
     let (sent, replies) = VERIFIED;
     let disk = MemoryDisk::new(alloc);
     let Some(lacking) = served(&rt, alloc, sent, disk, None, standing(alloc)) else {
-        return Ok(());
+        return;
     };
-    assert_status(&rt, &lacking, replies)?;
+    assert_status(&rt, &lacking, replies);
     if was_closed(&rt, &lacking.served.order, 8, 14) {
         // behind the replies of the backup
         let told = lacking.sink.as_bytes();
@@ -158,8 +151,10 @@ fn a_verify_lacks_memory(rt: HostRuntime) -> Result<(), Fail> {
         let is_so = verified == SHORT || verified == SHORT_AND_DONE;
         same(&rt, &[u8::from(is_so)], &[1]);
     }
-    println!(rt; "status {}", lacking.served.status.number())?;
-    Ok(())
+    must(
+        &rt,
+        println!(rt; "status {}", lacking.served.status.number()),
+    );
 }
 
 /// The SYNC of an archive, and a writer of a later snapshot.
@@ -174,15 +169,15 @@ const NO_BASE: &[u8] = b"\x02\0\0\0\0\0";
 /// A SYNC that lacked memory leaves no writer, and nothing of its snapshot. The entries of its steps in the writer are those behind the third,
 /// up to the thirteenth: an ABORT is the next. The status is printed, and how many entries the order has.
 #[test]
-fn a_pull_lacks_memory(rt: HostRuntime) -> Result<(), Fail> {
+fn a_pull_lacks_memory(rt: HostRuntime) {
     let alloc = rt.alloc();
     let (sent, replies) = PULLED;
     let Ok(remote) = long_remote(alloc, &LONG_ARCHIVES[1]) else {
-        return Ok(());
+        return;
     };
     let disk = MemoryDisk::new(alloc);
     let Some(lacking) = served(&rt, alloc, sent, disk, Some(remote), standing(alloc)) else {
-        return Ok(());
+        return;
     };
     let told = lacking.sink.as_bytes();
     if lacking.served.status == Status::Ok {
@@ -194,14 +189,16 @@ fn a_pull_lacks_memory(rt: HostRuntime) -> Result<(), Fail> {
         let is_so = later.is_empty() || later == NO_BASE;
         same(&rt, &[u8::from(is_so)], &[1]);
     }
-    let remote = lacking.served.remote.as_ref().ok_or("no remote")?;
+    let remote = must(&rt, lacking.served.remote.as_ref().ok_or("no remote"));
     same_numbers(&rt, &[remote.faults()], &[0]);
     let entries = lacking.served.order.len();
-    println!(rt;
-        "status {}, {entries} entries",
-        lacking.served.status.number()
-    )?;
-    Ok(())
+    must(
+        &rt,
+        println!(rt;
+            "status {}, {entries} entries",
+            lacking.served.status.number()
+        ),
+    );
 }
 
 /// A backup, and a day later a FORGET and a collection.
@@ -223,7 +220,7 @@ fn assert_cut_short(rt: &impl Abort, order: &[Entry]) {
 
 /// The status is printed.
 #[test]
-fn a_collection_lacks_memory(rt: HostRuntime) -> Result<(), Fail> {
+fn a_collection_lacks_memory(rt: HostRuntime) {
     let alloc = rt.alloc();
     let (sent, replies) = COLLECTED;
     let moments = [
@@ -231,19 +228,21 @@ fn a_collection_lacks_memory(rt: HostRuntime) -> Result<(), Fail> {
         1_100_000,
     ];
     let Ok(moments) = moments.to_vec(alloc) else {
-        return Ok(());
+        return;
     };
     let disk = MemoryDisk::new(alloc);
     let clock = SetClock::new(moments, 0);
     let Some(lacking) = served(&rt, alloc, sent, disk, None, clock) else {
-        return Ok(());
+        return;
     };
     assert_cut_short(&rt, &lacking.served.order);
     if lacking.served.status == Status::Ok {
         same(&rt, lacking.sink.as_bytes(), replies);
     }
-    println!(rt; "status {}", lacking.served.status.number())?;
-    Ok(())
+    must(
+        &rt,
+        println!(rt; "status {}", lacking.served.status.number()),
+    );
 }
 
 /// A snapshot, what is left of another, and a temporary file.
@@ -278,22 +277,24 @@ const LISTED: Talk = (
 
 /// Where it was at opening, no command is read; the snapshot is there in every case. The status is printed.
 #[test]
-fn an_opening_lacks_memory(rt: HostRuntime) -> Result<(), Fail> {
+fn an_opening_lacks_memory(rt: HostRuntime) {
     let alloc = rt.alloc();
     let (sent, replies) = LISTED;
     let Ok(disk) = before_opening(alloc) else {
-        return Ok(());
+        return;
     };
     let Some(mut lacking) = served(&rt, alloc, sent, disk, None, standing(alloc)) else {
-        return Ok(());
+        return;
     };
     if lacking.served.report.lanes.is_empty() {
         let told = lacking.sink.as_bytes().len() as u64;
         same_numbers(&rt, &[lacking.served.order.len() as u64, told], &[0, 0]);
     }
-    assert_status(&rt, &lacking, replies)?;
-    let size = lacking.served.disk.size(MANIFEST)?.unwrap_or(0);
+    assert_status(&rt, &lacking, replies);
+    let size = must(&rt, lacking.served.disk.size(MANIFEST)).unwrap_or(0);
     same_numbers(&rt, &[size], &[ROOT_LISTED.len() as u64]);
-    println!(rt; "status {}", lacking.served.status.number())?;
-    Ok(())
+    must(
+        &rt,
+        println!(rt; "status {}", lacking.served.status.number()),
+    );
 }

@@ -2,7 +2,10 @@
 
 ghost use Rattle.std.specs.Prelude.{◌<◌, None};
 
+use super::gated::BACKUPS;
+use super::together::assert_end;
 use super::*;
+use crate::at_once::assert_lane;
 use port_traits::{Failed, Sink};
 
 /// A session, its replies, and where its frames and replies end, command by command.
@@ -46,32 +49,33 @@ const TO_BYE: Marked = Marked {
     reads: 245,
 };
 
-/// The disk holds the manifest of the snapshot that is finished, or nothing, beside the book of touches.
+/// The disk holds the manifest of the snapshot that is finished, or nothing, beside so many other files and the book of touches.
 fn assert_holds(
     rt: &impl Abort,
     alloc: Global,
     mut disk: MemoryDisk,
     is_finished: bool,
-) -> Result<(), Fail> {
-    let _ = disk.remove(".chunks/book")?;
-    let count = disk.list(alloc, "")?.len() as u64;
-    let size = disk.size(MANIFEST)?.unwrap_or(0);
+    others: u64,
+) {
+    let _ = must(rt, disk.remove(".chunks/book"));
+    let count = must(rt, disk.list(alloc, "")).len() as u64;
+    let size = must(rt, disk.size(MANIFEST)).unwrap_or(0);
     let want = if is_finished { [1, 86] } else { [0, 0] };
-    same_numbers(rt, &[count, size], &want);
-    Ok(())
+    same_numbers(rt, &[count.saturating_sub(others), size], &want);
+}
+
+/// The kinds of a lane that was cut off behind so many commands.
+fn cut_off(rt: &impl Abort, alloc: Global, commands: usize) -> Vec<u8> {
+    let mut kinds = must(rt, vec![in alloc; 0u8; commands]);
+    must(rt, kinds.push(6));
+    kinds
 }
 
 /// A lane was cut off behind so many commands. The first snapshot is there where its FINISH was done, and of a second nothing.
-fn assert_cut_off(
-    rt: &impl Abort,
-    alloc: Global,
-    served: Run,
-    commands: usize,
-) -> Result<(), Fail> {
-    let mut kinds = vec![in alloc; 0u8; commands]?;
-    kinds.push(6)?;
-    assert_kinds(rt, alloc, &served, &kinds)?;
-    assert_holds(rt, alloc, served.disk, commands >= 3)
+fn assert_cut_off(rt: &impl Abort, alloc: Global, served: Run, commands: usize) {
+    let kinds = cut_off(rt, alloc, commands);
+    assert_kinds(rt, alloc, &served, &kinds);
+    assert_holds(rt, alloc, served.disk, commands >= 3, 0)
 }
 
 /// How many commands are answered where so many bytes were taken, and how many bytes are told.
@@ -103,15 +107,15 @@ fn try_read(
     most: usize,
     call: u64,
     taken: u64,
-) -> Result<(), Fail>
+)
     requires { 0 < most }
 {
-    let failing = [call].to_vec(alloc)?;
-    let source = MemSource::new(row.input.to_vec(alloc)?, failing).at_most(most);
+    let failing = must(rt, [call].to_vec(alloc));
+    let source = MemSource::new(must(rt, row.input.to_vec(alloc)), failing).at_most(most);
     let sink = empty_sink(alloc);
     let port = Port { source, sink };
     let disk = MemoryDisk::new(alloc);
-    let Ran { sink, served } = session(rt, alloc, port, disk, None, standing(alloc))?;
+    let Ran { sink, served } = must(rt, session(rt, alloc, port, disk, None, standing(alloc)));
     let (commands, given) = answered_by(row, taken);
     let ending = Ending::SourceFault;
     let report = LaneReport {
@@ -120,23 +124,22 @@ fn try_read(
         ending,
     };
     same(rt, sink.as_bytes(), front(row.replies, given));
-    assert_report(rt, &served, Status::SourceFault, report)?;
+    assert_report(rt, &served, Status::SourceFault, report);
     assert_cut_off(rt, alloc, served, commands)
 }
 
 #[test]
-fn each_read_fails(rt: HostRuntime) -> Result<(), Fail> {
+fn each_read_fails(rt: HostRuntime) {
     let alloc = rt.alloc();
     // a first read asks for five bytes, and the next takes all
     for (call, taken) in [(0, 0), (1, 5), (2, 207)] {
-        try_read(&rt, alloc, &TO_THE_END, usize::MAX, call, taken)?;
+        try_read(&rt, alloc, &TO_THE_END, usize::MAX, call, taken);
     }
     for row in [&TO_THE_END, &TO_BYE] {
         for call in 0..row.reads {
-            try_read(&rt, alloc, row, 1, call, call)?;
+            try_read(&rt, alloc, row, 1, call, call);
         }
     }
-    Ok(())
 }
 
 /// A session's sink failed when so many bytes were taken, and so many told.
@@ -147,13 +150,13 @@ fn assert_sink_failed(
     served: Run,
     taken: u64,
     given: u64,
-) -> Result<(), Fail> {
+) {
     let report = LaneReport {
         taken,
         given,
         ending: Ending::SinkFault,
     };
-    assert_report(rt, &served, Status::SinkFault, report)?;
+    assert_report(rt, &served, Status::SinkFault, report);
     let (commands, _) = answered_before(row, given);
     assert_cut_off(rt, alloc, served, commands)
 }
@@ -166,31 +169,30 @@ fn try_write(
     told: u64,
     most: usize,
     taken: u64,
-) -> Result<(), Fail>
+)
     requires { 0 < most }
 {
-    let source = source_of(alloc, row.input)?.at_most(most);
-    let sink = MemSink::new(alloc, [told].to_vec(alloc)?).at_most(1);
+    let source = must(rt, source_of(alloc, row.input)).at_most(most);
+    let sink = MemSink::new(alloc, must(rt, [told].to_vec(alloc))).at_most(1);
     let port = Port { source, sink };
     let disk = MemoryDisk::new(alloc);
-    let Ran { sink, served } = session(rt, alloc, port, disk, None, standing(alloc))?;
+    let Ran { sink, served } = must(rt, session(rt, alloc, port, disk, None, standing(alloc)));
     same(rt, sink.as_bytes(), front(row.replies, told));
     assert_sink_failed(rt, alloc, row, served, taken, told)
 }
 
 /// Behind a failed write no more is read.
 #[test]
-fn each_write_fails(rt: HostRuntime) -> Result<(), Fail> {
+fn each_write_fails(rt: HostRuntime) {
     let alloc = rt.alloc();
     for row in [&TO_THE_END, &TO_BYE] {
         let all = row.input.len() as u64;
         for told in 0..row.replies.len() as u64 {
             let (_, taken) = answered_before(row, told);
-            try_write(&rt, alloc, row, told, usize::MAX, all)?;
-            try_write(&rt, alloc, row, told, 1, taken)?;
+            try_write(&rt, alloc, row, told, usize::MAX, all);
+            try_write(&rt, alloc, row, told, 1, taken);
         }
     }
-    Ok(())
 }
 
 /// A sink that takes so many bytes, and then nothing of what it is given. It never answers that it failed.
@@ -219,17 +221,46 @@ impl Sink for StuckSink {
     }
 }
 
-fn try_stuck(
-    rt: &(impl Abort + Threads + Wait + Sync),
-    alloc: Global,
-    room: usize,
-) -> Result<(), Fail> {
+/// The other has room for all of its replies.
+fn stuck_ports(rt: &impl Abort, alloc: Global, room: usize) -> Vec<Port<MemSource, StuckSink>> {
     let mut ports = Vec::new(alloc);
-    ports.push(Port {
-        source: source_of(alloc, UNFINISHED)?,
-        sink: StuckSink { room, faults: 0 },
-    })?;
-    let words = words::words_of(alloc, &["run", "root", "session"])?;
+    must(
+        rt,
+        ports.push(Port {
+            source: must(rt, source_of(alloc, UNFINISHED)),
+            sink: StuckSink { room, faults: 0 },
+        }),
+    );
+    must(
+        rt,
+        ports.push(Port {
+            source: must(rt, source_of(alloc, BACKUPS[1])),
+            sink: StuckSink {
+                room: 16,
+                faults: 0,
+            },
+        }),
+    );
+    ports
+}
+
+/// The first lane's sink failed when so many bytes were told. The second is told all.
+fn assert_stuck(rt: &impl Abort, alloc: Global, served: Run, told: u64) {
+    same(rt, &[served.status.number()], &[5]);
+    let [one, two] = served.report.lanes.as_slice() else {
+        panic!(rt; "not two lanes");
+    };
+    assert_end(rt, one, &[245, told, 1], Ending::SinkFault);
+    assert_end(rt, two, &[145, 16, 1], Ending::Clean);
+    let (commands, _) = answered_before(&TO_BYE, told);
+    assert_lane(rt, alloc, &served.order, 0, &cut_off(rt, alloc, commands));
+    assert_lane(rt, alloc, &served.order, 1, &[0, 0, 0, 6]);
+    assert_holds(rt, alloc, served.disk, commands >= 3, 1)
+}
+
+fn try_stuck(rt: &(impl Abort + Threads + Wait + Sync), alloc: Global, room: usize) {
+    let mut ports = stuck_ports(rt, alloc, room);
+    let words = words::asking(rt, alloc, 2);
     let served = serve(
         rt,
         alloc,
@@ -241,15 +272,13 @@ fn try_stuck(
         &mut empty_sink(alloc),
         &FreeGate,
     );
-    let taken = UNFINISHED.len() as u64;
-    assert_sink_failed(rt, alloc, &TO_BYE, served, taken, room as u64)
+    assert_stuck(rt, alloc, served, room as u64)
 }
 
-/// A write that takes nothing is a fault.
+/// A write that takes nothing is a fault, of its own lane alone.
 #[test]
-fn a_sink_takes_nothing(rt: HostRuntime) -> Result<(), Fail> {
+fn a_sink_takes_nothing(rt: HostRuntime) {
     for room in [0, 5, 6, 60] {
-        try_stuck(&rt, rt.alloc(), room)?;
+        try_stuck(&rt, rt.alloc(), room);
     }
-    Ok(())
 }

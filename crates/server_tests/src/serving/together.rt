@@ -131,55 +131,54 @@ static ROWS: [Row; 9] = [
 ];
 
 /// A lane took so many bytes, gave so many, and ended so.
-fn assert_end(rt: &impl Abort, found: &LaneReport, counts: &[u64], ending: Ending) {
+pub(crate) fn assert_end(rt: &impl Abort, found: &LaneReport, counts: &[u64], ending: Ending) {
     let is_so = found.ending == ending;
     same_numbers(rt, &[found.taken, found.given, u64::from(is_so)], counts);
 }
 
-fn try_beside(
-    rt: &(impl Abort + Threads + Wait + Sync),
-    alloc: Global,
-    row: &Row,
-) -> Result<(), Fail> {
-    let source = MemSource::new(row.input.to_vec(alloc)?, row.unread.to_vec(alloc)?);
-    let sink = MemSink::new(alloc, row.untaken.to_vec(alloc)?).at_most(1);
+fn try_beside(rt: &(impl Abort + Threads + Wait + Sync), alloc: Global, row: &Row) {
+    let source = MemSource::new(
+        must(rt, row.input.to_vec(alloc)),
+        must(rt, row.unread.to_vec(alloc)),
+    );
+    let sink = MemSink::new(alloc, must(rt, row.untaken.to_vec(alloc))).at_most(1);
     let mut ports = Vec::new(alloc);
-    ports.push(port_of(alloc, READ_BACK)?)?;
-    ports.push(Port { source, sink })?;
-    let words = words::asking(alloc, 2)?;
+    must(rt, ports.push(must(rt, port_of(alloc, READ_BACK))));
+    must(rt, ports.push(Port { source, sink }));
+    let words = words::asking(rt, alloc, 2);
     let disk = MemoryDisk::new(alloc);
     let served = run_words(rt, alloc, &words, &mut ports, disk, None, standing(alloc));
     let [one, two] = ports.as_slice() else {
-        return Err("not two ports".into());
+        panic!(rt; "not two ports");
     };
     same(rt, one.sink.as_bytes(), READ_BACK_REPLIES);
     same(rt, two.sink.as_bytes(), front(BROKEN_REPLIES, row.given));
-    assert_run(rt, alloc, &served, row)?;
+    assert_run(rt, alloc, &served, row);
     // nothing is left of it
-    let opened = port_of(alloc, OPENED)?;
-    let Ran { sink, .. } = session(rt, alloc, opened, served.disk, None, standing(alloc))?;
+    let opened = must(rt, port_of(alloc, OPENED));
+    let Ran { sink, .. } = must(
+        rt,
+        session(rt, alloc, opened, served.disk, None, standing(alloc)),
+    );
     same(rt, sink.as_bytes(), NO_BASE);
-    Ok(())
 }
 
 /// The status, the report and the entries of each lane.
-fn assert_run(rt: &impl Abort, alloc: Global, served: &Run, row: &Row) -> Result<(), Fail> {
+fn assert_run(rt: &impl Abort, alloc: Global, served: &Run, row: &Row) {
     same(rt, &[served.status.number()], &[row.status]);
     let [one, two] = served.report.lanes.as_slice() else {
-        return Err("not two lanes".into());
+        panic!(rt; "not two lanes");
     };
     assert_end(rt, one, &[207, 120, 1], Ending::Clean);
     assert_end(rt, two, &[row.taken, row.given, 1], row.ending);
-    assert_lane(rt, alloc, &served.order, 0, &[0, 0, 0, 0, 0, 6])?;
-    assert_lane(rt, alloc, &served.order, 1, row.kinds)?;
-    Ok(())
+    assert_lane(rt, alloc, &served.order, 0, &[0, 0, 0, 0, 0, 6]);
+    assert_lane(rt, alloc, &served.order, 1, row.kinds);
 }
 
 /// The first session backs up and reads back beside it. What the second left unfinished is gone.
 #[test]
-fn sessions_stand_beside_each_other(rt: HostRuntime) -> Result<(), Fail> {
+fn sessions_stand_beside_each_other(rt: HostRuntime) {
     for row in &ROWS {
-        try_beside(&rt, rt.alloc(), row)?;
+        try_beside(&rt, rt.alloc(), row);
     }
-    Ok(())
 }

@@ -12,7 +12,7 @@ pub fn words_of(alloc: Global, all: &[&str]) -> Result<Vec<String>, AllocError> 
 }
 
 /// A plan as the words that stand for root, remote and order, or a dash, and those of the sessions.
-fn push_plan(text: &mut String, plan: &Plan) -> Result<(), AllocError> {
+fn push_plan(rt: &impl Abort, text: &mut String, plan: &Plan) {
     let Plan::Run {
         root,
         remote,
@@ -21,16 +21,15 @@ fn push_plan(text: &mut String, plan: &Plan) -> Result<(), AllocError> {
     } = plan;
     for word in [Some(root), remote.as_ref(), order.as_ref()] {
         match word {
-            Some(word) => text.push_str(word.as_str())?,
-            None => text.push_str("-")?,
+            Some(word) => must(rt, text.push_str(word.as_str())),
+            None => must(rt, text.push_str("-")),
         }
-        text.push_str(" ")?;
+        must(rt, text.push_str(" "));
     }
     for session in sessions {
-        text.push_str(session.as_str())?;
-        text.push_str(" ")?;
+        must(rt, text.push_str(session.as_str()));
+        must(rt, text.push_str(" "));
     }
-    Ok(())
 }
 
 /// Words, and their plan.
@@ -87,31 +86,28 @@ static OTHERS: [&[&str]; 11] = [
     ],
 ];
 
-fn try_words(rt: &impl Abort, alloc: Global, all: &[&str], wanted: &[u8]) -> Result<(), Fail> {
+fn try_words(rt: &impl Abort, alloc: Global, all: &[&str], wanted: &[u8]) {
     let mut text = String::new(alloc);
-    match plan_words(alloc, &words_of(alloc, all)?) {
-        Ok(plan) => push_plan(&mut text, &plan)?,
-        Err(WordFault::NoReading) => text.push_str("no reading")?,
-        Err(WordFault::NoMemory) => text.push_str("no memory")?,
+    match plan_words(alloc, &must(rt, words_of(alloc, all))) {
+        Ok(plan) => push_plan(rt, &mut text, &plan),
+        Err(WordFault::NoReading) => must(rt, text.push_str("no reading")),
+        Err(WordFault::NoMemory) => must(rt, text.push_str("no memory")),
     }
     same(rt, text.as_bytes(), wanted);
-    Ok(())
 }
 
 #[test]
-fn words_are_read(rt: HostRuntime) -> Result<(), Fail> {
+fn words_are_read(rt: HostRuntime) {
     for (all, wanted) in &PLANS {
-        try_words(&rt, rt.alloc(), all, wanted)?;
+        try_words(&rt, rt.alloc(), all, wanted);
     }
-    Ok(())
 }
 
 #[test]
-fn other_words_are_none(rt: HostRuntime) -> Result<(), Fail> {
+fn other_words_are_none(rt: HostRuntime) {
     for all in &OTHERS {
-        try_words(&rt, rt.alloc(), all, b"no reading")?;
+        try_words(&rt, rt.alloc(), all, b"no reading");
     }
-    Ok(())
 }
 
 /// Each exit status with its number and its name.
@@ -131,30 +127,29 @@ static STATUSES: [(Status, u8, &str); 12] = [
 ];
 
 #[test]
-fn statuses_are_numbered_and_named(rt: HostRuntime) -> Result<(), Fail> {
+fn statuses_are_numbered_and_named(rt: HostRuntime) {
     for (status, number, name) in &STATUSES {
         same(&rt, &[status.number()], &[*number]);
         same(&rt, status.name().as_bytes(), name.as_bytes());
     }
-    Ok(())
 }
 
 /// So many ports, each with an empty session.
-fn empty_ports(alloc: Global, count: usize) -> Result<Vec<Port<MemSource, MemSink>>, AllocError> {
+fn empty_ports(rt: &impl Abort, alloc: Global, count: usize) -> Vec<Port<MemSource, MemSink>> {
     let mut ports = Vec::new(alloc);
     for _ in 0..count {
-        ports.push(port_of(alloc, b"")?)?;
+        must(rt, ports.push(must(rt, port_of(alloc, b""))));
     }
-    Ok(ports)
+    ports
 }
 
 /// The words `run root`, and so many sessions.
-pub fn asking(alloc: Global, sessions: usize) -> Result<Vec<String>, AllocError> {
-    let mut words = words_of(alloc, &["run", "root"])?;
+pub fn asking(rt: &impl Abort, alloc: Global, sessions: usize) -> Vec<String> {
+    let mut words = must(rt, words_of(alloc, &["run", "root"]));
     for _ in 0..sessions {
-        words.push(String::from_str(alloc, "session")?)?;
+        must(rt, words.push(must(rt, String::from_str(alloc, "session"))));
     }
-    Ok(words)
+    words
 }
 
 /// Sessions that words ask for, ports, and the status, the order's length and how many reports there are.
@@ -171,11 +166,11 @@ static COUNTS: [(usize, usize, [u64; 3]); 8] = [
 
 /// As many ports as words ask for, and 64 at most.
 #[test]
-fn ports_are_counted(rt: HostRuntime) -> Result<(), Fail> {
+fn ports_are_counted(rt: HostRuntime) {
     let alloc = rt.alloc();
     for (sessions, count, wanted) in &COUNTS {
-        let mut ports = empty_ports(alloc, *count)?;
-        let words = asking(alloc, *sessions)?;
+        let mut ports = empty_ports(&rt, alloc, *count);
+        let words = asking(&rt, alloc, *sessions);
         let disk = MemoryDisk::new(alloc);
         let served = run_words(&rt, alloc, &words, &mut ports, disk, None, standing(alloc));
         let found = [
@@ -185,5 +180,4 @@ fn ports_are_counted(rt: HostRuntime) -> Result<(), Fail> {
         ];
         same_numbers(&rt, &found, wanted);
     }
-    Ok(())
 }

@@ -2,4 +2,4 @@ use Rattle.std.proofs.Common.{◌≡◌, None}
 use Rattle.store_tests.proofs.backup.append_on.Given as goal
 
 abbrev pub invariant-loop-call : goal.invariant-loop-call
-invariant-loop-call l = l.w.pending ≡ None
+invariant-loop-call g l = l.w.pending ≡ None
