@@ -1,4 +1,4 @@
-//! Blobs, frames, commands and replies, indexes, manifests and books, against bytes made elsewhere.
+//! Blobs, frames, commands and replies, indexes, manifests, books and orders, against bytes made elsewhere.
 
 mod blobs;
 mod book;
@@ -8,3 +8,4 @@ mod fixed;
 mod fixtures;
 mod frames;
 mod manifests;
+mod order;

@@ -1,9 +1,8 @@
-use crate::asserts::{same, same_at};
+use crate::asserts::{must, same, same_at};
 use disk_trait::{Disk, DiskError, FailingDisk, MemoryDisk};
 use file_install::{drop_firm, install, install_firm};
 use std::alloc::Global;
 use std::process::Abort;
-use std::test::Fail;
 
 #[derive(Clone, Copy, Debug)]
 enum Change {
@@ -39,15 +38,18 @@ fn old_disk(alloc: Global) -> Result<MemoryDisk, DiskError> {
 }
 
 // What stands at `a`, `a.tmp` and `b`, each with a slash after it.
-fn shown(alloc: Global, disk: &mut MemoryDisk) -> Result<String, Fail> {
+fn shown(rt: &impl Abort, alloc: Global, disk: &mut MemoryDisk) -> String {
     let mut text = String::new(alloc);
     for name in ["a", "a.tmp", "b"] {
-        if let Some(bytes) = disk.read(alloc, name)? {
-            text.push_str(str::from_utf8(bytes.as_slice()).unwrap_or("no text"))?;
+        if let Some(bytes) = must(rt, disk.read(alloc, name)) {
+            must(
+                rt,
+                text.push_str(str::from_utf8(bytes.as_slice()).unwrap_or("no text")),
+            );
         }
-        text.push('/')?;
+        must(rt, text.push('/'));
     }
-    Ok(text)
+    text
 }
 
 // What stands there before a change and after it.
@@ -80,7 +82,7 @@ fn try_change(
     change: Change,
     k: u64,
     wants: &[Left; 3],
-) -> Result<(), Fail> {
+) {
     let is_whole = k == calls_of(change);
     let outcome = make(alloc, &mut disk, change);
     same_at(rt, (change, k), outcome.is_ok(), is_whole);
@@ -89,12 +91,12 @@ fn try_change(
     same_at(
         rt,
         (change, k),
-        shown(alloc, &mut left)?.as_str(),
+        shown(rt, alloc, &mut left).as_str(),
         text_of(wants[1]),
     );
     for choice in 0..3u8 {
-        let mut crashed = left.crashed(alloc, choice)?;
-        let reads = shown(alloc, &mut crashed)?;
+        let mut crashed = must(rt, left.crashed(alloc, choice));
+        let reads = shown(rt, alloc, &mut crashed);
         same_at(
             rt,
             (change, k, choice),
@@ -102,7 +104,6 @@ fn try_change(
             text_of(wants[choice as usize]),
         );
     }
-    Ok(())
 }
 
 static CHANGES: [(Change, u64, (Left, Left, Left)); 12] = [
@@ -125,25 +126,30 @@ static CHANGES: [(Change, u64, (Left, Left, Left)); 12] = [
 ];
 
 #[test]
-fn each_call_fails(rt: HostRuntime) -> Result<(), Fail> {
+fn each_call_fails(rt: HostRuntime) {
     let alloc = rt.alloc();
     for (change, k, left) in &CHANGES {
         let wants = [left.0, left.1, left.2];
-        let failing = FailingDisk::at_calls(old_disk(alloc)?, Vec::from_slice(alloc, &[*k])?);
-        try_change(&rt, alloc, failing, *change, *k, &wants)?;
-        let stopping = FailingDisk::stopping_after(old_disk(alloc)?, *k);
-        try_change(&rt, alloc, stopping, *change, *k, &wants)?;
+        let failing = FailingDisk::at_calls(
+            must(&rt, old_disk(alloc)),
+            must(&rt, Vec::from_slice(alloc, &[*k])),
+        );
+        try_change(&rt, alloc, failing, *change, *k, &wants);
+        let stopping = FailingDisk::stopping_after(must(&rt, old_disk(alloc)), *k);
+        try_change(&rt, alloc, stopping, *change, *k, &wants);
     }
-    Ok(())
 }
 
 // An absent file is dropped without a change.
 #[test]
-fn drops_nothing(rt: HostRuntime) -> Result<(), Fail> {
+fn drops_nothing(rt: HostRuntime) {
     let alloc = rt.alloc();
-    let mut disk = old_disk(alloc)?;
-    drop_firm(&mut disk, "c")?;
-    same(&rt, shown(alloc, &mut disk)?.as_str(), text_of(Left::Old));
+    let mut disk = must(&rt, old_disk(alloc));
+    must(&rt, drop_firm(&mut disk, "c"));
+    same(
+        &rt,
+        shown(&rt, alloc, &mut disk).as_str(),
+        text_of(Left::Old),
+    );
     same(&rt, disk.steps().len(), 4);
-    Ok(())
 }

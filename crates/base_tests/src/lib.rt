@@ -19,3 +19,5 @@ mod ports;
 mod prune;
 #[cfg(test)]
 mod turns;
+#[cfg(test)]
+mod words;

@@ -1,16 +1,15 @@
-use crate::asserts::same_at;
+use crate::asserts::{must, same_at};
 use lock_book::LockBook;
 use std::alloc::Global;
 use std::process::Abort;
-use std::test::Fail;
 use store_types::{GroupKey, SnapshotKey};
 
-fn group(alloc: Global, text: &str) -> Result<GroupKey, Fail> {
-    Ok(GroupKey::parse(alloc, text.as_bytes())??)
+fn group(rt: &impl Abort, alloc: Global, text: &str) -> GroupKey {
+    must(rt, must(rt, GroupKey::parse(alloc, text.as_bytes())))
 }
 
-fn snapshot(alloc: Global, text: &str) -> Result<SnapshotKey, Fail> {
-    Ok(SnapshotKey::parse(alloc, text.as_bytes())??)
+fn snapshot(rt: &impl Abort, alloc: Global, text: &str) -> SnapshotKey {
+    must(rt, must(rt, SnapshotKey::parse(alloc, text.as_bytes())))
 }
 
 /// What a lane asks of a lock book, by the names of groups and snapshots.
@@ -26,36 +25,42 @@ enum Ask {
 }
 
 /// The lane that holds what is asked for, where one does.
-fn holder(alloc: Global, book: &mut LockBook, lane: u32, ask: Ask) -> Result<Option<u32>, Fail> {
+fn holder(rt: &impl Abort, alloc: Global, book: &mut LockBook, lane: u32, ask: Ask) -> Option<u32> {
     let outcome = match ask {
-        Ask::Group(name) => book.group_take(lane, &group(alloc, name)?)?,
-        Ask::Writer(name) => book.writer_take(lane, &group(alloc, name)?, None)?,
+        Ask::Group(name) => must(rt, book.group_take(lane, &group(rt, alloc, name))),
+        Ask::Writer(name) => must(rt, book.writer_take(lane, &group(rt, alloc, name), None)),
         Ask::WriterOver(name, base) => {
-            book.writer_take(lane, &group(alloc, name)?, Some(&snapshot(alloc, base)?))?
+            must(
+                rt,
+                book.writer_take(
+                    lane,
+                    &group(rt, alloc, name),
+                    Some(&snapshot(rt, alloc, base)),
+                ),
+            )
         }
         Ask::Shared(name) => {
-            book.shared_take(lane, &snapshot(alloc, name)?)?;
+            must(rt, book.shared_take(lane, &snapshot(rt, alloc, name)));
             Ok(())
         }
-        Ask::FreeForWriter(name) => book.free_for_writer(lane, &group(alloc, name)?),
-        Ask::FreeForRemoval(name) => book.free_for_removal(&snapshot(alloc, name)?),
+        Ask::FreeForWriter(name) => book.free_for_writer(lane, &group(rt, alloc, name)),
+        Ask::FreeForRemoval(name) => book.free_for_removal(&snapshot(rt, alloc, name)),
         Ask::Release => {
             book.release(lane);
             Ok(())
         }
     };
-    Ok(outcome.err().map(|held| held.lane))
+    outcome.err().map(|held| held.lane)
 }
 
 /// Asks in turn of an empty book, and compares who holds what is asked for.
-fn ask_all(rt: &impl Abort, alloc: Global, asks: &[(u32, Ask, Option<u32>)]) -> Result<(), Fail> {
+fn ask_all(rt: &impl Abort, alloc: Global, asks: &[(u32, Ask, Option<u32>)]) {
     let mut book = LockBook::new(alloc);
     for (number, row) in asks.iter().enumerate() {
         let (lane, ask, want) = row;
-        let found = holder(alloc, &mut book, *lane, *ask)?;
+        let found = holder(rt, alloc, &mut book, *lane, *ask);
         same_at(rt, number, found, *want);
     }
-    Ok(())
 }
 
 static GROUPS: [(u32, Ask, Option<u32>); 11] = [
@@ -105,16 +110,16 @@ static SHARES: [(u32, Ask, Option<u32>); 12] = [
 ];
 
 #[test]
-fn a_group_has_one_lane(rt: HostRuntime) -> Result<(), Fail> {
+fn a_group_has_one_lane(rt: HostRuntime) {
     ask_all(&rt, rt.alloc(), &GROUPS)
 }
 
 #[test]
-fn a_writer_holds_its_base(rt: HostRuntime) -> Result<(), Fail> {
+fn a_writer_holds_its_base(rt: HostRuntime) {
     ask_all(&rt, rt.alloc(), &WRITERS)
 }
 
 #[test]
-fn a_snapshot_is_shared(rt: HostRuntime) -> Result<(), Fail> {
+fn a_snapshot_is_shared(rt: HostRuntime) {
     ask_all(&rt, rt.alloc(), &SHARES)
 }

@@ -1,7 +1,6 @@
-use crate::asserts::{same, same_at};
-use std::alloc::{AllocError, Global};
+use crate::asserts::{must, same, same_at};
+use std::alloc::Global;
 use std::process::Abort;
-use std::test::Fail;
 use store_types::{BadBlob, BadName, FileName, GroupKey, Kind, SnapshotKey, date_of_day};
 
 /// A snapshot's text, and what it names. The seconds are those of `date -u +%s`.
@@ -96,27 +95,26 @@ static NO_FILE_NAMES: [&str; 9] = [
     "aaaaaaaabbbbbbbbccccccccddddddddeeeeeeeeffffffff00000000112_.blob",
 ];
 
-fn check_snapshot(rt: &impl Abort, alloc: Global, row: &Row) -> Result<SnapshotKey, Fail> {
+fn check_snapshot(rt: &impl Abort, alloc: Global, row: &Row) -> SnapshotKey {
     let (text, kind, id, time) = row;
-    let key = SnapshotKey::parse(alloc, text.as_bytes())??;
+    let key = must(rt, must(rt, SnapshotKey::parse(alloc, text.as_bytes())));
     same(rt, (key.kind, key.time), (*kind, *time));
     same(rt, key.id.as_slice(), id.as_bytes());
-    same(rt, key.print(alloc)?.as_str(), *text);
-    Ok(key)
+    same(rt, must(rt, key.print(alloc)).as_str(), *text);
+    key
 }
 
 #[test]
-fn snapshots(rt: HostRuntime) -> Result<(), Fail> {
+fn snapshots(rt: HostRuntime) {
     let alloc = rt.alloc();
     let mut before: Option<SnapshotKey> = None;
     for row in &SNAPSHOTS {
-        let key = check_snapshot(&rt, alloc, row)?;
+        let key = check_snapshot(&rt, alloc, row);
         if let Some(before) = before {
             same_at(&rt, row.0, before < key, true);
         }
         before = Some(key);
     }
-    Ok(())
 }
 
 /// What a text may be the name of.
@@ -127,76 +125,79 @@ enum Named {
     File,
 }
 
-fn is_name(alloc: Global, named: Named, text: &[u8]) -> Result<bool, AllocError> {
+fn is_name(rt: &impl Abort, alloc: Global, named: Named, text: &[u8]) -> bool {
     match named {
-        Named::Snapshot => Ok(SnapshotKey::parse(alloc, text)?.is_ok()),
-        Named::Group => Ok(GroupKey::parse(alloc, text)?.is_ok()),
-        Named::File => Ok(FileName::check(alloc, text)?.is_ok()),
+        Named::Snapshot => must(rt, SnapshotKey::parse(alloc, text)).is_ok(),
+        Named::Group => must(rt, GroupKey::parse(alloc, text)).is_ok(),
+        Named::File => must(rt, FileName::check(alloc, text)).is_ok(),
     }
 }
 
-fn try_no_names(
-    rt: &impl Abort,
-    alloc: Global,
-    named: Named,
-    texts: &[&str],
-) -> Result<(), AllocError> {
+fn try_no_names(rt: &impl Abort, alloc: Global, named: Named, texts: &[&str]) {
     for text in texts {
-        let found = is_name(alloc, named, text.as_bytes())?;
+        let found = is_name(rt, alloc, named, text.as_bytes());
         same_at(rt, (named, *text), found, false);
     }
-    Ok(())
 }
 
 #[test]
-fn no_names(rt: HostRuntime) -> Result<(), Fail> {
+fn no_names(rt: HostRuntime) {
     let alloc = rt.alloc();
-    try_no_names(&rt, alloc, Named::Snapshot, &NO_SNAPSHOTS)?;
-    try_no_names(&rt, alloc, Named::Snapshot, &NO_TIMES)?;
-    try_no_names(&rt, alloc, Named::Group, &NO_GROUPS)?;
-    try_no_names(&rt, alloc, Named::File, &NO_FILE_NAMES)?;
-    Ok(())
+    try_no_names(&rt, alloc, Named::Snapshot, &NO_SNAPSHOTS);
+    try_no_names(&rt, alloc, Named::Snapshot, &NO_TIMES);
+    try_no_names(&rt, alloc, Named::Group, &NO_GROUPS);
+    try_no_names(&rt, alloc, Named::File, &NO_FILE_NAMES);
 }
 
-fn snapshot(alloc: Global) -> Result<SnapshotKey, Fail> {
-    Ok(SnapshotKey::parse(alloc, b"host/a/2020-01-15T06:30:03Z")??)
+fn snapshot(rt: &impl Abort, alloc: Global) -> SnapshotKey {
+    must(
+        rt,
+        must(
+            rt,
+            SnapshotKey::parse(alloc, b"host/a/2020-01-15T06:30:03Z"),
+        ),
+    )
 }
 
-fn group(alloc: Global, text: &[u8]) -> Result<GroupKey, Fail> {
-    Ok(GroupKey::parse(alloc, text)??)
+fn group(rt: &impl Abort, alloc: Global, text: &[u8]) -> GroupKey {
+    must(rt, must(rt, GroupKey::parse(alloc, text)))
 }
 
-fn try_copy(rt: &impl Abort, key: &SnapshotKey) -> Result<(), Fail> {
-    let copy = key.clone()?;
+fn try_copy(rt: &impl Abort, key: &SnapshotKey) {
+    let copy = must(rt, key.clone());
     same(rt, key.same_group(&copy), true);
     same(rt, copy == *key, true);
-    Ok(())
 }
 
-fn try_group(rt: &impl Abort, alloc: Global, key: &SnapshotKey) -> Result<(), Fail> {
-    let group = group(alloc, b"host/a")?;
+fn try_group(rt: &impl Abort, alloc: Global, key: &SnapshotKey) {
+    let group = group(rt, alloc, b"host/a");
     same(rt, key.is_of(&group), true);
-    same(rt, key.group(alloc)?, group);
-    Ok(())
+    same(rt, must(rt, key.group(alloc)), group);
 }
 
 #[test]
-fn keys(rt: HostRuntime) -> Result<(), Fail> {
-    let key = snapshot(rt.alloc())?;
-    try_copy(&rt, &key)?;
+fn keys(rt: HostRuntime) {
+    let key = snapshot(&rt, rt.alloc());
+    try_copy(&rt, &key);
     try_group(&rt, rt.alloc(), &key)
 }
 
-fn printed(alloc: Global, text: &[u8]) -> Result<String, Fail> {
-    Ok(GroupKey::parse(alloc, text)??.print(alloc)?)
+fn printed(rt: &impl Abort, alloc: Global, text: &[u8]) -> String {
+    must(
+        rt,
+        must(rt, must(rt, GroupKey::parse(alloc, text))).print(alloc),
+    )
 }
 
 #[test]
-fn groups(rt: HostRuntime) -> Result<(), Fail> {
-    same(&rt, printed(rt.alloc(), b"host/a")?.as_str(), "host/a");
-    let later = group(rt.alloc(), b"vm/9")?;
-    same(&rt, group(rt.alloc(), b"host/a")?.clone()? < later, true);
-    Ok(())
+fn groups(rt: HostRuntime) {
+    same(&rt, printed(&rt, rt.alloc(), b"host/a").as_str(), "host/a");
+    let later = group(&rt, rt.alloc(), b"vm/9");
+    same(
+        &rt,
+        must(&rt, group(&rt, rt.alloc(), b"host/a").clone()) < later,
+        true,
+    );
 }
 
 /// A name, and whether it is one of a fixed index, a dynamic index and a blob.
@@ -213,8 +214,8 @@ static FILE_NAMES: [FileRow; 4] = [
     ("root.didx", (false, true, false)),
 ];
 
-fn file(alloc: Global, text: &str) -> Result<FileName, Fail> {
-    Ok(FileName::check(alloc, text.as_bytes())??)
+fn file(rt: &impl Abort, alloc: Global, text: &str) -> FileName {
+    must(rt, must(rt, FileName::check(alloc, text.as_bytes())))
 }
 
 fn try_kinds(rt: &impl Abort, name: &FileName, row: &FileRow) {
@@ -225,33 +226,31 @@ fn try_kinds(rt: &impl Abort, name: &FileName, row: &FileRow) {
     same_at(rt, *text, name.is_manifest(), *text == "index.json.blob");
 }
 
-fn try_text(rt: &impl Abort, alloc: Global, name: &FileName, text: &str) -> Result<(), Fail> {
-    same(rt, name.print(alloc)?.as_str(), text);
-    let copy = name.clone()?;
-    let is_manifest = copy == FileName::manifest(alloc)?;
+fn try_text(rt: &impl Abort, alloc: Global, name: &FileName, text: &str) {
+    same(rt, must(rt, name.print(alloc)).as_str(), text);
+    let copy = must(rt, name.clone());
+    let is_manifest = copy == must(rt, FileName::manifest(alloc));
     same_at(rt, text, is_manifest, text == "index.json.blob");
-    Ok(())
 }
 
-fn check_file(rt: &impl Abort, alloc: Global, row: &FileRow) -> Result<FileName, Fail> {
-    let name = file(alloc, row.0)?;
+fn check_file(rt: &impl Abort, alloc: Global, row: &FileRow) -> FileName {
+    let name = file(rt, alloc, row.0);
     try_kinds(rt, &name, row);
-    try_text(rt, alloc, &name, row.0)?;
-    Ok(name)
+    try_text(rt, alloc, &name, row.0);
+    name
 }
 
 #[test]
-fn file_names(rt: HostRuntime) -> Result<(), Fail> {
+fn file_names(rt: HostRuntime) {
     let alloc = rt.alloc();
     let mut before: Option<FileName> = None;
     for row in &FILE_NAMES {
-        let name = check_file(&rt, alloc, row)?;
+        let name = check_file(&rt, alloc, row);
         if let Some(before) = before {
             same_at(&rt, row.0, before < name, true);
         }
         before = Some(name);
     }
-    Ok(())
 }
 
 #[test]
@@ -261,13 +260,12 @@ fn dates(rt: HostRuntime) {
 }
 
 #[test]
-fn faults(rt: HostRuntime) -> Result<(), Fail> {
+fn faults(rt: HostRuntime) {
     let fault = BadBlob::WrongCrc {
         kept: 0xcbf4_3927,
         found: 0xcbf4_3926,
     };
-    let text = format!(in rt.alloc(); "{fault}; {BadName}")?;
+    let text = must(&rt, format!(in rt.alloc(); "{fault}; {BadName}"));
     let want = "the checksum is cbf43926, where cbf43927 is kept; the name is not in its grammar";
     same(&rt, text.as_str(), want);
-    Ok(())
 }

@@ -1,11 +1,10 @@
-use crate::asserts::{same, same_at};
+use crate::asserts::{must, same, same_at};
 use port_traits::{
     Clock, Failed, FileSink, FileSource, FreeGate, Gate, MemSink, MemSource, SetClock, Sink,
     Source, WallClock, write_all_of, write_counted,
 };
 use std::io::{ErrorKind, Write};
 use std::process::Abort;
-use std::test::Fail;
 use std::time::Duration;
 use std::{fs, io};
 
@@ -29,40 +28,37 @@ fn pass<G: Gate + Sync>(gate: &G) {
 }
 
 #[test]
-fn memory_source_fails_at_the_listed_calls(rt: HostRuntime) -> Result<(), Fail> {
-    let bytes = b"abcde".to_vec(rt.alloc())?;
-    let mut source = MemSource::new(bytes, [1].to_vec(rt.alloc())?).at_most(2);
+fn memory_source_fails_at_the_listed_calls(rt: HostRuntime) {
+    let bytes = must(&rt, b"abcde".to_vec(rt.alloc()));
+    let mut source = MemSource::new(bytes, must(&rt, [1].to_vec(rt.alloc()))).at_most(2);
     let mut into = [0u8; 4];
     for want in [Ok(2), Err(Failed), Ok(2), Ok(1), Ok(0)] {
         same(&rt, read(&mut source, &mut into), want);
     }
     same(&rt, into, *b"ed\0\0");
     same(&rt, source.faults(), 1);
-    Ok(())
 }
 
 #[test]
-fn memory_sink_fails_at_the_listed_calls(rt: HostRuntime) -> Result<(), Fail> {
-    let mut sink = MemSink::new(rt.alloc(), [3].to_vec(rt.alloc())?).at_most(2);
+fn memory_sink_fails_at_the_listed_calls(rt: HostRuntime) {
+    let mut sink = MemSink::new(rt.alloc(), must(&rt, [3].to_vec(rt.alloc()))).at_most(2);
     same(&rt, write_all_of(&mut sink, b"abc"), Ok(()));
     same(&rt, put(&mut sink, b"defg"), (Err(Failed), 2));
     same(&rt, put(&mut sink, b"fg"), (Ok(()), 2));
     same(&rt, sink.faults(), 1);
     same(&rt, sink.as_bytes(), b"abcdefg".as_slice());
     same(&rt, sink.into_bytes().as_slice(), b"abcdefg".as_slice());
-    Ok(())
 }
 
 #[test]
-fn clocks_and_gates(rt: HostRuntime) -> Result<(), Fail> {
-    let mut clock = SetClock::new([5, 3].to_vec(rt.alloc())?, 9);
+fn clocks_and_gates(rt: HostRuntime) {
+    let mut clock = SetClock::new(must(&rt, [5, 3].to_vec(rt.alloc())), 9);
     for want in [5, 3, 9, 9] {
         same(&rt, tell(&mut clock), want);
     }
     let now = tell(&mut WallClock::new(rt));
     same_at(&rt, now, now > 1_600_000_000, true);
     pass(&FreeGate);
-    Ok(())
 }
 
 fn write_hello<K: Sink + Send>(rt: &impl Abort, sink: &mut K) {
@@ -77,22 +73,20 @@ fn read_hello<S: Source + Send>(rt: &impl Abort, source: &mut S) {
 }
 
 #[test]
-fn files_hold_what_was_written(rt: HostRuntime) -> Result<(), Fail> {
+fn files_hold_what_was_written(rt: HostRuntime) {
     let path = "port_traits_test.bin";
-    fs::write(&rt, path, "old text that is longer")?;
+    must(&rt, fs::write(&rt, path, "old text that is longer"));
     write_hello(&rt, &mut FileSink::create(&rt, path));
-    let path_of_source = String::from_str(rt.alloc(), path)?;
+    let path_of_source = must(&rt, String::from_str(rt.alloc(), path));
     read_hello(&rt, &mut FileSource::new(rt, path_of_source));
-    fs::remove_file(&rt, path)?;
-    Ok(())
+    must(&rt, fs::remove_file(&rt, path));
 }
 
 #[test]
-fn a_source_that_is_not_there(rt: HostRuntime) -> Result<(), Fail> {
-    let mut source = FileSource::new(rt, String::from_str(rt.alloc(), "no_such_file")?);
+fn a_source_that_is_not_there(rt: HostRuntime) {
+    let mut source = FileSource::new(rt, must(&rt, String::from_str(rt.alloc(), "no_such_file")));
     same(&rt, read(&mut source, &mut [0; 8]), Err(Failed));
     same(&rt, source.faults(), 1);
-    Ok(())
 }
 
 #[test]

@@ -1,13 +1,12 @@
 //! Dates with their weeks by ISO 8601, and prunes that were done by hand.
 
-ghost use Rattle.std.specs.Prelude.{◌≤◌, All, IfOk};
+ghost use Rattle.std.specs.Prelude.{◌≤◌, All};
 ghost use Rattle.store_types.specs.Times.{last_moment};
 
-use crate::asserts::same_at;
+use crate::asserts::{must, same_at};
 use prune_rules::{Item, Keep, Mark, marks, marks_into};
-use std::alloc::{AllocError, Global};
+use std::alloc::Global;
 use std::process::Abort;
-use std::test::Fail;
 
 /// Midnights, each with its year and week.
 static DATES: [(u32, u16, u8); 26] = [
@@ -64,63 +63,61 @@ const MONTHLY: Keep = Keep { monthly: 2, ..NONE };
 
 const YEARLY: Keep = Keep { yearly: 2, ..NONE };
 
-fn text_of(alloc: Global, marks: &[Mark]) -> Result<String, Fail> {
+fn text_of(rt: &impl Abort, alloc: Global, marks: &[Mark]) -> String {
     let mut text = String::new(alloc);
     for mark in marks {
-        text.push_str(if *mark == Mark::Kept { "k" } else { "-" })?;
+        must(
+            rt,
+            text.push_str(if *mark == Mark::Kept { "k" } else { "-" }),
+        );
     }
-    Ok(text)
+    text
 }
 
 /// The same marks, from slices that held others.
-fn marked_in_place(alloc: Global, items: &[Item], keep: &Keep) -> Result<Vec<Mark>, AllocError>
+fn marked_in_place(rt: &impl Abort, alloc: Global, items: &[Item], keep: &Keep) -> Vec<Mark>
     requires { All (λ item. item.time ≤ last_moment) items.now }
 {
-    let mut covered = vec![in alloc; true; items.len()]?;
-    let mut into = vec![in alloc; Mark::Kept; items.len()]?;
+    let mut covered = must(rt, vec![in alloc; true; items.len()]);
+    let mut into = must(rt, vec![in alloc; Mark::Kept; items.len()]);
     marks_into(items, keep, &mut covered, &mut into);
-    Ok(into)
+    into
 }
 
 /// Which of the times are kept, as `k` and `-`; nothing where the two calls differ.
-fn kept(alloc: Global, times: &[(u32, bool)], keep: Keep) -> Result<String, Fail> {
+fn kept(rt: &impl Abort, alloc: Global, times: &[(u32, bool)], keep: Keep) -> String {
     let mut items = Vec::new(alloc);
     for (time, finished) in times {
-        items.push(Item {
-            time: u64::from(*time),
-            finished: *finished,
-        })?;
+        must(
+            rt,
+            items.push(Item {
+                time: u64::from(*time),
+                finished: *finished,
+            }),
+        );
     }
-    let marks = marks(alloc, &items, &keep)?;
-    if marked_in_place(alloc, &items, &keep)? != marks {
-        return Ok(String::new(alloc));
+    let marks = must(rt, marks(alloc, &items, &keep));
+    if marked_in_place(rt, alloc, &items, &keep) != marks {
+        return String::new(alloc);
     }
-    text_of(alloc, &marks)
+    text_of(rt, alloc, &marks)
 }
 
 /// Compares whether two moments are in one period, by an option that keeps two of these, with whether they should be.
-fn try_period(
-    rt: &impl Abort,
-    alloc: Global,
-    moments: (u32, u32),
-    keep: Keep,
-    want: bool,
-) -> Result<(), Fail> {
-    let kept = kept(alloc, &[(moments.0, true), (moments.1, true)], keep)?;
+fn try_period(rt: &impl Abort, alloc: Global, moments: (u32, u32), keep: Keep, want: bool) {
+    let kept = kept(rt, alloc, &[(moments.0, true), (moments.1, true)], keep);
     same_at(rt, (moments, keep), kept.as_str() != "kk", want);
-    Ok(())
 }
 
 #[test]
-fn weeks_are_those_of_the_standard(rt: HostRuntime) -> Result<(), Fail> {
+fn weeks_are_those_of_the_standard(rt: HostRuntime) {
     for (time, year, week) in &DATES {
         let end = time.saturating_add(86_399);
         for (later, other_year, other_week) in &DATES {
             let same = year == other_year && week == other_week;
-            try_period(&rt, rt.alloc(), (end, *later), WEEKLY, same)?;
+            try_period(&rt, rt.alloc(), (end, *later), WEEKLY, same);
         }
     }
-    Ok(())
 }
 
 // The ends of months and of a year, each with its year and month.
@@ -133,16 +130,15 @@ static ENDS: [(u32, u16, u8); 5] = [
 ];
 
 #[test]
-fn months_and_years(rt: HostRuntime) -> Result<(), Fail> {
+fn months_and_years(rt: HostRuntime) {
     for (time, year, month) in &ENDS {
         for (later, other_year, other_month) in &ENDS {
             let moments = (*time, *later);
             let same = year == other_year && month == other_month;
-            try_period(&rt, rt.alloc(), moments, MONTHLY, same)?;
-            try_period(&rt, rt.alloc(), moments, YEARLY, year == other_year)?;
+            try_period(&rt, rt.alloc(), moments, MONTHLY, same);
+            try_period(&rt, rt.alloc(), moments, YEARLY, year == other_year);
         }
     }
-    Ok(())
 }
 
 // noon of 2020-12-31 (a Thursday), 2021-01-03 (a Sunday) and 2021-01-04
@@ -190,51 +186,52 @@ static PRUNES: [(&[(u32, bool)], Keep, &str); 9] = [
 ];
 
 #[test]
-fn prunes_by_hand(rt: HostRuntime) -> Result<(), Fail> {
+fn prunes_by_hand(rt: HostRuntime) {
     for (times, keep, want) in &PRUNES {
-        let found = kept(rt.alloc(), times, *keep)?;
+        let found = kept(&rt, rt.alloc(), times, *keep);
         same_at(&rt, (*times, *keep), found.as_str(), *want);
     }
-    Ok(())
 }
 
 /// So many of the first 8,192 minutes of 1970, in no order.
-fn minutes(alloc: Global, count: u16) -> Result<Vec<Item>, AllocError>
-    ensures { IfOk result (λ items. All (λ item. item.time ≤ last_moment) items.items) }
+fn minutes(rt: &impl Abort, alloc: Global, count: u16) -> Vec<Item>
+    ensures { All (λ item. item.time ≤ last_moment) result.items }
 {
     let mut items = Vec::new(alloc);
     for i in 0..count {
-        items.push(Item {
-            time: u64::from(i) * 7919 % 8192 * 60,
-            finished: true,
-        })?;
+        must(
+            rt,
+            items.push(Item {
+                time: u64::from(i) * 7919 % 8192 * 60,
+                finished: true,
+            }),
+        );
     }
-    Ok(items)
+    items
 }
 
 /// The kept minutes, in the items' order.
-fn kept_minutes(alloc: Global, items: &[Item], marks: &[Mark]) -> Result<Vec<u64>, AllocError> {
+fn kept_minutes(rt: &impl Abort, alloc: Global, items: &[Item], marks: &[Mark]) -> Vec<u64> {
     let mut kept = Vec::new(alloc);
     for (item, mark) in items.iter().zip(marks) {
         if *mark == Mark::Kept {
-            kept.push(item.time / 60)?;
+            must(rt, kept.push(item.time / 60));
         }
     }
-    Ok(kept)
+    kept
 }
 
 #[test]
-fn as_many_items_as_the_table_holds_and_more(rt: HostRuntime) -> Result<(), Fail> {
+fn as_many_items_as_the_table_holds_and_more(rt: HostRuntime) {
     let keep = Keep {
         last: 1,
         daily: 2,
         ..NONE
     };
     for count in [4096, 4097] {
-        let items = minutes(rt.alloc(), count)?;
-        let marks = marked_in_place(rt.alloc(), &items, &keep)?;
-        let kept = kept_minutes(rt.alloc(), &items, &marks)?;
+        let items = minutes(&rt, rt.alloc(), count);
+        let marks = marked_in_place(&rt, rt.alloc(), &items, &keep);
+        let kept = kept_minutes(&rt, rt.alloc(), &items, &marks);
         same_at(&rt, count, kept.as_slice(), [5759, 7198, 8191].as_slice());
     }
-    Ok(())
 }

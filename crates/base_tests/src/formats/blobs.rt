@@ -1,9 +1,8 @@
-use crate::asserts::same;
+use crate::asserts::{must, same};
 use crate::formats::fixtures::zeros;
 use blob_codec::{BadBlob, DATA_LIMIT, decode, encode};
 use std::alloc::Global;
 use std::process::Abort;
-use std::test::Fail;
 
 /// Data, and its blob.
 static KNOWN: [(&[u8], &[u8]); 3] = [
@@ -18,19 +17,17 @@ static KNOWN: [(&[u8], &[u8]); 3] = [
     ),
 ];
 
-fn try_blob(rt: &impl Abort, alloc: Global, data: &[u8], text: &[u8]) -> Result<(), Fail> {
-    let blob = encode(alloc, data)??;
+fn try_blob(rt: &impl Abort, alloc: Global, data: &[u8], text: &[u8]) {
+    let blob = must(rt, must(rt, encode(alloc, data)));
     same(rt, blob.as_slice(), text);
     same(rt, decode(text), Ok(data));
-    Ok(())
 }
 
 #[test]
-fn known_blobs(rt: HostRuntime) -> Result<(), Fail> {
+fn known_blobs(rt: HostRuntime) {
     for (data, text) in &KNOWN {
-        try_blob(&rt, rt.alloc(), data, text)?;
+        try_blob(&rt, rt.alloc(), data, text);
     }
-    Ok(())
 }
 
 static CAUSES: [(&[u8], BadBlob); 7] = [
@@ -69,28 +66,29 @@ fn first_cause(rt: HostRuntime) {
 }
 
 #[test]
-fn at_the_limit(rt: HostRuntime) -> Result<(), Fail> {
-    let most = zeros(rt.alloc(), DATA_LIMIT)?;
-    let blob = encode(rt.alloc(), &most)??;
+fn at_the_limit(rt: HostRuntime) {
+    let most = zeros(&rt, rt.alloc(), DATA_LIMIT);
+    let blob = must(&rt, must(&rt, encode(rt.alloc(), &most)));
     same(&rt, blob.len(), 16_777_228);
-    same(&rt, decode(&blob)?.len(), DATA_LIMIT);
-    Ok(())
+    same(&rt, must(&rt, decode(&blob)).len(), DATA_LIMIT);
 }
 
 /// A blob of nothing, with more behind it.
-fn longer(alloc: Global, more: &[u8]) -> Result<Vec<u8>, Fail> {
-    let mut long = Vec::from_slice(alloc, b"\x42\xab\x38\x07\xbe\x83\x70\xa1\0\0\0\0")?;
-    long.extend_from_slice(more)?;
-    Ok(long)
+fn longer(rt: &impl Abort, alloc: Global, more: &[u8]) -> Vec<u8> {
+    let mut long = must(
+        rt,
+        Vec::from_slice(alloc, b"\x42\xab\x38\x07\xbe\x83\x70\xa1\0\0\0\0"),
+    );
+    must(rt, long.extend_from_slice(more));
+    long
 }
 
 #[test]
-fn above_the_limit(rt: HostRuntime) -> Result<(), Fail> {
-    let more = zeros(rt.alloc(), DATA_LIMIT + 1)?;
-    let cause = encode(rt.alloc(), &more)?.err();
+fn above_the_limit(rt: HostRuntime) {
+    let more = zeros(&rt, rt.alloc(), DATA_LIMIT + 1);
+    let cause = must(&rt, encode(rt.alloc(), &more)).err();
     same(&rt, cause, Some(BadBlob::TooLong));
-    let long = longer(rt.alloc(), &more)?;
+    let long = longer(&rt, rt.alloc(), &more);
     same(&rt, long.len(), 16_777_229);
     same(&rt, decode(&long), Err(BadBlob::TooLong));
-    Ok(())
 }

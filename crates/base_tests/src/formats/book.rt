@@ -1,48 +1,45 @@
 //! Books whose bytes and checksums were made elsewhere.
 
-use crate::asserts::{same, same_at};
+use crate::asserts::{must, same, same_at};
 use crate::formats::fixtures::front;
 use atime_book::{Book, cutoff};
 use std::alloc::Global;
 use std::process::Abort;
-use std::test::Fail;
 use store_types::Digest32;
 
-fn add_head(text: &mut Vec<u8>, magic: &[u8], numbers: (u64, u64)) -> Result<(), Fail> {
-    text.extend_from_slice(magic)?;
-    text.extend_from_slice(&numbers.0.to_le_bytes())?;
-    text.extend_from_slice(&numbers.1.to_le_bytes())?;
-    Ok(())
+fn add_head(rt: &impl Abort, text: &mut Vec<u8>, magic: &[u8], numbers: (u64, u64)) {
+    must(rt, text.extend_from_slice(magic));
+    must(rt, text.extend_from_slice(&numbers.0.to_le_bytes()));
+    must(rt, text.extend_from_slice(&numbers.1.to_le_bytes()));
 }
 
-fn add_touches(text: &mut Vec<u8>, touches: &[(u8, u64)]) -> Result<(), Fail> {
+fn add_touches(rt: &impl Abort, text: &mut Vec<u8>, touches: &[(u8, u64)]) {
     for (byte, touched) in touches {
-        text.extend_from_slice(&[*byte; 32])?;
-        text.extend_from_slice(&touched.to_le_bytes())?;
+        must(rt, text.extend_from_slice(&[*byte; 32]));
+        must(rt, text.extend_from_slice(&touched.to_le_bytes()));
     }
-    Ok(())
 }
 
-fn add_csum(text: &mut Vec<u8>, csum: &str) -> Result<(), Fail> {
+fn add_csum(rt: &impl Abort, text: &mut Vec<u8>, csum: &str) {
     let mut sum = [0; 32];
-    hex::decode_to_slice(csum, &mut sum)?;
-    text.extend_from_slice(&sum)?;
-    Ok(())
+    must(rt, hex::decode_to_slice(csum, &mut sum));
+    must(rt, text.extend_from_slice(&sum));
 }
 
 /// A book's file: the magic, the last moment, the count, chunks whose digests have one byte 32 times, and a checksum.
 fn file(
+    rt: &impl Abort,
     alloc: Global,
     magic: &[u8],
     numbers: (u64, u64),
     touches: &[(u8, u64)],
     csum: &str,
-) -> Result<Vec<u8>, Fail> {
+) -> Vec<u8> {
     let mut text = Vec::new(alloc);
-    add_head(&mut text, magic, numbers)?;
-    add_touches(&mut text, touches)?;
-    add_csum(&mut text, csum)?;
-    Ok(text)
+    add_head(rt, &mut text, magic, numbers);
+    add_touches(rt, &mut text, touches);
+    add_csum(rt, &mut text, csum);
+    text
 }
 
 /// When a run starts, the oldest running session's start, and the cutoff.
@@ -75,19 +72,19 @@ fn touched(book: &Book) -> (Option<u64>, Option<u64>, Option<u64>) {
 }
 
 /// A book of two touches, as it is written.
-fn written(alloc: Global) -> Result<Vec<u8>, Fail> {
+fn written(rt: &impl Abort, alloc: Global) -> Vec<u8> {
     let mut book = Book::new(alloc);
-    book.touch(&Digest32([2; 32]), 1_000_000)?;
-    book.touch(&Digest32([1; 32]), 5)?;
-    Ok(book.text(alloc, 1_000_000)?)
+    must(rt, book.touch(&Digest32([2; 32]), 1_000_000));
+    must(rt, book.touch(&Digest32([1; 32]), 5));
+    must(rt, book.text(alloc, 1_000_000))
 }
 
-fn book_in(alloc: Global, text: &[u8]) -> Result<Book, Fail> {
-    Ok(Book::read(alloc, text)?.ok_or("a book")?)
+fn book_in(rt: &impl Abort, alloc: Global, text: &[u8]) -> Book {
+    must(rt, must(rt, Book::read(alloc, text)).ok_or("a book"))
 }
 
-fn saved(alloc: Global) -> Result<Book, Fail> {
-    book_in(alloc, &written(alloc)?)
+fn saved(rt: &impl Abort, alloc: Global) -> Book {
+    book_in(rt, alloc, &written(rt, alloc))
 }
 
 fn try_present(rt: &impl Abort, book: &mut Book) {
@@ -98,27 +95,25 @@ fn try_present(rt: &impl Abort, book: &mut Book) {
 }
 
 #[test]
-fn of_chunks_that_are_there(rt: HostRuntime) -> Result<(), Fail> {
-    let saved = saved(rt.alloc())?;
-    let mut present = saved.of_present(rt.alloc(), &[digest(1), digest(3)])?;
+fn of_chunks_that_are_there(rt: HostRuntime) {
+    let saved = saved(&rt, rt.alloc());
+    let mut present = must(&rt, saved.of_present(rt.alloc(), &[digest(1), digest(3)]));
     same(&rt, present.undated.as_slice(), [digest(3)].as_slice());
     try_present(&rt, &mut present.book);
-    Ok(())
 }
 
-fn try_read(rt: &impl Abort, alloc: Global, text: &[u8]) -> Result<(), Fail> {
-    let book = book_in(alloc, text)?;
+fn try_read(rt: &impl Abort, alloc: Global, text: &[u8]) {
+    let book = book_in(rt, alloc, text);
     same(rt, book.moment(), 1_000_000);
     same(rt, touched(&book), (Some(5), Some(1_000_000), None));
-    Ok(())
 }
 
 #[test]
-fn written_and_read(rt: HostRuntime) -> Result<(), Fail> {
+fn written_and_read(rt: HostRuntime) {
     let csum = "69341ebf56d98403b7610d7aea05ae6bb5d9d12a4e348d5a91590af28717e01c";
     let touches = [(1, 5), (2, 1_000_000)];
-    let text = file(rt.alloc(), b"PBSBOOK1", (1_000_000, 2), &touches, csum)?;
-    same(&rt, written(rt.alloc())?.as_slice(), text.as_slice());
+    let text = file(&rt, rt.alloc(), b"PBSBOOK1", (1_000_000, 2), &touches, csum);
+    same(&rt, written(&rt, rt.alloc()).as_slice(), text.as_slice());
     try_read(&rt, rt.alloc(), &text)
 }
 
@@ -183,29 +178,26 @@ static FILES: [Made; 8] = [
     ),
 ];
 
-fn is_book(alloc: Global, text: &[u8]) -> Result<bool, Fail> {
-    Ok(Book::read(alloc, text)?.is_some())
+fn is_book(rt: &impl Abort, alloc: Global, text: &[u8]) -> bool {
+    must(rt, Book::read(alloc, text)).is_some()
 }
 
-fn try_file(rt: &impl Abort, alloc: Global, row: &Made) -> Result<(), Fail> {
+fn try_file(rt: &impl Abort, alloc: Global, row: &Made) {
     let (magic, numbers, touches, csum, expected) = row;
-    let text = file(alloc, magic.as_slice(), *numbers, touches, csum)?;
-    same_at(rt, *csum, is_book(alloc, &text)?, *expected);
-    Ok(())
+    let text = file(rt, alloc, magic.as_slice(), *numbers, touches, csum);
+    same_at(rt, *csum, is_book(rt, alloc, &text), *expected);
 }
 
 #[test]
-fn no_books(rt: HostRuntime) -> Result<(), Fail> {
+fn no_books(rt: HostRuntime) {
     for row in &FILES {
-        try_file(&rt, rt.alloc(), row)?;
+        try_file(&rt, rt.alloc(), row);
     }
-    Ok(())
 }
 
 #[test]
-fn short_files(rt: HostRuntime) -> Result<(), Fail> {
-    let text = file(rt.alloc(), b"PBSBOOK1", (10, 1), &[(1, 5)], GOOD)?;
-    same(&rt, is_book(rt.alloc(), front(&text, 95))?, false);
-    same(&rt, is_book(rt.alloc(), b"")?, false);
-    Ok(())
+fn short_files(rt: HostRuntime) {
+    let text = file(&rt, rt.alloc(), b"PBSBOOK1", (10, 1), &[(1, 5)], GOOD);
+    same(&rt, is_book(&rt, rt.alloc(), front(&text, 95)), false);
+    same(&rt, is_book(&rt, rt.alloc(), b""), false);
 }

@@ -1,10 +1,9 @@
 ghost use Rattle.wire_commands.specs.HasText.{ReplyHasText};
 
-use crate::asserts::{same, same_at};
+use crate::asserts::{must, same, same_at};
 use port_traits::{Failed, MemSink, Sink};
 use std::alloc::Global;
 use std::process::Abort;
-use std::test::Fail;
 use wire_commands::{BadFrame, Command, Reply};
 
 /// Bodies of commands of writers.
@@ -275,6 +274,62 @@ static BAD_OTHER_REPLIES: [(u8, &[u8]); 14] = [
     (40, b"\0\0\0\0"),
 ];
 
+/// The text of the command that a body spells, where it spells one.
+fn text_read(rt: &impl Abort, alloc: Global, body: &[u8]) -> Option<Vec<u8>> {
+    match must(rt, Command::read(alloc, body)) {
+        Ok(command) => Some(must(rt, command.text(alloc))),
+        Err(BadFrame) => None,
+    }
+}
+
+fn try_command(rt: &impl Abort, alloc: Global, body: &[u8]) {
+    let text = text_read(rt, alloc, body);
+    same_at(rt, body, text.is_some(), true);
+    let text = must(rt, text.ok_or("no command"));
+    same_at(rt, body, text.as_slice(), body);
+}
+
+/// Each front of a body is no command, or the whole text of one.
+fn try_fronts(rt: &impl Abort, alloc: Global, body: &[u8]) {
+    for len in 0..body.len() {
+        let front = &body[..len];
+        if let Some(text) = text_read(rt, alloc, front) {
+            same_at(rt, body, text.as_slice(), front);
+        }
+    }
+}
+
+fn try_commands(rt: &impl Abort, alloc: Global, bodies: &[&[u8]]) {
+    for body in bodies {
+        try_command(rt, alloc, body);
+        try_fronts(rt, alloc, body);
+    }
+}
+
+#[test]
+fn commands(rt: HostRuntime) {
+    let alloc = rt.alloc();
+    try_commands(&rt, alloc, &WRITER_COMMANDS);
+    try_commands(&rt, alloc, &READER_COMMANDS);
+    try_commands(&rt, alloc, &OTHER_COMMANDS)
+}
+
+fn try_no_commands(rt: &impl Abort, alloc: Global, bodies: &[&[u8]]) {
+    for body in bodies {
+        let is_none = text_read(rt, alloc, body).is_none();
+        same_at(rt, *body, is_none, true);
+    }
+}
+
+#[test]
+fn no_commands(rt: HostRuntime) {
+    let alloc = rt.alloc();
+    try_no_commands(&rt, alloc, &BAD_WRITER_BODIES);
+    try_no_commands(&rt, alloc, &BAD_READER_BODIES);
+    try_no_commands(&rt, alloc, &BAD_OTHER_BODIES);
+    try_no_commands(&rt, alloc, &BAD_CODES)
+}
+
 /// How many bytes were given.
 fn put<K: Sink>(reply: &Reply, sink: &mut K) -> Result<u64, Failed>
     requires { ReplyHasText reply.now }
@@ -284,154 +339,103 @@ fn put<K: Sink>(reply: &Reply, sink: &mut K) -> Result<u64, Failed>
     Ok(given)
 }
 
-fn try_command(rt: &impl Abort, alloc: Global, body: &[u8]) -> Result<(), Fail> {
-    let read = Command::read(alloc, body)?;
-    same_at(rt, body, read.is_ok(), true);
-    let command = read?;
-    same_at(rt, body, command.text(alloc)?.as_slice(), body);
-    Ok(())
-}
-
-/// Each front of a body is no command, or the whole text of one.
-fn try_fronts(rt: &impl Abort, alloc: Global, body: &[u8]) -> Result<(), Fail> {
-    for len in 0..body.len() {
-        let front = &body[..len];
-        if let Ok(command) = Command::read(alloc, front)? {
-            same_at(rt, body, command.text(alloc)?.as_slice(), front);
-        }
-    }
-    Ok(())
-}
-
-fn try_commands(rt: &impl Abort, alloc: Global, bodies: &[&[u8]]) -> Result<(), Fail> {
-    for body in bodies {
-        try_command(rt, alloc, body)?;
-        try_fronts(rt, alloc, body)?;
-    }
-    Ok(())
-}
-
-#[test]
-fn commands(rt: HostRuntime) -> Result<(), Fail> {
-    let alloc = rt.alloc();
-    try_commands(&rt, alloc, &WRITER_COMMANDS)?;
-    try_commands(&rt, alloc, &READER_COMMANDS)?;
-    try_commands(&rt, alloc, &OTHER_COMMANDS)
-}
-
-fn try_no_commands(rt: &impl Abort, alloc: Global, bodies: &[&[u8]]) -> Result<(), Fail> {
-    for body in bodies {
-        let command = Command::read(alloc, body)?;
-        same_at(rt, *body, command.err(), Some(BadFrame));
-    }
-    Ok(())
-}
-
-#[test]
-fn no_commands(rt: HostRuntime) -> Result<(), Fail> {
-    let alloc = rt.alloc();
-    try_no_commands(&rt, alloc, &BAD_WRITER_BODIES)?;
-    try_no_commands(&rt, alloc, &BAD_READER_BODIES)?;
-    try_no_commands(&rt, alloc, &BAD_OTHER_BODIES)?;
-    try_no_commands(&rt, alloc, &BAD_CODES)
-}
-
-fn try_reply(rt: &impl Abort, alloc: Global, code: u8, frame: &[u8]) -> Result<(), Fail> {
-    let body = frame.get(4..).ok_or("no frame")?;
-    let reply = Reply::read(alloc, code, body)?;
-    same_at(rt, (code, body), reply.is_some(), true);
-    let reply = reply.ok_or("no reply")?;
-    try_put(rt, alloc, &reply, frame)
-}
-
-fn try_put(rt: &impl Abort, alloc: Global, reply: &Reply, frame: &[u8]) -> Result<(), Fail>
+/// The frame of a reply, and how many bytes are given where it is put once more.
+fn frame_of(rt: &impl Abort, alloc: Global, reply: &Reply) -> (Vec<u8>, u64)
     requires { ReplyHasText reply.now }
 {
     let mut sink = MemSink::new(alloc, Vec::new(alloc));
-    reply.put(&mut sink)?;
-    same_at(rt, frame, sink.as_bytes(), frame);
-    same_at(rt, frame, put(reply, &mut sink)?, frame.len() as u64);
-    Ok(())
+    must(rt, reply.put(&mut sink));
+    let frame = must(rt, sink.as_bytes().to_vec(alloc));
+    let given = must(rt, put(reply, &mut sink));
+    (frame, given)
+}
+
+/// The same of the reply to a command of the code that a body spells, where it spells one.
+fn frame_read(rt: &impl Abort, alloc: Global, code: u8, body: &[u8]) -> Option<(Vec<u8>, u64)> {
+    match must(rt, Reply::read(alloc, code, body)) {
+        Some(reply) => Some(frame_of(rt, alloc, &reply)),
+        None => None,
+    }
+}
+
+fn try_reply(rt: &impl Abort, alloc: Global, code: u8, frame: &[u8]) {
+    let body = must(rt, frame.get(4..).ok_or("no frame"));
+    let read = frame_read(rt, alloc, code, body);
+    same_at(rt, (code, body), read.is_some(), true);
+    let (found, given) = must(rt, read.ok_or("no reply"));
+    same_at(rt, frame, found.as_slice(), frame);
+    same_at(rt, frame, given, frame.len() as u64);
 }
 
 /// Each front of a reply's body is none to the code, or the whole body of one.
-fn try_short_replies(rt: &impl Abort, alloc: Global, code: u8, frame: &[u8]) -> Result<(), Fail> {
-    let body = frame.get(4..).ok_or("no frame")?;
+fn try_short_replies(rt: &impl Abort, alloc: Global, code: u8, frame: &[u8]) {
+    let body = must(rt, frame.get(4..).ok_or("no frame"));
     for len in 0..body.len() {
         let front = &body[..len];
-        if let Some(reply) = Reply::read(alloc, code, front)? {
-            let mut sink = MemSink::new(alloc, Vec::new(alloc));
-            reply.put(&mut sink)?;
-            same_at(rt, (code, body), sink.as_bytes().get(4..), Some(front));
+        if let Some((found, _)) = frame_read(rt, alloc, code, front) {
+            same_at(rt, (code, body), found.get(4..), Some(front));
         }
     }
-    Ok(())
 }
 
-fn try_replies(rt: &impl Abort, alloc: Global, replies: &[(u8, &[u8])]) -> Result<(), Fail> {
+fn try_replies(rt: &impl Abort, alloc: Global, replies: &[(u8, &[u8])]) {
     for (code, frame) in replies {
-        try_reply(rt, alloc, *code, frame)?;
-        try_short_replies(rt, alloc, *code, frame)?;
+        try_reply(rt, alloc, *code, frame);
+        try_short_replies(rt, alloc, *code, frame);
     }
-    Ok(())
 }
 
 #[test]
-fn replies(rt: HostRuntime) -> Result<(), Fail> {
+fn replies(rt: HostRuntime) {
     let alloc = rt.alloc();
-    try_replies(&rt, alloc, &SESSION_REPLIES)?;
+    try_replies(&rt, alloc, &SESSION_REPLIES);
     try_replies(&rt, alloc, &OTHER_REPLIES)
 }
 
 /// Refusals as replies to a code that no command has.
-fn try_refusals(rt: &impl Abort, alloc: Global, frames: &[&[u8]]) -> Result<(), Fail> {
+fn try_refusals(rt: &impl Abort, alloc: Global, frames: &[&[u8]]) {
     for frame in frames {
-        try_reply(rt, alloc, 99, frame)?;
-        try_short_replies(rt, alloc, 99, frame)?;
+        try_reply(rt, alloc, 99, frame);
+        try_short_replies(rt, alloc, 99, frame);
     }
-    Ok(())
 }
 
 #[test]
-fn refusals(rt: HostRuntime) -> Result<(), Fail> {
+fn refusals(rt: HostRuntime) {
     let alloc = rt.alloc();
-    try_refusals(&rt, alloc, &REFUSALS)?;
-    try_refusals(&rt, alloc, &LATER_REFUSALS)?;
+    try_refusals(&rt, alloc, &REFUSALS);
+    try_refusals(&rt, alloc, &LATER_REFUSALS);
     try_refusals(&rt, alloc, &LAST_REFUSALS)
 }
 
-fn try_no_reply(rt: &impl Abort, alloc: Global, code: u8, body: &[u8]) -> Result<(), Fail> {
-    let reply = Reply::read(alloc, code, body)?;
-    same_at(rt, (code, body), reply.is_none(), true);
-    Ok(())
+fn try_no_reply(rt: &impl Abort, alloc: Global, code: u8, body: &[u8]) {
+    let is_none = frame_read(rt, alloc, code, body).is_none();
+    same_at(rt, (code, body), is_none, true);
 }
 
-fn try_no_replies(rt: &impl Abort, alloc: Global, bodies: &[(u8, &[u8])]) -> Result<(), Fail> {
+fn try_no_replies(rt: &impl Abort, alloc: Global, bodies: &[(u8, &[u8])]) {
     for (code, body) in bodies {
-        try_no_reply(rt, alloc, *code, body)?;
+        try_no_reply(rt, alloc, *code, body);
     }
-    Ok(())
 }
 
 #[test]
-fn no_replies(rt: HostRuntime) -> Result<(), Fail> {
+fn no_replies(rt: HostRuntime) {
     let alloc = rt.alloc();
-    try_no_replies(&rt, alloc, &BAD_SESSION_REPLIES)?;
-    try_no_replies(&rt, alloc, &BAD_OTHER_REPLIES)?;
+    try_no_replies(&rt, alloc, &BAD_SESSION_REPLIES);
+    try_no_replies(&rt, alloc, &BAD_OTHER_REPLIES);
     // to the opening of a writer
     for body in &BAD_REFUSALS {
-        try_no_reply(&rt, alloc, 10, body)?;
+        try_no_reply(&rt, alloc, 10, body);
     }
-    Ok(())
 }
 
 /// A CHUNK, and the reply to a GET_CHUNK, of a byte more than a frame has.
 #[test]
-fn bodies_have_a_limit(rt: HostRuntime) -> Result<(), Fail> {
+fn bodies_have_a_limit(rt: HostRuntime) {
     let alloc = rt.alloc();
-    let command = vec![in alloc; 14u8; 16_778_241]?;
-    same(&rt, Command::read(alloc, &command)?.err(), Some(BadFrame));
-    let reply = vec![in alloc; 0u8; 16_778_241]?;
-    same(&rt, Reply::read(alloc, 22, &reply)?.is_none(), true);
-    Ok(())
+    let command = must(&rt, vec![in alloc; 14u8; 16_778_241]);
+    same(&rt, text_read(&rt, alloc, &command).is_none(), true);
+    let reply = must(&rt, vec![in alloc; 0u8; 16_778_241]);
+    same(&rt, frame_read(&rt, alloc, 22, &reply).is_none(), true);
 }

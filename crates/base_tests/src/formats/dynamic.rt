@@ -1,11 +1,10 @@
 //! Indexes against bytes and checksums that were made elsewhere.
 
-use crate::asserts::{same, same_at};
+use crate::asserts::{must, same, same_at};
 use crate::formats::fixtures::{ABC, ABC_BYTES, front, put, same_parts, zeros};
 use dynamic_index::{BadIndex, DynamicView, DynamicWriter, IndexFault};
 use std::alloc::Global;
 use std::process::Abort;
-use std::test::Fail;
 use store_types::Digest32;
 
 /// SHA-256 of `de`.
@@ -27,14 +26,14 @@ const EMPTY_CSUM: [u8; 32] = [
 ];
 
 /// The index of the pieces `abc` and `de`.
-fn two_pieces(rt: &impl Abort, alloc: Global) -> Result<Vec<u8>, Fail> {
+fn two_pieces(rt: &impl Abort, alloc: Global) -> Vec<u8> {
     let mut writer = DynamicWriter::new(alloc, [1; 16], 1_579_069_803);
-    writer.append(&ABC, 3)?;
-    writer.append_all(alloc, &[(Digest32(DE), 2)])?;
+    must(rt, writer.append(&ABC, 3));
+    must(rt, writer.append_all(alloc, &[(Digest32(DE), 2)]));
     let (entries, end, csum) = writer.facts();
     same(rt, (entries, end), (2, 5));
     same(rt, csum, Digest32(CSUM));
-    Ok(writer.close(alloc)?)
+    must(rt, writer.close(alloc))
 }
 
 /// The index's text, but for the zeros of its head.
@@ -50,13 +49,12 @@ static PARTS: [(usize, usize, &[u8]); 8] = [
 ];
 
 #[test]
-fn text_of_two_pieces(rt: HostRuntime) -> Result<(), Fail> {
-    let text = two_pieces(&rt, rt.alloc())?;
+fn text_of_two_pieces(rt: HostRuntime) {
+    let text = two_pieces(&rt, rt.alloc());
     same(&rt, text.len(), 4176);
     same_parts(&rt, &text, &PARTS);
-    let head = zeros(rt.alloc(), 4096 - 64)?;
+    let head = zeros(&rt, rt.alloc(), 4096 - 64);
     same_parts(&rt, &text, &[(64, 4096, &head)]);
-    Ok(())
 }
 
 /// Offsets, and the piece that each is in.
@@ -70,9 +68,9 @@ static PLACES: [(u64, Option<u32>); 6] = [
 ];
 
 #[test]
-fn view_of_two_pieces(rt: HostRuntime) -> Result<(), Fail> {
-    let text = two_pieces(&rt, rt.alloc())?;
-    let view = DynamicView::open_on(&text)?;
+fn view_of_two_pieces(rt: HostRuntime) {
+    let text = two_pieces(&rt, rt.alloc());
+    let view = must(&rt, DynamicView::open_on(&text));
     same(&rt, (view.len(), view.size()), (2, 5));
     same(&rt, view.csum(), Digest32(CSUM));
     same(&rt, piece(&view, 0), Some((ABC, (0, 3))));
@@ -80,7 +78,6 @@ fn view_of_two_pieces(rt: HostRuntime) -> Result<(), Fail> {
     for (offset, place) in &PLACES {
         same_at(&rt, *offset, view.chunk_at(*offset), *place);
     }
-    Ok(())
 }
 
 /// A piece's digest, and where it begins and ends.
@@ -93,16 +90,15 @@ fn piece(view: &DynamicView, i: u32) -> Option<(Digest32, (u64, u64))> {
 }
 
 #[test]
-fn no_pieces(rt: HostRuntime) -> Result<(), Fail> {
+fn no_pieces(rt: HostRuntime) {
     let writer = DynamicWriter::new(rt.alloc(), [0; 16], -1);
     same(&rt, writer.facts(), (0, 0, Digest32(EMPTY_CSUM)));
-    let text = writer.close(rt.alloc())?;
+    let text = must(&rt, writer.close(rt.alloc()));
     same(&rt, text.len(), 4096);
     same_parts(&rt, &text, &[(32, 64, &EMPTY_CSUM)]);
-    let view = DynamicView::open_on(&text)?;
+    let view = must(&rt, DynamicView::open_on(&text));
     same(&rt, (view.len(), view.size()), (0, 0));
     same(&rt, view.chunk_at(0), None);
-    Ok(())
 }
 
 fn cause_of(bytes: &[u8]) -> Option<IndexFault> {
@@ -129,24 +125,22 @@ static CAUSES: [(&[(usize, u8)], usize, Option<IndexFault>); 14] = [
 ];
 
 #[test]
-fn first_cause(rt: HostRuntime) -> Result<(), Fail> {
-    let text = two_pieces(&rt, rt.alloc())?;
+fn first_cause(rt: HostRuntime) {
+    let text = two_pieces(&rt, rt.alloc());
     for (changes, len, cause) in &CAUSES {
-        let mut changed = text.clone()?;
+        let mut changed = must(&rt, text.clone());
         for (at, byte) in *changes {
             put(&mut changed, *at, &[*byte]);
         }
         same_at(&rt, *changes, cause_of(front(&changed, *len)), *cause);
     }
-    Ok(())
 }
 
 #[test]
-fn too_many_pieces(rt: HostRuntime) -> Result<(), Fail> {
-    let mut long = zeros(rt.alloc(), 4096 + 40 * 1_048_577)?;
+fn too_many_pieces(rt: HostRuntime) {
+    let mut long = zeros(&rt, rt.alloc(), 4096 + 40 * 1_048_577);
     put(&mut long, 0, b"\x1c\x91\x4e\xa5\x19\xba\xb3\xcd");
     same(&rt, cause_of(&long), Some(IndexFault::Count));
     let most = front(&long, 4096 + 40 * 1_048_576);
     same(&rt, cause_of(most), Some(IndexFault::Sizes));
-    Ok(())
 }

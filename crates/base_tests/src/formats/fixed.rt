@@ -1,11 +1,10 @@
 //! Indexes against bytes and checksums that were made elsewhere.
 
-use crate::asserts::{same, same_at};
+use crate::asserts::{must, same, same_at};
 use crate::formats::fixtures::{front, put, same_parts, zeros};
 use fixed_index::{BadIndex, FixedView, FixedWriter, IndexFault};
 use std::alloc::Global;
 use std::process::Abort;
-use std::test::Fail;
 use store_types::Digest32;
 
 /// SHA-256 of 32 bytes 07 and 32 bytes 09.
@@ -15,12 +14,12 @@ const CSUM: [u8; 32] = [
 ];
 
 /// The index of an archive in a piece of 4,096 and one of one byte.
-fn two_pieces(rt: &impl Abort, alloc: Global) -> Result<Vec<u8>, Fail> {
+fn two_pieces(rt: &impl Abort, alloc: Global) -> Vec<u8> {
     let mut writer = FixedWriter::new(alloc, [1; 16], 1_579_069_803, 4097, 4096);
-    writer.append(&Digest32([7; 32]), 4096)?;
-    writer.append(&Digest32([9; 32]), 1)?;
+    must(rt, writer.append(&Digest32([7; 32]), 4096));
+    must(rt, writer.append(&Digest32([9; 32]), 1));
     same(rt, writer.facts(), (2, 4097, Digest32(CSUM)));
-    Ok(writer.close(alloc)?)
+    must(rt, writer.close(alloc))
 }
 
 /// The text with a last piece of one byte, but for the zeros of its head.
@@ -36,13 +35,12 @@ static PARTS: [(usize, usize, &[u8]); 8] = [
 ];
 
 #[test]
-fn text_of_a_short_last_piece(rt: HostRuntime) -> Result<(), Fail> {
-    let text = two_pieces(&rt, rt.alloc())?;
+fn text_of_a_short_last_piece(rt: HostRuntime) {
+    let text = two_pieces(&rt, rt.alloc());
     same(&rt, text.len(), 4160);
     same_parts(&rt, &text, &PARTS);
-    let head = zeros(rt.alloc(), 4096 - 80)?;
+    let head = zeros(&rt, rt.alloc(), 4096 - 80);
     same_parts(&rt, &text, &[(80, 4096, &head)]);
-    Ok(())
 }
 
 /// A piece's digest, and where it begins and ends.
@@ -55,9 +53,9 @@ fn piece(view: &FixedView, i: u32) -> Option<(Digest32, (u64, u64))> {
 }
 
 #[test]
-fn view_of_a_short_last_piece(rt: HostRuntime) -> Result<(), Fail> {
-    let text = two_pieces(&rt, rt.alloc())?;
-    let view = FixedView::open_on(&text)?;
+fn view_of_a_short_last_piece(rt: HostRuntime) {
+    let text = two_pieces(&rt, rt.alloc());
+    let view = must(&rt, FixedView::open_on(&text));
     same(&rt, view.len(), 2);
     same(&rt, piece(&view, 0), Some((Digest32([7; 32]), (0, 4096))));
     same(
@@ -67,16 +65,17 @@ fn view_of_a_short_last_piece(rt: HostRuntime) -> Result<(), Fail> {
     );
     same(&rt, (view.size(), view.chunk_size()), (4097, 4096));
     same(&rt, view.csum(), Digest32(CSUM));
-    Ok(())
 }
 
 #[test]
-fn no_pieces(rt: HostRuntime) -> Result<(), Fail> {
-    let text = FixedWriter::new(rt.alloc(), [0; 16], -1, 0, 16_777_216).close(rt.alloc())?;
+fn no_pieces(rt: HostRuntime) {
+    let text = must(
+        &rt,
+        FixedWriter::new(rt.alloc(), [0; 16], -1, 0, 16_777_216).close(rt.alloc()),
+    );
     same(&rt, text.len(), 4096);
     same_parts(&rt, &text, &[(32, 36, b"\xe3\xb0\xc4\x42")]);
-    same(&rt, FixedView::open_on(&text)?.len(), 0);
-    Ok(())
+    same(&rt, must(&rt, FixedView::open_on(&text)).len(), 0);
 }
 
 fn cause_of(bytes: &[u8]) -> Option<IndexFault> {
@@ -102,23 +101,21 @@ static FRONTS: [(usize, Option<IndexFault>); 4] = [
 ];
 
 #[test]
-fn first_cause(rt: HostRuntime) -> Result<(), Fail> {
-    let text = two_pieces(&rt, rt.alloc())?;
+fn first_cause(rt: HostRuntime) {
+    let text = two_pieces(&rt, rt.alloc());
     for (at, byte, cause) in &CAUSES {
-        let mut changed = text.clone()?;
+        let mut changed = must(&rt, text.clone());
         put(&mut changed, *at, &[*byte]);
         same_at(&rt, *at, cause_of(&changed), Some(*cause));
     }
     for (len, cause) in &FRONTS {
         same_at(&rt, *len, cause_of(front(&text, *len)), *cause);
     }
-    Ok(())
 }
 
 #[test]
-fn too_many_pieces(rt: HostRuntime) -> Result<(), Fail> {
-    let mut long = zeros(rt.alloc(), 4096 + 32 * 1_048_577)?;
+fn too_many_pieces(rt: HostRuntime) {
+    let mut long = zeros(&rt, rt.alloc(), 4096 + 32 * 1_048_577);
     put(&mut long, 0, b"\x2f\x7f\x41\xed\x91\xfd\x0f\xcd");
     same(&rt, cause_of(&long), Some(IndexFault::Count));
-    Ok(())
 }

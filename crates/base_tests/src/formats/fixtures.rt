@@ -1,7 +1,7 @@
 //! Digests, and bytes that several tests change.
 
-use crate::asserts::same_at;
-use std::alloc::{AllocError, Global};
+use crate::asserts::{must, same_at};
+use std::alloc::Global;
 use std::process::Abort;
 use store_types::Digest32;
 
@@ -13,8 +13,8 @@ pub(crate) const ABC_BYTES: [u8; 32] = [
 
 pub(crate) const ABC: Digest32 = Digest32(ABC_BYTES);
 
-pub(crate) fn zeros(alloc: Global, count: usize) -> Result<Vec<u8>, AllocError> {
-    vec![in alloc; 0; count]
+pub(crate) fn zeros(rt: &impl Abort, alloc: Global, count: usize) -> Vec<u8> {
+    must(rt, vec![in alloc; 0; count])
 }
 
 /// The first bytes, where there are so many.

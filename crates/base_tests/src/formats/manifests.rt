@@ -1,9 +1,8 @@
-use crate::asserts::{same, same_at};
+use crate::asserts::{must, same, same_at};
 use crate::formats::fixtures::ABC;
 use manifest::{BadManifest, FileFact, Manifest, check, read};
-use std::alloc::{AllocError, Global};
+use std::alloc::Global;
 use std::process::Abort;
-use std::test::Fail;
 use store_types::{Bytes, Digest32, FileName, Kind, Rows, SnapshotKey};
 
 const ZEROS: Digest32 = Digest32([0; 32]);
@@ -183,82 +182,79 @@ static ENTRIES: [(&str, u8); 18] = [
     ),
 ];
 
-fn cause_of(alloc: Global, text: &[u8]) -> Result<u8, AllocError> {
-    match read(alloc, text)? {
-        Ok(_) => Ok(0),
-        Err(BadManifest { cause }) => Ok(cause),
+fn cause_of(rt: &impl Abort, alloc: Global, text: &[u8]) -> u8 {
+    match must(rt, read(alloc, text)) {
+        Ok(_) => 0,
+        Err(BadManifest { cause }) => cause,
     }
 }
 
-fn with_entries(alloc: Global, entries: &str) -> Result<String, AllocError> {
-    let mut text = String::from_str(alloc, FRONT)?;
-    text.push_str(entries)?;
-    text.push_str(BACK)?;
-    Ok(text)
+fn with_entries(rt: &impl Abort, alloc: Global, entries: &str) -> String {
+    let mut text = must(rt, String::from_str(alloc, FRONT));
+    must(rt, text.push_str(entries));
+    must(rt, text.push_str(BACK));
+    text
 }
 
 /// A manifest's text with so many arrays, one in another, under a key that is not read.
-fn nested(alloc: Global, depth: usize) -> Result<String, AllocError> {
-    let mut text = String::from_str(
-        alloc,
-        "{\"backup-id\":\"a\",\"backup-time\":1,\"backup-type\":\"host\",\"files\":[],\"x\":",
-    )?;
+fn nested(rt: &impl Abort, alloc: Global, depth: usize) -> String {
+    let mut text = must(
+        rt,
+        String::from_str(
+            alloc,
+            "{\"backup-id\":\"a\",\"backup-time\":1,\"backup-type\":\"host\",\"files\":[],\"x\":",
+        ),
+    );
     for _ in 0..depth {
-        text.push('[')?;
+        must(rt, text.push('['));
     }
     for _ in 0..depth {
-        text.push(']')?;
+        must(rt, text.push(']'));
     }
-    text.push('}')?;
-    Ok(text)
+    must(rt, text.push('}'));
+    text
 }
 
-fn try_cause(rt: &impl Abort, alloc: Global, text: &str, want: u8) -> Result<(), Fail> {
-    let found = cause_of(alloc, text.as_bytes())?;
+fn try_cause(rt: &impl Abort, alloc: Global, text: &str, want: u8) {
+    let found = cause_of(rt, alloc, text.as_bytes());
     same_at(rt, text, found, want);
-    Ok(())
 }
 
 #[test]
-fn first_cause(rt: HostRuntime) -> Result<(), Fail> {
+fn first_cause(rt: HostRuntime) {
     for (text, cause) in &WHOLE {
-        try_cause(&rt, rt.alloc(), text, *cause)?;
+        try_cause(&rt, rt.alloc(), text, *cause);
     }
-    Ok(())
 }
 
 #[test]
-fn first_cause_of_values(rt: HostRuntime) -> Result<(), Fail> {
+fn first_cause_of_values(rt: HostRuntime) {
     for (text, cause) in &VALUES {
-        try_cause(&rt, rt.alloc(), text, *cause)?;
+        try_cause(&rt, rt.alloc(), text, *cause);
     }
-    Ok(())
 }
 
 #[test]
-fn no_text(rt: HostRuntime) -> Result<(), Fail> {
-    let found = cause_of(rt.alloc(), b"\"\xff\"")?;
+fn no_text(rt: HostRuntime) {
+    let found = cause_of(&rt, rt.alloc(), b"\"\xff\"");
     same(&rt, found, 1);
-    Ok(())
 }
 
 #[test]
-fn first_cause_of_entries(rt: HostRuntime) -> Result<(), Fail> {
+fn first_cause_of_entries(rt: HostRuntime) {
     for (entries, cause) in &ENTRIES {
-        let text = with_entries(rt.alloc(), entries)?;
-        try_cause(&rt, rt.alloc(), text.as_str(), *cause)?;
+        let text = with_entries(&rt, rt.alloc(), entries);
+        try_cause(&rt, rt.alloc(), text.as_str(), *cause);
     }
-    Ok(())
 }
 
 #[test]
-fn nested_as_deep_as_is_read(rt: HostRuntime) -> Result<(), Fail> {
+fn nested_as_deep_as_is_read(rt: HostRuntime) {
     for (depth, cause) in [(126, 0), (127, 1)] {
-        let text = nested(rt.alloc(), depth)?;
-        let found = cause_of(rt.alloc(), text.as_bytes())?;
+        let text = nested(&rt, rt.alloc(), depth);
+        let found = cause_of(&rt, rt.alloc(), text.as_bytes());
         same_at(&rt, depth, found, cause);
     }
-    Ok(())
 }
 
 /// Compares a listed file with its name, size and checksum.
@@ -270,30 +266,32 @@ fn same_file(rt: &impl Abort, file: &FileFact, want: Listed) {
 const TWO: &str =
     "{\"filename\":\"root.didx\",\"size\":5,\"csum\":\"BA7816BF8F01CFEA414140DE5DAE2223B00361A396177A9CB410FF61F20015AD\",\"extra\":[]},{\"crypt-mode\":\"none\",\"csum\":\"0000000000000000000000000000000000000000000000000000000000000000\",\"filename\":\"a.conf.blob\",\"size\":0}";
 
-fn read_with(alloc: Global, entries: &str) -> Result<Manifest, Fail> {
-    let text = with_entries(alloc, entries)?;
-    Ok(read(alloc, text.as_bytes())??)
+fn read_with(rt: &impl Abort, alloc: Global, entries: &str) -> Manifest {
+    let text = with_entries(rt, alloc, entries);
+    must(rt, must(rt, read(alloc, text.as_bytes())))
 }
 
-fn try_files(rt: &impl Abort, files: &[FileFact]) -> Result<(), Fail> {
-    let [root, conf] = files else {
-        return Err(Fail::from("not two files"));
-    };
-    same_file(rt, root, ("root.didx", 5, ABC));
-    same_file(rt, conf, ("a.conf.blob", 0, ZEROS));
-    Ok(())
+fn try_files(rt: &impl Abort, files: &[FileFact]) {
+    assert!(rt; files.len() == 2);
+    same_file(rt, &files[0], ("root.didx", 5, ABC));
+    same_file(rt, &files[1], ("a.conf.blob", 0, ZEROS));
 }
 
-fn try_key(rt: &impl Abort, alloc: Global, key: &SnapshotKey) -> Result<(), Fail> {
-    let want = SnapshotKey::parse(alloc, b"host/a/2020-01-15T06:30:03Z")??;
+fn try_key(rt: &impl Abort, alloc: Global, key: &SnapshotKey) {
+    let want = must(
+        rt,
+        must(
+            rt,
+            SnapshotKey::parse(alloc, b"host/a/2020-01-15T06:30:03Z"),
+        ),
+    );
     same(rt, *key == want, true);
-    Ok(())
 }
 
 #[test]
-fn what_is_read(rt: HostRuntime) -> Result<(), Fail> {
-    let manifest = read_with(rt.alloc(), TWO)?;
-    try_files(&rt, manifest.files.as_slice())?;
+fn what_is_read(rt: HostRuntime) {
+    let manifest = read_with(&rt, rt.alloc(), TWO);
+    try_files(&rt, manifest.files.as_slice());
     try_key(&rt, rt.alloc(), &manifest.key)
 }
 
@@ -367,34 +365,35 @@ static KEYS: [(Kind, &[u8], u64, u8); 6] = [
     (Kind::Host, b"b", 8, 2),
 ];
 
-fn fact(alloc: Global, upload: Upload) -> Result<FileFact, Fail> {
+fn fact(rt: &impl Abort, alloc: Global, upload: Upload) -> FileFact {
     let (name, size, csum) = listed(upload);
-    let name = FileName::check(alloc, name.as_bytes())??;
-    Ok(FileFact { name, size, csum })
+    let name = must(rt, must(rt, FileName::check(alloc, name.as_bytes())));
+    FileFact { name, size, csum }
 }
 
-fn facts(alloc: Global, uploads: &[Upload]) -> Result<Vec<FileFact>, Fail> {
+fn facts(rt: &impl Abort, alloc: Global, uploads: &[Upload]) -> Vec<FileFact> {
     let mut facts = Vec::new(alloc);
     for upload in uploads {
-        facts.push(fact(alloc, *upload)?)?;
+        must(rt, facts.push(fact(rt, alloc, *upload)));
     }
-    Ok(facts)
+    facts
 }
 
-fn key(alloc: Global, kind: Kind, id: &[u8], time: u64) -> Result<SnapshotKey, AllocError> {
-    let id = Bytes::from_slice(alloc, id)?;
-    Ok(SnapshotKey { kind, id, time })
+fn key(rt: &impl Abort, alloc: Global, kind: Kind, id: &[u8], time: u64) -> SnapshotKey {
+    let id = must(rt, Bytes::from_slice(alloc, id));
+    SnapshotKey { kind, id, time }
 }
 
 /// The file that is told, empty for none, and the field, 0 for none.
 fn told(
+    rt: &impl Abort,
     manifest: &Manifest,
     key: &SnapshotKey,
     uploads: &[FileFact],
-) -> Result<(Option<FileName>, u8), AllocError> {
-    match check(manifest, key, uploads)? {
-        Ok(()) => Ok((None, 0)),
-        Err(mismatch) => Ok((mismatch.file, mismatch.field)),
+) -> (Option<FileName>, u8) {
+    match must(rt, check(manifest, key, uploads)) {
+        Ok(()) => (None, 0),
+        Err(mismatch) => (mismatch.file, mismatch.field),
     }
 }
 
@@ -404,21 +403,20 @@ fn try_upload(
     session: &SnapshotKey,
     uploads: &[FileFact],
     want: (&str, u8),
-) -> Result<(), Fail> {
-    let (file, field) = told(manifest, session, uploads)?;
+) {
+    let (file, field) = told(rt, manifest, session, uploads);
     let file = match &file {
         Some(file) => file.as_str(),
         None => "",
     };
     same(rt, (file, field), want);
-    Ok(())
 }
 
 /// The snapshot `host/a` at 7, with a manifest that lists these files.
-fn manifest(alloc: Global, files: &[Upload]) -> Result<Manifest, Fail> {
-    let key = key(alloc, Kind::Host, b"a", 7)?;
-    let files = Rows::from_vec(facts(alloc, files)?);
-    Ok(Manifest { key, files })
+fn manifest(rt: &impl Abort, alloc: Global, files: &[Upload]) -> Manifest {
+    let key = key(rt, alloc, Kind::Host, b"a", 7);
+    let files = Rows::from_vec(facts(rt, alloc, files));
+    Manifest { key, files }
 }
 
 static LISTS: [Upload; 2] = [Upload::Root, Upload::A];
@@ -430,18 +428,17 @@ fn try_row(
     manifest: &Manifest,
     uploads: &[Upload],
     want: (&str, u8),
-) -> Result<(), Fail> {
-    let uploads = facts(alloc, uploads)?;
+) {
+    let uploads = facts(rt, alloc, uploads);
     try_upload(rt, manifest, &manifest.key, &uploads, want)
 }
 
 #[test]
-fn first_mismatch(rt: HostRuntime) -> Result<(), Fail> {
-    let manifest = manifest(rt.alloc(), &LISTS)?;
+fn first_mismatch(rt: HostRuntime) {
+    let manifest = manifest(&rt, rt.alloc(), &LISTS);
     for (uploads, name, field) in &UPLOADS {
-        try_row(&rt, rt.alloc(), &manifest, uploads, (*name, *field))?;
+        try_row(&rt, rt.alloc(), &manifest, uploads, (*name, *field));
     }
-    Ok(())
 }
 
 /// With all files that the manifest lists.
@@ -451,25 +448,24 @@ fn try_session(
     manifest: &Manifest,
     session: &SnapshotKey,
     want: u8,
-) -> Result<(), Fail> {
-    let uploads = facts(alloc, &[Upload::A, Upload::Root])?;
+) {
+    let uploads = facts(rt, alloc, &[Upload::A, Upload::Root]);
     try_upload(rt, manifest, session, &uploads, ("", want))
 }
 
 #[test]
-fn another_snapshot(rt: HostRuntime) -> Result<(), Fail> {
-    let manifest = manifest(rt.alloc(), &LISTS)?;
+fn another_snapshot(rt: HostRuntime) {
+    let manifest = manifest(&rt, rt.alloc(), &LISTS);
     for (kind, id, time, field) in &KEYS {
-        let session = key(rt.alloc(), *kind, id, *time)?;
-        try_session(&rt, rt.alloc(), &manifest, &session, *field)?;
+        let session = key(&rt, rt.alloc(), *kind, id, *time);
+        try_session(&rt, rt.alloc(), &manifest, &session, *field);
     }
-    Ok(())
 }
 
 static ITSELF: [Upload; 1] = [Upload::OtherManifest];
 
 #[test]
-fn a_manifest_that_lists_itself(rt: HostRuntime) -> Result<(), Fail> {
-    let manifest = manifest(rt.alloc(), &ITSELF)?;
+fn a_manifest_that_lists_itself(rt: HostRuntime) {
+    let manifest = manifest(&rt, rt.alloc(), &ITSELF);
     try_row(&rt, rt.alloc(), &manifest, &ITSELF, ("index.json.blob", 4))
 }

@@ -3,4 +3,4 @@ use Rattle.store_types.specs.Times.{last_moment}
 use Rattle.base_tests.proofs.prune.kept.Given as goal
 
 abbrev pub invariant-loop-time : goal.invariant-loop-time
-invariant-loop-time l = All (λ item. item.time ≤ last_moment) l.items.items
+invariant-loop-time g l = All (λ item. item.time ≤ last_moment) l.items.items

@@ -1,0 +1,4 @@
+pub mod Texts
+pub mod Tests
+pub mod Whole
+pub mod Writes
