@@ -85,6 +85,37 @@ def talk(turns, status="Ok"):
     return sent(turns) + [f"ends {status}"]
 
 
+def turns(*rows):
+    """Sessions at once: one behind another, each row is of a lane, with a command and its reply. None stands for a command or a reply that
+    another row has."""
+    out, speaks_of = [], None
+    for lane, command, reply in rows:
+        out += [f"lane {lane}"] if lane != speaks_of else []
+        out += (asked(command) if command else []) + (told(reply) if reply else [])
+        speaks_of = lane
+    return out
+
+
+def of_lane(lane, *lines):
+    """These lines speak of this lane, and so do those behind."""
+    return [f"lane {lane}", *flat(lines)]
+
+
+def closes():
+    """The lane's input ends here, and what stands behind comes behind its end."""
+    return ["closes"]
+
+
+def free():
+    """The lanes' commands come in any order."""
+    return ["free"]
+
+
+def tries(count):
+    """They are served so often at most, until what is told is what is wanted."""
+    return [f"tries {count}"]
+
+
 def raw(data):
     """Bytes that are sent as they are."""
     return [f">> {spelled(data)}"]
@@ -126,6 +157,11 @@ def sweep(calls):
 
 def kinds(*numbers):
     return ["kinds " + " ".join(map(str, numbers))]
+
+
+def lanes(*numbers):
+    """The lanes of so many first entries of the order."""
+    return ["lanes " + " ".join(map(str, numbers))]
 
 
 def entries(count):
@@ -226,7 +262,7 @@ def flat(parts):
 
 
 # Lines that plan a session, and those that plan its sweep.
-PLANS = set("> >> < clock fails remote-fails stops taken shown gives takes".split())
+PLANS = set("lane closes free tries > >> < clock fails remote-fails stops taken shown gives takes".split())
 FINDS = {"whole", "found", "name"}
 
 
@@ -240,12 +276,53 @@ def served_in(lines):
     return parts
 
 
+def fault_at_once(rows):
+    """Why the lines that plan sessions at once give no order of their commands: each lane begins with one, each is answered, a lane's end
+    comes once all that began is answered, and nothing of the lane comes behind it."""
+    waiting, has_begun, has_ended, lane = {}, set(), set(), "0"
+    for word, rest in rows:
+        lane = rest if word == "lane" else lane
+        is_bye = word == ">" and rest.startswith("BYE ")
+        if word in (">", ">>", "closes") and lane in has_ended:
+            return f"lane {lane} has ended"
+        if is_bye or word == "closes":
+            if lane not in has_begun or any(waiting.values()):
+                return f"lane {lane} ends too early"
+            has_ended.add(lane)
+        elif word == ">":
+            if waiting.get(lane):
+                return f"lane {lane} waits for a reply"
+            waiting[lane] = True
+            has_begun.add(lane)
+        elif word == "<":
+            waiting[lane] = False
+    if any(waiting.values()):
+        return "a reply is missing"
+    lanes = {int(rest) for word, rest in rows if word == "lane"}
+    return None if len(has_begun) == max(lanes) + 1 else "a lane sends nothing"
+
+
+def fault_in_order(part):
+    """What is wrong with the lines that plan how sessions at once come one behind another, up to the line that serves them."""
+    words = {word for word, _ in part}
+    are_several = any(row[0] == "lane" and row[1] != "0" for row in part)
+    if not are_several:
+        return "there is one session" if words & {"closes", "free", "tries"} else None
+    if "sweep" in words:
+        return "several sessions are stopped"
+    if "free" in words:
+        return "an end has no place" if "closes" in words else None
+    return fault_at_once(part)
+
+
 def fault_in(lines):
     """What the program would pass over: lines that plan what is not served, a disk that another takes the place of."""
     *served, last = served_in(lines)
     if not served or {word for word, _ in last} & (PLANS | FINDS):
         return "something is not served"
     for part in served:
+        if fault := fault_in_order(part):
+            return fault
         words = [word for word, _ in part]
         if FINDS & set(words) and words[-1] != "sweep":
             return "a state is not looked for"

@@ -4,7 +4,7 @@ use crate::bytes::{bytes_of, shown};
 use crate::differs::Differs;
 use crate::session::{Counts, Left};
 use crate::stage::{Stage, name_of};
-use crate::words::{push_number, same, split, text_of};
+use crate::words::{numbers_of, push_number, same, split, text_of};
 use disk_trait::{Disk, DiskError, LoggedStep, MemoryDisk, Step};
 use lane::Ending;
 use std::alloc::{AllocError, Global};
@@ -22,6 +22,10 @@ pub fn holds(stage: &mut Stage, left: &Left, word: &str, rest: &str) -> Result<(
         b"files" => same(count_files(&mut stage.disk, alloc, "")?, rest),
         b"chunks" => same(count_files(&mut stage.disk, alloc, ".chunks/")?, rest),
         b"same" => same_files(stage),
+        b"lanes" => same(
+            lanes(alloc, &left.order, numbers_of(alloc, rest)?.len())?,
+            rest,
+        ),
         _ => same(said(alloc, left, &stage.disk, word)?, rest),
     }
 }
@@ -61,12 +65,21 @@ fn moments(alloc: Global, order: &[Entry]) -> Result<String, AllocError> {
     Ok(text)
 }
 
+/// The lanes of so many first entries.
+fn lanes(alloc: Global, order: &[Entry], count: usize) -> Result<String, AllocError> {
+    let mut text = String::new(alloc);
+    for entry in order.iter().take(count) {
+        push_number(&mut text, u64::from(entry.lane))?;
+    }
+    Ok(text)
+}
+
 /// How many calls a disk has had.
 fn made(counts: Counts) -> u64 {
     counts.after.saturating_sub(counts.before)
 }
 
-/// Where no command stands, if the session is broken.
+/// Where no command stands, of each session that is broken.
 fn place(alloc: Global, left: &Left) -> Result<String, AllocError> {
     let mut text = String::new(alloc);
     for report in &left.report.lanes {

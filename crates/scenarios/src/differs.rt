@@ -17,6 +17,10 @@ pub enum Differs {
     Told(usize, String),
     /// What this line says does not come about.
     Unmet(usize),
+    /// This lane told this, which is not what the plain copy tells in the same order.
+    Otherwise(usize, String),
+    /// The plain copy cannot do the entry of the order with this number.
+    Misfit(u64),
     /// This differs where the session fails or stops at this call.
     At(u64, String),
 }
@@ -53,6 +57,8 @@ impl Display for Differs {
             Differs::Found(text) => write!(f, "found {text}"),
             Differs::Told(line, text) => write!(f, "line {line}, told {text}"),
             Differs::Unmet(line) => write!(f, "line {line} does not come about"),
+            Differs::Otherwise(lane, text) => write!(f, "lane {lane}, told {text}"),
+            Differs::Misfit(entry) => write!(f, "entry {entry} has no place in the order"),
             Differs::At(call, text) => write!(f, "call {call}: {text}"),
         }
     }

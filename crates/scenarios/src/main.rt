@@ -6,12 +6,16 @@ mod bytes;
 mod checks;
 mod differs;
 mod file;
+mod gate;
 mod plan;
+mod rules;
 mod session;
 mod stage;
 mod stops;
 mod taken;
+mod talk;
 mod words;
+mod woven;
 
 use file::{Count, play_file};
 use std::process::ExitCode;

@@ -1,24 +1,26 @@
-//! What the next session is to send and to be told, and which calls of its ends fail.
+//! What the next sessions are to send and to be told, in which order, and which calls of their ends fail.
 
-use crate::bytes::{bytes_of, shown};
 use crate::differs::Differs;
-use crate::words::{number_of, numbers_of, split};
+use crate::gate::{Event, GateHandle, LineGate, Step};
+use crate::talk::Talk;
+use crate::words::{number_of, numbers_of};
+use lane::Port;
 use port_traits::{MemSink, MemSource, SetClock};
 use std::alloc::{AllocError, Global};
 
-/// A reply that is wanted, and the line that says so.
-#[derive(Drop)]
-struct Wanted {
-    line: usize,
-    bytes: Vec<u8>,
-}
-
-/// A session that is to be served.
+/// Sessions that are to be served at once, one on each lane.
 #[derive(Drop)]
 pub struct Plan {
     alloc: Global,
-    pub sent: Vec<u8>,
-    wanted: Vec<Wanted>,
+    pub talks: Vec<Talk>,
+    /// The lane that lines speak of.
+    lane: u32,
+    /// What comes one behind another, by the order of the lines.
+    steps: Vec<Step>,
+    /// No order is wanted.
+    is_free: bool,
+    /// How often it is tried.
+    pub tries: u64,
     /// What the clock reads, the last one for ever. It stands, where no line says so.
     clock: Vec<u64>,
     /// Which calls of the disk fail, or behind how many all do; and of the remote.
@@ -29,110 +31,100 @@ pub struct Plan {
     pub taken: Vec<u64>,
     /// Which lists of the disk have a name more.
     pub shown: Vec<u64>,
-    /// The most bytes that a read gives.
-    gives: usize,
-    /// Behind how many bytes the sink fails.
-    takes: Option<u64>,
 }
 
 /// Where the clock stands.
 const STANDING: u64 = 1_600_000_000;
 
+/// There are 64 lanes.
+const LAST_LANE: u64 = 63;
+
 impl Plan {
-    /// Nothing is sent, the clock stands, and nothing fails.
-    pub fn new(alloc: Global) -> Plan {
-        Plan {
+    /// One session, to which nothing is sent; the clock stands, and nothing fails.
+    pub fn new(alloc: Global) -> Result<Plan, AllocError> {
+        let mut talks = Vec::new(alloc);
+        talks.push(Talk::new(alloc))?;
+        Ok(Plan {
             alloc,
-            sent: Vec::new(alloc),
-            wanted: Vec::new(alloc),
+            talks,
+            lane: 0,
+            steps: Vec::new(alloc),
+            is_free: false,
+            tries: 1,
             clock: Vec::new(alloc),
             fails: Vec::new(alloc),
             stops: None,
             remote_fails: Vec::new(alloc),
             taken: Vec::new(alloc),
             shown: Vec::new(alloc),
-            gives: usize::MAX,
-            takes: None,
-        }
+        })
     }
 
-    /// Does what a line says of the session, if it says something of it.
+    /// Does what a line says of the sessions, if it says something of them.
     pub fn obey(&mut self, line: usize, word: &str, rest: &str) -> Result<bool, Differs> {
         match word.as_bytes() {
-            b">" => self.send(rest)?,
-            b">>" => self.send_raw(rest)?,
-            b"<" => self.want(line, rest)?,
+            b"lane" => self.turn_to(rest)?,
+            b"free" => self.is_free = true,
+            b"tries" => self.tries = number_of(rest)?,
             b"clock" => self.clock = numbers_of(self.alloc, rest)?,
             b"fails" => self.fails = numbers_of(self.alloc, rest)?,
             b"stops" => self.stops = Some(number_of(rest)?),
             b"remote-fails" => self.remote_fails = numbers_of(self.alloc, rest)?,
             b"taken" => self.taken = numbers_of(self.alloc, rest)?,
             b"shown" => self.shown = numbers_of(self.alloc, rest)?,
-            b"gives" => self.gives = number_of(rest)? as usize,
-            b"takes" => self.takes = Some(number_of(rest)?),
-            _ => return Ok(false),
+            _ => return self.obey_lane(line, word, rest),
         }
         Ok(true)
     }
 
-    /// Sends a command as a frame. The word in front of it is for readers.
-    fn send(&mut self, text: &str) -> Result<(), Differs> {
-        let frame = framed(self.alloc, text)?;
-        self.sent.extend_from_slice(&frame)?;
-        Ok(())
-    }
-
-    fn send_raw(&mut self, text: &str) -> Result<(), Differs> {
-        let bytes = bytes_of(self.alloc, text)?;
-        self.sent.extend_from_slice(&bytes)?;
-        Ok(())
-    }
-
-    /// Wants a reply as a frame. The word in front of it is for readers.
-    fn want(&mut self, line: usize, text: &str) -> Result<(), Differs> {
-        let bytes = framed(self.alloc, text)?;
-        self.wanted.push(Wanted { line, bytes })?;
-        Ok(())
-    }
-
-    /// The replies are those that are wanted, one behind another, as far as the sink takes them.
-    pub fn compare(&self, told: &[u8]) -> Result<(), Differs> {
-        let is_cut = self.takes == Some(told.len() as u64);
-        let mut rest = told;
-        for Wanted { line, bytes } in &self.wanted {
-            match rest.strip_prefix(bytes.as_slice()) {
-                Some(behind) => rest = behind,
-                None if is_cut && bytes.starts_with(rest) => return Ok(()),
-                None => return Err(Differs::Told(*line, shown(self.alloc, rest)?)),
-            }
+    /// Lines speak of this lane from here on. It has a session, and so have those below it.
+    fn turn_to(&mut self, text: &str) -> Result<(), Differs> {
+        let number = number_of(text)?;
+        if number > LAST_LANE {
+            return Err(Differs::Unread);
         }
-        if rest.is_empty() {
-            return Ok(());
+        let lane = number as u32;
+        for _ in self.talks.len()..lane as usize + 1 {
+            self.talks.push(Talk::new(self.alloc))?;
         }
-        Err(Differs::Found(shown(self.alloc, rest)?))
+        self.lane = lane;
+        Ok(())
     }
 
-    /// The replies are those that are wanted, but for so many of the last commands: the first of them is told that the disk fails,
-    /// and each behind it that this entry was the first to fail. BYE is told that it is done.
-    pub fn compare_failed(&self, told: &[u8], failed: u64, entry: u64) -> Result<(), Differs> {
-        let commands = if self.sent.as_slice().ends_with(BYE) {
-            self.wanted.len().saturating_sub(1)
-        } else {
-            self.wanted.len()
+    /// Does what a line says of the lane that lines speak of.
+    fn obey_lane(&mut self, line: usize, word: &str, rest: &str) -> Result<bool, Differs> {
+        let Some(talk) = self.talks.get_mut(self.lane as usize) else {
+            return Err(Differs::Unread);
         };
-        let first = (commands as u64).saturating_sub(failed);
-        let mut wanted = Vec::new(self.alloc);
-        for (place, Wanted { bytes, .. }) in self.wanted.iter().enumerate() {
-            if (place as u64) < first || place >= commands {
-                wanted.extend_from_slice(bytes)?;
-            } else {
-                push_failed(&mut wanted, place as u64 == first, entry)?;
+        let event = match word.as_bytes() {
+            b">" => Some(talk.send(rest)?),
+            b"<" => talk.want(line, rest)?,
+            b"closes" => Some(Event::Ends),
+            _ => return talk.obey(word, rest),
+        };
+        if let Some(event) = event {
+            let lane = self.lane;
+            self.steps.push(Step { lane, event })?;
+        }
+        Ok(true)
+    }
+
+    /// The sessions' replies are those that are wanted. Where no order is wanted, those of a lane of which no line says them are any.
+    pub fn compare(&self, told: &[Vec<u8>]) -> Result<(), Differs> {
+        for (talk, told) in self.talks.iter().zip(told.iter()) {
+            if !self.is_free || !talk.wants_none() {
+                talk.compare(told.as_slice())?;
             }
         }
-        if told == wanted.as_slice() {
-            return Ok(());
+        Ok(())
+    }
+
+    /// The same of one session whose disk fails: see [`Talk::compare_failed`].
+    pub fn compare_failed(&self, told: &[Vec<u8>], failed: u64, entry: u64) -> Result<(), Differs> {
+        match (self.talks.as_slice(), told) {
+            ([talk], [told]) => talk.compare_failed(told.as_slice(), failed, entry),
+            _ => Err(Differs::Unread),
         }
-        Err(Differs::Found(shown(self.alloc, told)?))
     }
 
     /// The moment of each act, where no line sets the clock.
@@ -150,43 +142,21 @@ impl Plan {
         Ok(SetClock::new(readings, last))
     }
 
-    /// A sink that takes all, or so many bytes, one at a time, and then fails.
-    pub fn sink(&self) -> Result<MemSink, AllocError> {
-        match self.takes {
-            None => Ok(MemSink::new(self.alloc, Vec::new(self.alloc))),
-            Some(count) => {
-                let failing = [count].to_vec(self.alloc)?;
-                Ok(MemSink::new(self.alloc, failing).at_most(1))
-            }
+    /// A gate by the order of the lines, where there are several sessions and an order is wanted.
+    pub fn gate(&self) -> Result<GateHandle, AllocError> {
+        let steps = if self.is_free || self.talks.len() == 1 {
+            Vec::new(self.alloc)
+        } else {
+            self.steps.clone()?
+        };
+        LineGate::over(self.alloc, steps)
+    }
+
+    pub fn ports(&self) -> Result<Vec<Port<MemSource, MemSink>>, AllocError> {
+        let mut ports = Vec::new(self.alloc);
+        for talk in &self.talks {
+            ports.push(talk.port()?)?;
         }
+        Ok(ports)
     }
-
-    pub fn source(&self) -> Result<MemSource, AllocError> {
-        let source = MemSource::new(self.sent.clone()?, Vec::new(self.alloc));
-        Ok(source.at_most(self.gives.max(1)))
-    }
-}
-
-/// The frame of BYE.
-const BYE: &[u8] = b"\x01\0\0\0?";
-
-/// Adds the reply DiskFault, or behind it Halted with the entry's number.
-fn push_failed(bytes: &mut Vec<u8>, is_first: bool, entry: u64) -> Result<(), AllocError> {
-    if is_first {
-        return bytes.extend_from_slice(b"\x01\0\0\0\x1a");
-    }
-    bytes.extend_from_slice(b"\x09\0\0\0\x1b")?;
-    bytes.extend_from_slice(&entry.to_le_bytes())
-}
-
-/// The frame of a command or reply, behind the word that is for readers.
-fn framed(alloc: Global, text: &str) -> Result<Vec<u8>, Differs> {
-    let (_, body) = split(text);
-    let body = bytes_of(alloc, body)?;
-    let Ok(length) = u32::try_from(body.len()) else {
-        return Err(Differs::Unread);
-    };
-    let mut frame = length.to_le_bytes().to_vec(alloc)?;
-    frame.extend_from_slice(&body)?;
-    Ok(frame)
 }

@@ -1,6 +1,7 @@
-//! A session is served, and what it leaves is kept for the lines behind it.
+//! Sessions are served, and what they leave is kept for the lines behind them.
 
 use crate::differs::Differs;
+use crate::gate::LineClock;
 use crate::plan::Plan;
 use crate::taken::TakenDisk;
 use crate::words::{push_number, same};
@@ -8,9 +9,9 @@ use core_opening::OpenFault;
 use disk_trait::{Disk, FailingDisk, MemoryDisk};
 use lane::{Ending, Port};
 use pbs_server::{RunReport, Served, Status, serve};
-use port_traits::{FreeGate, MemSink};
+use port_traits::{MemSink, MemSource};
 use std::alloc::{AllocError, Global};
-use std::sync::Wait;
+use std::sync::{Arc, Wait};
 use std::thread::Threads;
 use store_types::Entry;
 
@@ -29,24 +30,38 @@ pub struct Counts {
     pub faults: u64,
 }
 
-/// What a session left, beside the disks.
+/// What sessions left, beside the disks.
 #[derive(Drop)]
 pub struct Left {
     pub status: Status,
-    /// The status, and where not all of the input was taken, how much of it; or how opening failed.
+    /// The status, and of each input that was not taken whole, how much of it was; or how opening failed.
     pub ended: String,
     pub order: Vec<Entry>,
     pub report: RunReport,
-    pub told: Vec<u8>,
+    /// What each lane told.
+    pub told: Vec<Vec<u8>>,
     pub disk: Counts,
     pub remote: Counts,
     /// How many calls of the disk found nothing or more, as planned.
     pub came: usize,
+    /// The lines' order did not come about.
+    gave_up: bool,
 }
 
 /// A disk as it reads, as one of its own.
 pub fn copy_of(alloc: Global, disk: &MemoryDisk) -> Result<MemoryDisk, AllocError> {
     disk.crashed(alloc, 1)
+}
+
+/// The same of a remote.
+pub fn copy_of_remote(
+    alloc: Global,
+    remote: &Option<MemoryDisk>,
+) -> Result<Option<MemoryDisk>, AllocError> {
+    match remote {
+        Some(remote) => Ok(Some(copy_of(alloc, remote)?)),
+        None => Ok(None),
+    }
 }
 
 type Failed = FailingDisk<MemoryDisk>;
@@ -56,29 +71,44 @@ type Taken = TakenDisk<Failed>;
 /// What was served on a disk beside a remote.
 type Over = Served<Taken, Failed>;
 
-/// The words `run root session`.
-fn words(alloc: Global) -> Result<Vec<String>, AllocError> {
+/// What was served, what each lane told, and whether the gate gave up.
+type Run = (Over, Vec<Vec<u8>>, bool);
+
+/// The words `run root session`, the last once for each session.
+fn words(alloc: Global, sessions: usize) -> Result<Vec<String>, AllocError> {
     let mut words = Vec::new(alloc);
-    for word in ["run", "root", "session"] {
-        words.push(String::from_str(alloc, word)?)?;
+    words.push(String::from_str(alloc, "run")?)?;
+    words.push(String::from_str(alloc, "root")?)?;
+    for _ in 0..sessions {
+        words.push(String::from_str(alloc, "session")?)?;
     }
     Ok(words)
 }
 
-/// Serves it on disks that fail as they should, and gives what it told, too.
+fn told_by(
+    alloc: Global,
+    ports: Vec<Port<MemSource, MemSink>>,
+) -> Result<Vec<Vec<u8>>, AllocError> {
+    let mut told = Vec::new(alloc);
+    for port in ports {
+        told.push(port.sink.into_bytes())?;
+    }
+    Ok(told)
+}
+
+/// Serves them on disks that fail as they should, and gives what they told, too.
 fn serve_on<R: Threads + Wait + Sync>(
     rt: &R,
     alloc: Global,
     plan: &Plan,
     disk: Taken,
     remote: Option<Failed>,
-) -> Result<(Over, Vec<u8>), AllocError> {
-    let source = plan.source()?;
-    let sink = plan.sink()?;
-    let clock = plan.clock()?;
-    let words = words(alloc)?;
+) -> Result<Run, AllocError> {
+    let mut ports = plan.ports()?;
+    let words = words(alloc, ports.len())?;
+    let gate = plan.gate()?;
+    let clock = LineClock::new(plan.clock()?, Arc::try_clone(&gate)?);
     let mut journal = MemSink::new(alloc, Vec::new(alloc));
-    let mut ports = [Port { source, sink }];
     let served = serve(
         rt,
         alloc,
@@ -88,10 +118,10 @@ fn serve_on<R: Threads + Wait + Sync>(
         remote,
         clock,
         &mut journal,
-        &FreeGate,
+        &*gate,
     );
-    let told = ports[0].sink.as_bytes().to_vec(alloc)?;
-    Ok((served, told))
+    let told = told_by(alloc, ports)?;
+    Ok((served, told, gate.gave_up()))
 }
 
 /// Both disks, which fail, and find nothing or more, as it is planned.
@@ -140,10 +170,10 @@ fn handed_back(before: u64, remote: Option<Failed>) -> (Counts, Option<MemoryDis
 }
 
 /// How it ended, as a line `ends` says it.
-fn ended(alloc: Global, served: &Over, sent: usize) -> Result<String, AllocError> {
+fn ended(alloc: Global, served: &Over, plan: &Plan) -> Result<String, AllocError> {
     let mut text = String::from_str(alloc, served.status.name())?;
-    if let [report] = served.report.lanes.as_slice() {
-        if report.taken != sent as u64 {
+    for (report, talk) in served.report.lanes.iter().zip(plan.talks.iter()) {
+        if report.taken != talk.sent.len() as u64 {
             push_number(&mut text, report.taken)?;
         }
     }
@@ -155,7 +185,7 @@ fn ended(alloc: Global, served: &Over, sent: usize) -> Result<String, AllocError
     Ok(text)
 }
 
-/// Serves the session that is planned. The remote is not written.
+/// Serves the sessions that are planned. The remote is not written.
 pub fn serve_plan<R: Threads + Wait + Sync>(
     rt: &R,
     alloc: Global,
@@ -165,8 +195,8 @@ pub fn serve_plan<R: Threads + Wait + Sync>(
     let before = disks.disk.calls();
     let (remote_before, steps) = counts_of(&disks.remote);
     let (disk, remote) = failing(plan, disks)?;
-    let (served, told) = serve_on(rt, alloc, plan, disk, remote)?;
-    let ended = ended(alloc, &served, plan.sent.len())?;
+    let (served, told, gave_up) = serve_on(rt, alloc, plan, disk, remote)?;
+    let ended = ended(alloc, &served, plan)?;
     let (remote_counts, remote) = handed_back(remote_before, served.remote);
     if counts_of(&remote).1 != steps {
         return Err(Differs::Found(String::from_str(alloc, "a write of the remote")?));
@@ -180,41 +210,56 @@ pub fn serve_plan<R: Threads + Wait + Sync>(
         disk: counted(before, &served.disk),
         remote: remote_counts,
         came: served.disk.came,
+        gave_up,
     };
     let disk = served.disk.into_inner().into_inner();
     Ok((left, Disks { disk, remote }))
 }
 
 impl Left {
-    /// What holds of every session: each entry is of lane 0, of this moment where it is known, and has its count of calls; as many
-    /// bytes were given as were told; and it ended where its input did or at BYE, but with BadFrame, where no command stands, or with
-    /// SinkFault.
+    /// What holds of every run: each entry is of one of its lanes, of this moment where it is known, and has its count of calls; of each
+    /// lane as many bytes were given as were told; and it ended where its input did or at BYE, but with BadFrame, where no command stands,
+    /// or with SinkFault.
     pub fn is_usual(&self, moment: Option<u64>) -> bool {
+        let lanes = self.told.len();
         for entry in &self.order {
             let wanted = moment.unwrap_or(entry.moment);
-            if entry.lane != 0 || entry.moment != wanted {
+            if entry.lane as usize >= lanes || entry.moment != wanted {
                 return false;
             }
         }
-        let given = match self.report.lanes.as_slice() {
-            [report] => report.given == self.told.len() as u64 && self.fits(report.ending),
-            _ => self.report.not_opened.is_some(),
-        };
-        given && self.order.len() == self.report.calls.len()
+        let are_served = self.report.lanes.len() == lanes || self.report.not_opened.is_some();
+        are_served && self.have_fit() && self.order.len() == self.report.calls.len()
     }
 
-    /// An ending of the lane fits the status.
+    /// Each lane's report fits what it told and the status, and BadFrame is that of one of them.
+    fn have_fit(&self) -> bool {
+        let mut is_broken = false;
+        for (report, told) in self.report.lanes.iter().zip(self.told.iter()) {
+            if report.given != told.len() as u64 || !self.fits(report.ending) {
+                return false;
+            }
+            is_broken = is_broken || matches!(report.ending, Ending::Broken { .. });
+        }
+        is_broken == (self.status == Status::BadFrame)
+    }
+
+    /// An ending of a lane fits the status.
     fn fits(&self, ending: Ending) -> bool {
         match ending {
-            Ending::Clean => self.status != Status::BadFrame,
+            Ending::Clean => true,
             Ending::Broken { .. } => self.status == Status::BadFrame,
             Ending::SinkFault => self.status == Status::SinkFault,
             _ => false,
         }
     }
 
-    /// It was served as the plan says, and ended so.
+    /// They were served as the plan says, and ended so.
     pub fn compare(&self, alloc: Global, plan: &Plan, ended: &str) -> Result<(), Differs> {
+        if self.gave_up {
+            let text = String::from_str(alloc, "a turn that does not come")?;
+            return Err(Differs::Found(text));
+        }
         plan.compare(&self.told)?;
         same(self.ended.clone()?, ended)?;
         if self.came != plan.taken.len().saturating_add(plan.shown.len()) {
@@ -224,7 +269,7 @@ impl Left {
         self.compare_usual(alloc, plan)
     }
 
-    /// What holds of every session holds of it.
+    /// What holds of every run holds of it.
     pub fn compare_usual(&self, alloc: Global, plan: &Plan) -> Result<(), Differs> {
         if self.is_usual(plan.moment()) {
             return Ok(());

@@ -4,9 +4,10 @@ use crate::bytes::bytes_of;
 use crate::checks::holds;
 use crate::differs::Differs;
 use crate::plan::Plan;
-use crate::session::{Disks, Left, copy_of, serve_plan};
+use crate::session::{Disks, Left, copy_of, copy_of_remote};
 use crate::stops::{Found, Sweep, Whole};
 use crate::words::{number_of, split};
+use crate::woven::serve_compared;
 use disk_trait::{Disk, MemoryDisk};
 use std::alloc::{AllocError, Global};
 use std::mem;
@@ -50,7 +51,7 @@ impl Stage {
             disk: MemoryDisk::new(alloc),
             other: None,
             is_there: false,
-            plan: Plan::new(alloc),
+            plan: Plan::new(alloc)?,
             sweep: Sweep::new(alloc),
             left: None,
         })
@@ -201,28 +202,58 @@ impl Stage {
     /// Stops the session that is planned at each of its calls.
     fn sweep<R: Threads + Wait + Sync>(&mut self, rt: &R, calls: u64) -> Result<(), Differs> {
         let alloc = self.alloc;
-        let mut plan = mem::replace(&mut self.plan, Plan::new(alloc));
+        let mut plan = mem::replace(&mut self.plan, Plan::new(alloc)?);
         let mut sweep = mem::replace(&mut self.sweep, Sweep::new(alloc));
         let disk = copy_of(alloc, &self.disk)?;
         let remote = self.other.take();
         sweep.try_calls(rt, alloc, &mut plan, &Disks { disk, remote }, calls)
     }
 
-    /// Serves the session that is planned: on the datastore beside the remote, if any; on the remote alone.
-    fn serve<R: Threads + Wait + Sync>(&mut self, rt: &R, ended: &str) -> Result<(), Differs> {
-        let plan = mem::replace(&mut self.plan, Plan::new(self.alloc));
+    /// The datastore, and the remote if any; or the remote alone, while lines speak of it.
+    fn take_disks(&mut self) -> Disks {
         let disk = mem::replace(&mut self.disk, MemoryDisk::new(self.alloc));
-        let other = self.other.take();
-        let (remote, beside) = if self.is_there {
-            (None, other)
+        let remote = if self.is_there {
+            None
         } else {
-            (other, None)
+            self.other.take()
         };
-        let (left, disks) = serve_plan(rt, self.alloc, &plan, Disks { disk, remote })?;
+        Disks { disk, remote }
+    }
+
+    /// Copies of these, as they read.
+    fn copy_disks(&self) -> Result<Disks, AllocError> {
+        let disk = copy_of(self.alloc, &self.disk)?;
+        let remote = if self.is_there {
+            None
+        } else {
+            copy_of_remote(self.alloc, &self.other)?
+        };
+        Ok(Disks { disk, remote })
+    }
+
+    /// Goes on with what was served.
+    fn go_on(&mut self, left: Left, disks: Disks) {
         self.disk = disks.disk;
-        self.other = disks.remote.or(beside);
-        left.compare(self.alloc, &plan, ended)?;
+        if disks.remote.is_some() {
+            self.other = disks.remote;
+        }
         self.left = Some(left);
+    }
+
+    /// Serves what is planned. Where it is to be tried more than once, so on copies, until what is wanted comes about.
+    fn serve<R: Threads + Wait + Sync>(&mut self, rt: &R, ended: &str) -> Result<(), Differs> {
+        let alloc = self.alloc;
+        let plan = mem::replace(&mut self.plan, Plan::new(alloc)?);
+        for _ in 1..plan.tries {
+            let (left, disks) = serve_compared(rt, alloc, &plan, self.copy_disks()?)?;
+            if left.compare(alloc, &plan, ended).is_ok() {
+                self.go_on(left, disks);
+                return Ok(());
+            }
+        }
+        let (left, disks) = serve_compared(rt, alloc, &plan, self.take_disks())?;
+        left.compare(alloc, &plan, ended)?;
+        self.go_on(left, disks);
         Ok(())
     }
 }

@@ -5,7 +5,7 @@ use crate::bytes::shown;
 use crate::checks::first_other;
 use crate::differs::Differs;
 use crate::plan::Plan;
-use crate::session::{Disks, Left, copy_of, serve_plan};
+use crate::session::{Disks, Left, copy_of, copy_of_remote, serve_plan};
 use crate::words::{number_of, same, split, text_of};
 use disk_trait::{Disk, MemoryDisk};
 use std::alloc::{AllocError, Global};
@@ -40,7 +40,7 @@ impl Found {
         let (since, until) = split(text);
         Ok(Found {
             line,
-            plan: Plan::new(alloc),
+            plan: Plan::new(alloc)?,
             names: Vec::new(alloc),
             since: number_of(since)?,
             until: number_of(until)?,
@@ -98,27 +98,24 @@ fn acts_of(left: &Left) -> Acts {
     }
 }
 
+fn told_nothing(left: &Left, alloc: Global) -> Result<(), Differs> {
+    for told in &left.told {
+        same(shown(alloc, told)?, "")?;
+    }
+    Ok(())
+}
+
 /// What a session is told whose disk fails, of which so many acts are done where it does not. Nothing, where it is not opened; and
 /// where each act was done, the lane's end failed, or the save of the book, of which nothing is told.
 fn compare_failed(left: &Left, alloc: Global, plan: &Plan, all: u64) -> Result<(), Differs> {
     same(String::from_str(alloc, left.status.name())?, "DiskFault")?;
     if left.report.not_opened.is_some() {
-        return same(shown(alloc, &left.told)?, "");
+        return told_nothing(left, alloc);
     }
     left.compare_usual(alloc, plan)?;
     let acts = acts_of(left);
     let failed = if acts.done < all { acts.failed } else { 0 };
     plan.compare_failed(&left.told, failed, acts.done)
-}
-
-fn copy_of_remote(
-    alloc: Global,
-    remote: &Option<MemoryDisk>,
-) -> Result<Option<MemoryDisk>, AllocError> {
-    match remote {
-        Some(remote) => Ok(Some(copy_of(alloc, remote)?)),
-        None => Ok(None),
-    }
 }
 
 impl Sweep {
@@ -156,7 +153,7 @@ impl Sweep {
     fn fits(
         &mut self,
         alloc: Global,
-        told: &[u8],
+        told: &[Vec<u8>],
         disk: &mut MemoryDisk,
         acts: Acts,
     ) -> Result<bool, Differs> {
