@@ -222,16 +222,16 @@ class Store:
         """Where the next reply will stand in the file of the replies."""
         return self.replies.tell()
 
-    def send(self, part):
-        """Sends the commands, and waits for their replies."""
+    def send(self, part, answer=0):
+        """Sends the commands, and waits for their replies, each of which is to have this number."""
         with open(part.path, "rb") as it:
             while some := it.read(MIB):
                 self.input.write(some)
         at = self.place()
         for _ in range(part.commands):
             length, number = struct.unpack("<IB", self.read(5))
-            if number:
-                self.fail(f"a command was refused, with number {number}")
+            if number != answer:
+                self.fail(f"a command was answered with number {number}")
             at += 4 + length
             while os.fstat(self.replies.fileno()).st_size < at:
                 self.wait()
