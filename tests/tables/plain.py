@@ -12,6 +12,15 @@ def told(*parts):
     return [frames(*turns[1::2]) for turns in parts]
 
 
+# A listing of an empty datastore and its reply; a collection's; and bytes with another at a place.
+LIST, LISTED = frame(list_after()), frame(rows())
+COLLECT, COLLECTED = frame(gc()), frame(collected(9, 8, 7, 6, 5))
+
+
+def with_byte(data, place, byte):
+    return data[:place] + bytes([byte]) + data[place + 1 :]
+
+
 def misfit(entry):
     """The first entry that does not fit, of lane 0, when nothing was replayed."""
     return u64(entry) + u32(0) + u64(0)
@@ -354,6 +363,11 @@ TABLES = {
             frames(sync("host/a"), bye()),
             frames(keys(A), done()),
         ],
+        "FREES": [
+            frames(list_after(), gc(), gc()),
+            frame(list_after()),
+            *[frame(gc())] * 5,
+        ],
         "WHOLE": [
             blob(manifest(A, *BOTH_LISTED)),
             blob(b"123456789"),
@@ -467,6 +481,27 @@ TABLES = {
             no_snapshot(),
             no_memory(),
             verify_steps(close_reader(), close_reader(), no_snapshot()),
+        ],
+    },
+    "plain_tests/src/replays.rt": {
+        "CHECKS": [
+            *(LIST + LIST, LIST, LISTED + LISTED, LISTED, b"equal\n"),
+            *(LIST, LIST, with_byte(LISTED, 0, 4), with_byte(LISTED, 6, 1), b"lane 0 byte 0: 03 04\n"),
+            *(LIST, LIST, LISTED, with_byte(LISTED, 6, 1), b"lane 1 byte 6: 00 01\n"),
+            *(LIST, LIST, LISTED[:6], with_byte(LISTED, 0, 1), b"lane 0 byte 6: 00 --\n"),
+            *(LIST, LIST, LISTED + b"*", LISTED, b"lane 0 byte 7: -- 2a\n"),
+            *(LIST, LIST, LISTED + b"\xff", b"lane 1 byte 7: -- ff\n"),
+            *(LIST, LIST, LISTED, b"lane 1 byte 7: -- --\n"),
+            *(COLLECT, COLLECTED, b"equal\n"),
+            *(COLLECT, with_byte(COLLECTED, 5, 0xFE), b"equal\n"),
+            *(COLLECT, with_byte(COLLECTED, 4, 0x1C), b"lane 0 byte 4: 00 1c\n"),
+            *(COLLECT, COLLECTED[:20], b"lane 0 byte 20: 00 --\n"),
+            *(COLLECT, COLLECTED + b"\x01", b"lane 0 byte 45: -- 01\n"),
+            *(COLLECT + LIST, COLLECTED + with_byte(LISTED, 0, 9), b"lane 0 byte 45: 03 09\n"),
+            *(COLLECT + LIST, COLLECTED + frame(no_memory()), b"equal\n"),
+            *(LIST, frame(bye()), frame(done()), b"equal\n"),
+            *(LIST, b"no order\n"),
+            *(LIST, LISTED, b"no order\n"),
         ],
     },
     "plain_tests/src/weaving.rt": {

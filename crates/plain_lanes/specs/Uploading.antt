@@ -1,11 +1,11 @@
 -- The commands by which a SYNC uploads a snapshot, by the digests that were sent.
-use Rattle.std.specs.Prelude.{◌≡◌, ℕ, Bool, List, [], ◌∷◌, ◌++◌, map, length, Result, OnOk, Vec, if◌then◌else◌}
+use Rattle.std.specs.Prelude.{◌≡◌, ℕ, Bool, is_some, List, [], ◌∷◌, ◌++◌, length, Result, OnOk, Vec, if◌then◌else◌}
 use Rattle.std.specs.declared.alloc.Global.{Global}
-use Rattle.std.specs.List.{list_any, filter_map, cons_option}
-use Rattle.std.specs.Str.{bytes_eq}
+use Rattle.std.specs.FinMap.{get, insert}
+use Rattle.std.specs.List.{filter_map, cons_option}
 use Rattle.sha2.specs.Sha256.{sha256}
-use Rattle.store_types.specs.declared.names.Digest32.{Digest32}
 use Rattle.store_types.specs.FileNames.{manifest_name}
+use Rattle.known_chunks.specs.Lengths.{Lengths}
 use Rattle.blob_codec.specs.Blob as blobs
 use Rattle.store_files.specs.Archive.{Archive, Content, archive, blob, File, digest_of, pieces_of, size_of, csum_of, file_named}
 use Rattle.wire_commands.specs.declared.command.Command.{Command}
@@ -17,44 +17,46 @@ use Rattle.store_model.specs.SyncJob.{entries_from, appends, new_index, text_of}
 abbrev pub Pushes : {A E : Type 0} → Vec Command Global → Vec Command Global → List Command → Result A E → Type 0
 Pushes old new more result = OnOk result (new.items ≡ old.items ++ more)
 
-abbrev pub is_sent : List ℕ → List Digest32 → Bool
-is_sent p sent = list_any (λ d. bytes_eq d.0 (sha256 p)) sent
+abbrev pub is_sent : List ℕ → Lengths → Bool
+is_sent p sent = is_some (get sent (sha256 p))
 
-abbrev pub unsent_by : List Digest32 → List (List ℕ) → List (List ℕ)
-unsent_by sent [] = []
-unsent_by sent (p ∷ ps) = if is_sent p sent then unsent_by sent ps else p ∷ unsent_by (digest_of p ∷ sent) ps
+-- with the digest of a piece, and those of several
+abbrev pub sent_with : List ℕ → Lengths → Lengths
+sent_with p sent = if is_sent p sent then sent else insert sent (sha256 p) 0
 
-abbrev pub sent_after : List ℕ → List Digest32 → List Digest32
-sent_after p sent = if is_sent p sent then sent else digest_of p ∷ sent
+abbrev pub sent_after : List (List ℕ) → Lengths → Lengths
+sent_after [] sent = sent
+sent_after (p ∷ ps) sent = sent_after ps (sent_with p sent)
 
 abbrev pub chunk_of : List ℕ → Command
 chunk_of p = Chunk (digest_of p) (blobs.blob p)
 
--- the uploads of the pieces whose digests are not sent
-abbrev pub chunks_of : List Digest32 → List (List ℕ) → List Command
-chunks_of sent pieces = map chunk_of (unsent_by sent pieces)
+-- the upload of a piece, unless its digest is sent
+abbrev pub one_chunk : Lengths → List ℕ → List Command
+one_chunk sent p = if is_sent p sent then [] else chunk_of p ∷ []
 
--- of one piece
-abbrev pub one_chunk : List Digest32 → List ℕ → List Command
-one_chunk sent p = chunks_of sent (p ∷ [])
+-- the uploads of the pieces, each at the first use of its digest
+abbrev pub chunks_of : Lengths → List (List ℕ) → List Command
+chunks_of sent [] = []
+chunks_of sent (p ∷ ps) = one_chunk sent p ++ chunks_of (sent_with p sent) ps
 
 abbrev pub close_of : Archive → Command
 close_of a = CloseIndex 0 (length a.pieces) (size_of (archive a)) (csum_of (archive a))
 
-abbrev pub archive_by : List Digest32 → List ℕ → Archive → List Command
+abbrev pub archive_by : Lengths → List ℕ → Archive → List Command
 archive_by sent name a =
     new_index a.layout name ∷ chunks_of sent a.pieces ++ appends (length a.pieces) (entries_from 0 a.pieces) ++ close_of a ∷ []
 
-abbrev pub file_commands_by : List Digest32 → List ℕ → Content → List Command
+abbrev pub file_commands_by : Lengths → List ℕ → Content → List Command
 file_commands_by sent name (archive a) = archive_by sent name a
 file_commands_by sent name (blob bytes) = Blob name (blobs.blob bytes) ∷ []
 
-abbrev pub file_by : List Digest32 → File → List Command
+abbrev pub file_by : Lengths → File → List Command
 file_by sent f = file_commands_by sent f.name f.content
 
-abbrev pub uploads_by : List Digest32 → List File → List Command
+abbrev pub uploads_by : Lengths → List File → List Command
 uploads_by sent [] = []
-uploads_by sent (f ∷ fs) = file_by sent f ++ uploads_by (map digest_of (pieces_of f.content) ++ sent) fs
+uploads_by sent (f ∷ fs) = file_by sent f ++ uploads_by (sent_after (pieces_of f.content) sent) fs
 
 -- the file of this name, where there is one
 abbrev pub named_in : List ℕ → List File → List File

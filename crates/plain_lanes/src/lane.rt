@@ -1,6 +1,6 @@
 //! A lane in turn: its input, its open job and its replies.
 
-ghost use Rattle.std.specs.Prelude.{◌≡◌, length, is_some, Some, None, IfOk, OnOk};
+ghost use Rattle.std.specs.Prelude.{◌≡◌, ◌<◌, ◌^◌, length, is_some, Some, None, IfOk, OnOk};
 ghost use Rattle.wire_frames.specs.Frames.{frame};
 ghost use Rattle.wire_commands.specs.ReplyText.{reply_text};
 ghost use Rattle.wire_commands.specs.HasText.{ReplyHasText};
@@ -130,7 +130,8 @@ impl<'a> Lane<'a> {
 
     /// How many bytes of replies there are.
     pub fn told_len(&self) -> u64
-        ensures { result ≡ length self.now.told }
+        ensures value { result ≡ length self.now.told }
+        ensures few { result < 2 ^ 63 }
     {
         self.told.len() as u64
     }

@@ -1,16 +1,17 @@
 //! The commands by which a SYNC uploads a snapshot.
 
-ghost use Rattle.std.specs.Prelude.{◌≡◌, ◌++◌, [], length, map, IfOk, OnOk};
-ghost use Rattle.store_files.specs.Archive.{digest_of};
+ghost use Rattle.std.specs.Prelude.{◌≡◌, ◌++◌, length, IfOk, OnOk};
+ghost use Rattle.std.specs.FinMap.{empty};
+ghost use Rattle.store_files.specs.Archive.{pieces_of};
 ghost use Rattle.store_model.specs.SyncJob.{appends, entries_from, new_index, commands_of as commands_for};
 ghost use Rattle.plain_snapshots.specs.Shown.{shown_layout};
-ghost use Rattle.plain_lanes.specs.Uploading.{Pushes, is_sent as was_sent, chunk_of, chunks_of, one_chunk, close_of, sent_after, archive_by, file_by, uploads_by, named_in, listed_in, manifest_text_in};
+ghost use Rattle.plain_lanes.specs.Uploading.{Pushes, chunk_of, chunks_of, one_chunk, close_of, sent_after, sent_with, archive_by, file_by, uploads_by, named_in, listed_in, manifest_text_in};
 
+use known_chunks::Known;
 use plain_snapshots::{Archive, BlobData, Content, File, Layout, Snapshot, facts_in, file_named};
-use sha2::{Digest, Sha256};
 use std::alloc::{AllocError, Global};
 use std::collections::VecDeque;
-use store_types::{AppendEntry, Bytes, Digest32, Rows};
+use store_types::{AppendEntry, Bytes, Rows};
 use wire_commands::Command;
 
 // ---- an archive
@@ -30,20 +31,12 @@ fn begins(alloc: Global, layout: Layout, name: &[u8]) -> Result<Command, AllocEr
     }
 }
 
-/// The piece's digest is one of these.
-fn is_sent(piece: &BlobData, sent: &[Digest32]) -> bool
-    ensures { result ≡ was_sent piece.now sent.now }
-{
-    let digest = Sha256::digest(piece.as_slice());
-    sent.iter().any(|other| other.0 == digest)
-}
-
 /// The upload of a piece.
 fn chunk(alloc: Global, piece: &BlobData) -> Result<Command, AllocError>
     ensures { IfOk result (λ command. command ≡ chunk_of piece.now) }
 {
     Ok(Command::Chunk {
-        digest: Digest32(Sha256::digest(piece.as_slice())),
+        digest: piece.digest(),
         blob: Bytes::from_vec(piece.text(alloc)?),
     })
 }
@@ -52,17 +45,18 @@ fn chunk(alloc: Global, piece: &BlobData) -> Result<Command, AllocError>
 fn push_chunk(
     alloc: Global,
     commands: &mut Vec<Command>,
-    sent: &mut Vec<Digest32>,
+    sent: &mut Known,
     piece: &BlobData,
 ) -> Result<(), AllocError>
-    ensures pushes { Pushes commands.old commands.new (one_chunk sent.old.items piece.now) result }
-    ensures sent { OnOk result (sent.new.items ≡ sent_after piece.now sent.old.items) }
+    ensures pushes { Pushes commands.old commands.new (one_chunk sent.old piece.now) result }
+    ensures sent { OnOk result (sent.new ≡ sent_with piece.now sent.old) }
 {
-    if is_sent(piece, sent) {
+    let digest = piece.digest();
+    if sent.find(&digest).is_some() {
         return Ok(());
     }
     commands.push(chunk(alloc, piece)?)?;
-    sent.insert(0, Digest32(Sha256::digest(piece.as_slice())))?;
+    sent.add(&digest, 0)?;
     Ok(())
 }
 
@@ -70,14 +64,14 @@ fn push_chunk(
 fn push_chunks(
     alloc: Global,
     commands: &mut Vec<Command>,
-    sent: &[Digest32],
+    sent: &mut Known,
     pieces: &[BlobData],
 ) -> Result<(), AllocError>
-    ensures { Pushes commands.old commands.new (chunks_of sent.now pieces.now) result }
+    ensures pushes { Pushes commands.old commands.new (chunks_of sent.old pieces.now) result }
+    ensures sent { OnOk result (sent.new ≡ sent_after pieces.now sent.old) }
 {
-    let mut sent = Vec::from_slice(alloc, sent)?;
     for piece in pieces {
-        push_chunk(alloc, commands, &mut sent, piece)?;
+        push_chunk(alloc, commands, sent, piece)?;
     }
     Ok(())
 }
@@ -89,12 +83,11 @@ fn entries_of(alloc: Global, pieces: &[BlobData]) -> Result<Vec<AppendEntry>, Al
     let mut entries = Vec::new(alloc);
     let mut offset = 0u64;
     for piece in pieces {
-        let piece = piece.as_slice();
         entries.push(AppendEntry {
-            digest: Digest32(Sha256::digest(piece)),
+            digest: piece.digest(),
             offset,
         })?;
-        let size = piece.len() as u64;
+        let size = piece.as_slice().len() as u64;
         offset = offset.checked_add(size).ok_or(AllocError)?;
     }
     Ok(entries)
@@ -135,11 +128,13 @@ fn closes(alloc: Global, archive: &Archive) -> Result<Command, AllocError>
 fn push_archive(
     alloc: Global,
     commands: &mut Vec<Command>,
-    sent: &[Digest32],
+    sent: &mut Known,
     name: &[u8],
     archive: &Archive,
 ) -> Result<(), AllocError>
-    ensures { Pushes commands.old commands.new (archive_by sent.now name.now archive.now) result }
+    ensures pushes { Pushes commands.old commands.new
+        (archive_by sent.old name.now archive.now) result }
+    ensures sent { OnOk result (sent.new ≡ sent_after archive.now.pieces sent.old) }
 {
     commands.push(begins(alloc, archive.layout, name)?)?;
     push_chunks(alloc, commands, sent, &archive.pieces)?;
@@ -154,10 +149,11 @@ fn push_archive(
 fn push_file(
     alloc: Global,
     commands: &mut Vec<Command>,
-    sent: &[Digest32],
+    sent: &mut Known,
     file: &File,
 ) -> Result<(), AllocError>
-    ensures { Pushes commands.old commands.new (file_by sent.now file.now) result }
+    ensures pushes { Pushes commands.old commands.new (file_by sent.old file.now) result }
+    ensures sent { OnOk result (sent.new ≡ sent_after (pieces_of file.now.content) sent.old) }
 {
     let name = file.name.as_slice();
     match &file.content {
@@ -173,22 +169,6 @@ fn push_file(
             Ok(())
         }
     }
-}
-
-/// The digests of the pieces, before those that are sent.
-fn sent_with(
-    alloc: Global,
-    pieces: &[BlobData],
-    sent: &[Digest32],
-) -> Result<Vec<Digest32>, AllocError>
-    ensures { IfOk result (λ after. after.items ≡ map digest_of pieces.now ++ sent.now) }
-{
-    let mut digests = Vec::new(alloc);
-    for piece in pieces {
-        digests.push(Digest32(Sha256::digest(piece.as_slice())))?;
-    }
-    digests.extend_from_slice(sent)?;
-    Ok(digests)
 }
 
 /// One more listed file, where there is one of this name.
@@ -215,13 +195,12 @@ fn listed_files(alloc: Global, files: &[File]) -> Result<Vec<File>, AllocError>
 }
 
 fn uploads(alloc: Global, files: &[File]) -> Result<Vec<Command>, AllocError>
-    ensures { IfOk result (λ commands. commands.items ≡ uploads_by [] files.now) }
+    ensures { IfOk result (λ commands. commands.items ≡ uploads_by empty files.now) }
 {
     let mut commands = Vec::new(alloc);
-    let mut sent = Vec::new(alloc);
+    let mut sent = Known::new(alloc);
     for file in files {
-        push_file(alloc, &mut commands, &sent, file)?;
-        sent = sent_with(alloc, file.content.pieces(), &sent)?;
+        push_file(alloc, &mut commands, &mut sent, file)?;
     }
     Ok(commands)
 }

@@ -6,4 +6,5 @@ pub mod Standing
 pub mod Listing
 pub mod Finished
 pub mod Noted
+pub mod Ranges
 pub mod Counts

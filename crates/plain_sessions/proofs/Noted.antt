@@ -2,8 +2,7 @@
 use Rattle.std.proofs.Common.{◌≡◌, ℕ, suc, ◌+◌, ◌-◌, ◌<◌, ◌≤◌, Bool, true, false, Ok, Err, List, [], ◌∷◌, ◌++◌, length, get_or, take, drop, drop-cons, add-one, Some, None, refl, sym, ap, ◌∙◌, arith}
 use Rattle.std.specs.List.{concat, find, flat_map}
 use Rattle.std.specs.Option.{option_or}
-use Rattle.std.proofs.lemmas.List.{append-nil, take_more, take_all, length-drop}
-use Rattle.std.proofs.lemmas.List.Folds.{concat-append, find-append}
+use Rattle.std.proofs.lemmas.List.Folds.{find-append}
 use Rattle.std.proofs.lemmas.Option.{slice_get_read, slice_get_past}
 use Rattle.blob_codec.specs.Blob.{blob, data_limit, blob_limit}
 use Rattle.store_types.specs.declared.refusal.Refusal.{Refusal}
@@ -12,14 +11,6 @@ use Rattle.store_files.specs.Archive.{File}
 use Rattle.store_model.specs.Store.{Reader}
 use Rattle.store_model.specs.ReaderSteps.{is_noted, pieces_at, want_range, range_of}
 use Rattle.plain_sessions.specs.Reading.{entry_blob}
-
--- ---- the content of an archive
-
-pub concat_more : (xs : List (List ℕ)) (i : ℕ) (x : List ℕ) → i < length xs → x ≡ get_or xs i x → concat (take (i + 1) xs) ≡ concat (take i xs) ++ x
-concat_more xs i x below is =
-    ap concat (take_more xs i x below ∙ ap (λ y. take i xs ++ y ∷ []) (sym is))
-    ∙ concat-append (take i xs) (x ∷ [])
-    ∙ ap (λ z. concat (take i xs) ++ z) (append-nil x)
 
 -- ---- the blob of a piece
 
@@ -45,9 +36,6 @@ module _ {A : Type 0} (p : A → Bool) (f : List ℕ → List A) (names : List (
   asked_on i name below is h = from_there i name below is ∙ ap (λ o. option_or o (find p (flat_map f (drop (i + 1) names)))) h
 
 -- ---- ranges
-
-pub range_bytes : (text bytes : List ℕ) (offset n : ℕ) → bytes ≡ take n (take (length text - offset) (drop offset text)) → bytes ≡ take n (drop offset text)
-range_bytes text bytes offset n is = is ∙ ap (take n) (take_all (length text - offset) (drop offset text) (omega (arith, length-drop offset text)))
 
 module _ (files : List File) (r : Reader) (name : List ℕ) (offset count : ℕ) where
   pub range_not_noted : is_noted r name ≡ false → range_of files r name offset count ≡ Err NotAllowed

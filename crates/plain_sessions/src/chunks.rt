@@ -5,7 +5,6 @@ ghost use Rattle.plain_sessions.specs.Outcomes.{GivesSame, IsFitRefusal};
 
 use crate::stop::Stop;
 use plain_snapshots::BlobData;
-use sha2::{Digest, Sha256};
 use std::alloc::Global;
 use store_types::{Digest32, Refusal};
 
@@ -22,7 +21,7 @@ pub fn checked_piece(alloc: Global, digest: &Digest32, blob: &[u8]) -> Result<Bl
     if piece.as_slice().is_empty() {
         return Err(Stop::Refused(Refusal::WrongSize { place: 0, size: 0 }));
     }
-    let found = Digest32(Sha256::digest(piece.as_slice()));
+    let found = piece.digest();
     if found == *digest {
         Ok(piece)
     } else {

@@ -13,7 +13,7 @@ ghost use Rattle.plain_sessions.specs.Archiving.{closed_of, want_facts_of};
 
 use crate::stop::Stop;
 use crate::writer::Writer;
-use plain_snapshots::{Archive, Content, File, Layout};
+use plain_snapshots::{Archive, Content, File, Layout, end_of};
 use std::alloc::Global;
 use store_types::{CloseFault, Digest32, Refusal};
 
@@ -55,7 +55,7 @@ fn want_facts(
     if count != pieces {
         return Err(bad_close(CloseFault::Count(pieces)));
     }
-    let end = archive.end()?;
+    let end = end_of(&archive.pieces)?;
     if size != end {
         return Err(bad_close(CloseFault::Size(end)));
     }

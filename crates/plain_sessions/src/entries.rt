@@ -11,8 +11,7 @@ ghost use Rattle.plain_sessions.specs.Archiving.{piece_at, first_pieces, appende
 
 use crate::stop::Stop;
 use crate::writer::Writer;
-use plain_snapshots::{BlobData, Layout};
-use sha2::{Digest, Sha256};
+use plain_snapshots::{BlobData, Layout, end_of};
 use std::alloc::{AllocError, Global};
 use store_types::{AppendEntry, Digest32, Refusal};
 
@@ -34,9 +33,7 @@ fn want_entries(pieces: usize, entries: usize) -> Result<(), Refusal>
 pub fn piece_with<'a>(digest: &Digest32, pieces: &'a [BlobData]) -> Option<&'a BlobData>
     ensures { option_map (λ p. p.now) result ≡ first_with digest.now pieces.now }
 {
-    pieces
-        .iter()
-        .find(|piece| Sha256::digest(piece.as_slice()) == digest.0)
+    pieces.iter().find(|piece| piece.digest() == *digest)
 }
 
 /// A piece of this size fits at the end reached so far, both in bytes.
@@ -123,7 +120,7 @@ impl Writer {
         };
         let archive = &begun.archive;
         want_entries(archive.pieces.len(), entries.len())?;
-        let end = archive.end()?;
+        let end = end_of(&archive.pieces)?;
         pieces_named(alloc, &self.pool, archive.layout, end, entries)
     }
 }

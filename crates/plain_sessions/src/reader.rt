@@ -1,6 +1,6 @@
 //! Readers.
 
-ghost use Rattle.std.specs.Prelude.{◌≡◌, ◌≤◌, [], length, option_map, IfOk, IfErr};
+ghost use Rattle.std.specs.Prelude.{◌≡◌, ◌≤◌, [], length, take, drop, option_map, IfOk, IfErr};
 ghost use Rattle.std.specs.List.{concat};
 ghost use Rattle.blob_codec.specs.Blob.{blob, blob_limit};
 ghost use Rattle.wire_commands.specs.HasText.{FitsRefusal};
@@ -11,7 +11,7 @@ ghost use Rattle.plain_sessions.specs.Reading.{chunk_of, entry_blob, noted_piece
 
 use crate::entries::piece_with;
 use crate::stop::Stop;
-use plain_snapshots::{BlobData, Content, File, PlainKey, file_named};
+use plain_snapshots::{BlobData, Content, File, PlainKey, end_of, file_named};
 use std::alloc::{AllocError, Global};
 use std::marker::Model;
 use store_types::{Bytes, Digest32, FileName, RANGE_LIMIT, Refusal};
@@ -26,15 +26,35 @@ fn pieces_at<'a>(files: &'a [File], name: &FileName) -> &'a [BlobData]
     }
 }
 
-/// The pieces, one behind another.
-fn content_of(alloc: Global, pieces: &[BlobData]) -> Result<Vec<u8>, AllocError>
-    ensures { IfOk result (λ content. content.items ≡ concat pieces.now) }
+/// So many bytes of a piece, where there are, behind those before.
+fn part_of(piece: &BlobData, before: usize, count: usize) -> &[u8]
+    ensures { result.now ≡ take count (drop before piece.now) }
 {
-    let mut content = Vec::new(alloc);
+    let bytes = piece.as_slice();
+    let rest = &bytes[before.min(bytes.len())..];
+    &rest[..count.min(rest.len())]
+}
+
+/// So many bytes, where there are, from an offset on of the pieces, one behind another.
+fn bytes_from(
+    alloc: Global,
+    pieces: &[BlobData],
+    offset: u64,
+    count: u32,
+) -> Result<Bytes, AllocError>
+    ensures bytes { IfOk result (λ b. b ≡ take count (drop offset (concat pieces.now))) }
+    ensures short { IfOk result (λ b. length b ≤ count) }
+{
+    let mut bytes = Vec::new(alloc);
+    let mut before = offset as usize;
+    let mut left = count as usize;
     for piece in pieces {
-        content.extend_from_slice(piece.as_slice())?;
+        let part = part_of(piece, before, left);
+        bytes.extend_from_slice(part)?;
+        before = before.saturating_sub(piece.as_slice().len());
+        left = left.saturating_sub(part.len());
     }
-    Ok(content)
+    Ok(Bytes::from_vec(bytes))
 }
 
 /// The blob of a piece. A reply holds it.
@@ -170,10 +190,9 @@ impl Reader {
         if !self.is_noted(name) {
             return Err(Stop::Refused(Refusal::NotAllowed));
         }
-        let content = content_of(alloc, pieces_at(files, name))?;
-        want_range(content.len() as u64, offset, count)?;
-        let rest = &content[offset as usize..];
-        let bytes = Bytes::from_slice(alloc, &rest[..count as usize])?;
+        let pieces = pieces_at(files, name);
+        want_range(end_of(pieces)?, offset, count)?;
+        let bytes = bytes_from(alloc, pieces, offset, count)?;
         Ok(bytes)
     }
 }

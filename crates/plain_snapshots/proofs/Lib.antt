@@ -3,6 +3,7 @@ pub mod Order
 pub mod Entries
 pub mod KeyLength
 pub mod ReadingDisk
+pub mod Searching
 pub mod Headers
 pub mod Sorting
 pub mod RowTexts

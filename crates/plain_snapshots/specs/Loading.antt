@@ -1,10 +1,12 @@
 -- What is read of a disk.
-use Rattle.std.specs.Prelude.{◌≡◌, ℕ, List, [], ◌∷◌, ◌++◌, map, Option, Some, None, option_map, Result, Ok, Err, OnOk, Vec, if◌then◌else◌}
+use Rattle.std.specs.Prelude.{◌≡◌, ℕ, Bool, false, is_none, List, [], ◌∷◌, ◌++◌, map, Option, Some, None, option_map, Result, Ok, Err, OnOk, Vec, if◌then◌else◌}
 use Rattle.std.specs.declared.alloc.Global.{Global}
-use Rattle.std.specs.FinMap.{get}
+use Rattle.std.specs.List.{list_any}
+use Rattle.std.specs.FinMap.{get, entries}
 use Rattle.std.specs.Str.{bytes_eq}
 use Rattle.sha2.specs.Sha256.{sha256}
 use Rattle.disk_trait.specs.declared.disk.Disk.{Ghosts}
+use Rattle.disk_trait.specs.Files.{Files}
 use Rattle.store_types.specs.FileNames.{manifest_name}
 use Rattle.blob_codec.specs.Blob.{data_of}
 use Rattle.store_files.specs.FixedIndex.{fixed_of}
@@ -12,7 +14,7 @@ use Rattle.store_files.specs.DynamicIndex.{dynamic_of, Ended}
 use Rattle.store_files.specs.Archive.{Archive, dynamic, fixed}
 use Rattle.store_files.specs.Manifest.{Manifest}
 use Rattle.store_model.specs.Manifests.{listed_names}
-use Rattle.store_model.specs.Load.{Entries, piece_in, empty_archive, fixed_archive, dynamic_archive}
+use Rattle.store_model.specs.Load.{Entries, piece_in, empty_archive, fixed_archive, dynamic_archive, key_of_manifest, snapshot_in}
 
 -- what is read at a name
 abbrev pub found_at : List ℕ → Option (List ℕ) → List (List ℕ × List ℕ)
@@ -50,3 +52,11 @@ data_or_nothing bytes = elim (data_of bytes) [ Ok p ↦ p | Err cause ↦ [] ]
 -- the pieces that a dynamic index's entries name
 abbrev pub pieces_of_ends : Entries → List Ended → List (List ℕ)
 pieces_of_ends m ends = map (λ e. piece_in m e.digest) ends
+
+-- a manifest whose snapshot is damaged
+abbrev pub is_damaged : Entries → List ℕ × List ℕ → Bool
+is_damaged m entry = elim (key_of_manifest entry.0) [ None ↦ false | Some key ↦ is_none (snapshot_in m key entry.1) ]
+
+-- a datastore with one
+abbrev pub has_damaged : Files → Bool
+has_damaged files = list_any (is_damaged (entries files)) (entries files)

@@ -58,7 +58,7 @@ fn digests_of(alloc: Global, pieces: &[BlobData]) -> Result<Vec<u8>, AllocError>
 {
     let mut text = Vec::new(alloc);
     for piece in pieces {
-        text.extend_from_slice(&Sha256::digest(piece.as_slice()))?;
+        text.extend_from_slice(&piece.digest().0)?;
     }
     Ok(text)
 }
@@ -70,33 +70,32 @@ fn entries_of(alloc: Global, pieces: &[BlobData]) -> Result<Vec<u8>, AllocError>
     let mut text = Vec::new(alloc);
     let mut end = 0u64;
     for piece in pieces {
-        let piece = piece.as_slice();
-        end = end.wrapping_add(piece.len() as u64);
+        end = end.wrapping_add(piece.as_slice().len() as u64);
         text.extend_from_slice(&end.to_le_bytes())?;
-        text.extend_from_slice(&Sha256::digest(piece))?;
+        text.extend_from_slice(&piece.digest().0)?;
     }
     Ok(text)
 }
 
-impl Archive {
-    /// Where the pieces end, in bytes. More than a `u64` counts no memory holds.
-    pub fn end(&self) -> Result<u64, AllocError>
-        ensures { IfOk result (λ end. end ≡ length (content_of self.now)) }
-    {
-        let mut end = 0u64;
-        for piece in &self.pieces {
-            let size = piece.as_slice().len() as u64;
-            end = end.checked_add(size).ok_or(AllocError)?;
-        }
-        Ok(end)
+/// Where the pieces end, in bytes, one behind another. More than a `u64` counts no memory holds.
+pub fn end_of(pieces: &[BlobData]) -> Result<u64, AllocError>
+    ensures { IfOk result (λ end. end ≡ length (concat pieces.now)) }
+{
+    let mut end = 0u64;
+    for piece in pieces {
+        let size = piece.as_slice().len() as u64;
+        end = end.checked_add(size).ok_or(AllocError)?;
     }
+    Ok(end)
+}
 
+impl Archive {
     /// The archive's size in bytes: of a fixed one, the size that it was declared with.
     pub fn size(&self) -> Result<u64, AllocError>
         ensures { IfOk result (λ size. size ≡ size_by self.now.layout self.now) }
     {
         match self.layout {
-            Layout::Dynamic => self.end(),
+            Layout::Dynamic => end_of(&self.pieces),
             Layout::Fixed { size, .. } => Ok(size),
         }
     }

@@ -11,7 +11,7 @@ ghost use Rattle.plain_snapshots.specs.Loading.{fixed_in as fixed_of_bytes, dyna
 use crate::archive::{Archive, Layout};
 use crate::blob::BlobData;
 use crate::pieces::piece_in;
-use crate::stored::Stored;
+use crate::stored::Folder;
 use dynamic_index::DynamicView;
 use fixed_index::FixedView;
 use std::alloc::{AllocError, Global};
@@ -42,7 +42,7 @@ fn u64_at(bytes: &[u8], at: usize) -> u64
 /// The pieces that a fixed index names.
 fn fixed_pieces(
     alloc: Global,
-    files: &[Stored],
+    files: &Folder,
     view: &FixedView,
 ) -> Result<Vec<BlobData>, AllocError>
     ensures { IfOk result (λ pieces. pieces.items ≡ map (piece_of files.now) view.now.digests) }
@@ -58,7 +58,7 @@ fn fixed_pieces(
 /// The archive of a fixed index.
 fn fixed_archive(
     alloc: Global,
-    files: &[Stored],
+    files: &Folder,
     bytes: &[u8],
     view: &FixedView,
 ) -> Result<Archive, AllocError>
@@ -78,7 +78,7 @@ fn fixed_archive(
 }
 
 /// The archive whose fixed index these bytes are. Bytes that are none count as one without pieces.
-pub fn fixed_in(alloc: Global, files: &[Stored], bytes: &[u8]) -> Result<Archive, AllocError>
+pub fn fixed_in(alloc: Global, files: &Folder, bytes: &[u8]) -> Result<Archive, AllocError>
     ensures { IfOk result (λ archive. archive ≡ fixed_of_bytes files.now bytes.now) }
 {
     match FixedView::open_on(bytes) {
@@ -96,7 +96,7 @@ pub fn fixed_in(alloc: Global, files: &[Stored], bytes: &[u8]) -> Result<Archive
 /// The pieces that a dynamic index names.
 fn dynamic_pieces(
     alloc: Global,
-    files: &[Stored],
+    files: &Folder,
     view: &DynamicView,
 ) -> Result<Vec<BlobData>, AllocError>
     ensures { IfOk result (λ pieces. pieces.items ≡ pieces_of_ends files.now view.now.entries) }
@@ -112,7 +112,7 @@ fn dynamic_pieces(
 /// The archive of a dynamic index.
 fn dynamic_archive(
     alloc: Global,
-    files: &[Stored],
+    files: &Folder,
     bytes: &[u8],
     view: &DynamicView,
 ) -> Result<Archive, AllocError>
@@ -129,7 +129,7 @@ fn dynamic_archive(
 }
 
 /// The archive whose dynamic index these bytes are. Bytes that are none count as one without pieces.
-pub fn dynamic_in(alloc: Global, files: &[Stored], bytes: &[u8]) -> Result<Archive, AllocError>
+pub fn dynamic_in(alloc: Global, files: &Folder, bytes: &[u8]) -> Result<Archive, AllocError>
     ensures { IfOk result (λ archive. archive ≡ dynamic_of_bytes files.now bytes.now) }
 {
     match DynamicView::open_on(bytes) {

@@ -15,7 +15,7 @@ mod pulling;
 mod snapshot;
 mod stored;
 
-pub use archive::{Archive, Layout};
+pub use archive::{Archive, Layout, end_of};
 pub use blob::BlobData;
 pub use file::{Content, File, file_named, insert_file, manifest_data};
 pub use key::PlainKey;

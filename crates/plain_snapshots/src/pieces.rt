@@ -1,13 +1,12 @@
 //! The pieces of archives as a disk has them.
 
-ghost use Rattle.std.specs.Prelude.{◌≡◌, IfOk};
+ghost use Rattle.std.specs.Prelude.{◌≡◌, IfOk, option_map};
 ghost use Rattle.store_files.specs.Folder.{chunk_name as name_of_chunk};
 ghost use Rattle.store_model.specs.Load.{piece_in as piece_of};
 ghost use Rattle.plain_snapshots.specs.Loading.{data_of_digest};
 
 use crate::blob::BlobData;
-use crate::stored::{Stored, bytes_at};
-use sha2::{Digest, Sha256};
+use crate::stored::{Folder, Stored};
 use std::alloc::{AllocError, Global};
 
 /// Where the chunk with this digest stands: `.chunks/<first four digits>/<all digits>`, in lower case.
@@ -24,30 +23,30 @@ fn chunk_name(alloc: Global, digest: &[u8]) -> Result<Vec<u8>, AllocError>
 }
 
 /// The data of a blob, where they have this digest.
-fn data_with(alloc: Global, blob: &[u8], digest: &[u8]) -> Result<Option<BlobData>, AllocError>
-    ensures { IfOk result (λ piece. piece ≡ data_of_digest blob.now digest.now) }
+fn data_with<'a>(stored: &'a Stored, digest: &[u8]) -> Option<&'a BlobData>
+    ensures { option_map (λ piece. piece.now) result ≡ data_of_digest stored.now.1 digest.now }
 {
-    let Ok(piece) = BlobData::decoded(alloc, blob)? else {
-        return Ok(None);
+    let Ok(piece) = stored.blob() else {
+        return None;
     };
-    if Sha256::digest(piece.as_slice()).as_slice() == digest {
-        Ok(Some(piece))
+    if piece.digest().0.as_slice() == digest {
+        Some(piece)
     } else {
-        Ok(None)
+        None
     }
 }
 
 /// The piece with this digest. One that is not there, or is another, counts as empty.
 #[tactic(auto, unfolding(store_model::specs::Load::piece_in))]
-pub fn piece_in(alloc: Global, files: &[Stored], digest: &[u8]) -> Result<BlobData, AllocError>
+pub fn piece_in(alloc: Global, files: &Folder, digest: &[u8]) -> Result<BlobData, AllocError>
     ensures { IfOk result (λ piece. piece ≡ piece_of files.now digest.now) }
 {
     let name = chunk_name(alloc, digest)?;
-    let Some(blob) = bytes_at(files, &name) else {
-        return Ok(BlobData::empty(alloc));
+    let Some(stored) = files.at(&name) else {
+        return BlobData::empty(alloc);
     };
-    match data_with(alloc, blob, digest)? {
-        Some(piece) => Ok(piece),
-        None => Ok(BlobData::empty(alloc)),
+    match data_with(stored, digest) {
+        Some(piece) => piece.clone(),
+        None => BlobData::empty(alloc),
     }
 }

@@ -5,6 +5,7 @@
 
 mod admin_steps;
 mod archive_steps;
+mod frees;
 mod loading;
 mod parts;
 mod plain;
@@ -14,5 +15,6 @@ mod sync_steps;
 mod weave;
 mod writer_steps;
 
+pub use frees::Free;
 pub use plain::Plain;
-pub use weave::{Misfit, Woven};
+pub use weave::{Misfit, Replayed, Woven};

@@ -137,7 +137,7 @@ impl<'a> Run<'a> {
     }
 
     /// Whether memory was wanting since the lane's own collector opened, where it is open.
-    fn own_collector(&self, lane: u32) -> Option<bool>
+    pub(crate) fn own_collector(&self, lane: u32) -> Option<bool>
         ensures { result ≡ own_open self.now lane }
     {
         let open = self.collecting.as_ref()?;

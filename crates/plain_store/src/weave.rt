@@ -6,9 +6,11 @@ ghost use Rattle.store_model.specs.declared.ending.Ending.TheVariants.{Clean};
 ghost use Rattle.store_model.specs.Store.{none, store_of};
 ghost use Rattle.store_model.specs.Lanes.{new_lane};
 ghost use Rattle.plain_store.specs.Runs.{BeginsRun, Plays};
+ghost use Rattle.plain_store.specs.Replays.{Replays};
 ghost use Rattle.plain_store.specs.Turns.{Turns};
 ghost use Rattle.store_model.specs.Weave.{known, woven_of, misfit as misfit_at};
 
+use crate::frees::{Free, note};
 use crate::plain::Plain;
 use crate::run::Run;
 use plain_lanes::Lane;
@@ -49,6 +51,13 @@ impl Model for Misfit {
     ghost Value = { model.Misfit };
 
     ghost view = { λ m. record { entry = m.entry; lane = m.lane; replayed = m.replayed } };
+}
+
+/// What an order makes, and where its replies have numbers that are free.
+#[derive(Drop)]
+pub struct Replayed {
+    pub woven: Woven,
+    pub frees: Vec<Free>,
 }
 
 /// How the lane ends.
@@ -141,35 +150,61 @@ impl Plain {
         requires rules { IsTrue (keeps_rules (length inputs.now) order.now) }
         ensures { Plays self.now remote.entry (λ p. p.now) order.now inputs.now endings.now result }
     {
+        match self.replay(alloc, remote, order, inputs, endings)? {
+            Ok(replayed) => Ok(Ok(replayed.woven)),
+            Err(misfit) => Ok(Err(misfit)),
+        }
+    }
+
+    /// What [`Plain::weave`] gives, and where the replies have numbers that are free.
+    pub fn replay(
+        &self,
+        alloc: Global,
+        remote: Option<&Plain>,
+        order: &[Entry],
+        inputs: &[Bytes],
+        endings: &[Ending],
+    ) -> Result<Result<Replayed, Misfit>, AllocError>
+        requires lanes { length inputs.now ≤ 64 }
+        requires endings { length endings.now ≡ length inputs.now }
+        requires rules { IsTrue (keeps_rules (length inputs.now) order.now) }
+        ensures { Replays self.now remote.entry (λ p. p.now)
+            order.now inputs.now endings.now result }
+    {
         let mut run = self.begin(alloc, remote, inputs)?;
+        let mut frees = Vec::new(alloc);
         for place in 0..order.len() {
-            if let Some(misfit) = run.take_turn(alloc, place, order, endings)? {
+            if let Some(misfit) = run.take_turn(alloc, place, order, endings, &mut frees)? {
                 return Ok(Err(misfit));
             }
         }
-        Ok(Ok(run.woven(alloc)?))
+        let woven = run.woven(alloc)?;
+        Ok(Ok(Replayed { woven, frees }))
     }
 }
 
 impl Run<'_> {
-    /// Takes the entry at this place of the order, or tells that it does not fit.
+    /// Takes the entry at this place of the order, and notes what its reply leaves free, or tells that it does not fit.
     fn take_turn(
         &mut self,
         alloc: Global,
         place: usize,
         order: &[Entry],
         endings: &[Ending],
+        frees: &mut Vec<Free>,
     ) -> Result<Option<Misfit>, AllocError>
         requires place { place < length order.now }
         requires lanes { length self.old.lanes ≤ 64 }
         requires endings { length endings.now ≡ length self.old.lanes }
         requires rules { IsTrue (keeps_rules (length self.old.lanes) order.now) }
-        ensures turn { IfOk result (Turns (known endings.now) order.now place self.old self.new) }
+        ensures turn { IfOk result (Turns (known endings.now) order.now place
+            self.old self.new frees.old.items frees.new.items) }
         ensures lanes { IfOk result (λ _. length self.new.lanes ≡ length self.old.lanes) }
     {
         let entry = &order[place];
         let ending = ending_of(endings, entry.lane);
         let later = &order[place + 1..];
+        note(frees, self.freed(entry))?;
         if self.enter(alloc, place as u64, entry, ending, later)? {
             return Ok(None);
         }

@@ -1,64 +1,64 @@
 //! Datastores in memory.
 
+use crate::asserts::must;
 use disk_trait::{Disk, MemoryDisk};
 use plain_store::Plain;
-use std::alloc::{AllocError, Global};
-use std::test::Fail;
+use std::alloc::Global;
+use std::process::Abort;
 
 /// A file: its name, and its bytes in two parts. Where the first is not empty, zeros fill it up to 4,096 bytes.
 pub(crate) type File = (&'static str, &'static [u8], &'static [u8]);
 
 /// Puts these bytes in place of what stands at a name, or removes that.
 pub(crate) fn change(
+    rt: &impl Abort,
     disk: &mut MemoryDisk,
     alloc: Global,
     name: &str,
     bytes: Option<&[u8]>,
-) -> Result<(), Fail> {
-    if name.len() > 255 {
-        return Err("a long name".into());
-    }
+) {
+    assert!(rt; name.len() <= 255);
     match bytes {
-        Some(bytes) => disk.put(alloc, name, bytes)?,
+        Some(bytes) => must(rt, disk.put(alloc, name, bytes)),
         None => {
-            disk.remove(name)?;
+            must(rt, disk.remove(name));
         }
     }
-    Ok(())
 }
 
-fn put_file(disk: &mut MemoryDisk, alloc: Global, file: &File) -> Result<(), Fail> {
+fn put_file(rt: &impl Abort, disk: &mut MemoryDisk, alloc: Global, file: &File) {
     let (name, front, rest) = file;
-    let mut bytes = front.to_vec(alloc)?;
+    let mut bytes = must(rt, front.to_vec(alloc));
     if !bytes.is_empty() {
-        bytes.resize(4096, 0)?;
+        must(rt, bytes.resize(4096, 0));
     }
-    bytes.extend_from_slice(rest)?;
-    change(disk, alloc, name, Some(&bytes))
+    must(rt, bytes.extend_from_slice(rest));
+    change(rt, disk, alloc, name, Some(&bytes))
 }
 
-pub(crate) fn disk_of(alloc: Global, files: &[File]) -> Result<MemoryDisk, Fail> {
+pub(crate) fn disk_of(rt: &impl Abort, alloc: Global, files: &[File]) -> MemoryDisk {
     let mut disk = MemoryDisk::new(alloc);
     for file in files {
-        put_file(&mut disk, alloc, file)?;
+        put_file(rt, &mut disk, alloc, file);
     }
-    Ok(disk)
+    disk
 }
 
 pub(crate) fn numbered(
+    rt: &impl Abort,
     alloc: Global,
     front: &str,
     number: usize,
     end: &str,
-) -> Result<String, AllocError> {
-    let mut text = String::from_str(alloc, front)?;
-    write!(text, "{number}")?;
-    text.push_str(end)?;
-    Ok(text)
+) -> String {
+    let mut text = must(rt, String::from_str(alloc, front));
+    must(rt, write!(text, "{number}"));
+    must(rt, text.push_str(end));
+    text
 }
 
 /// The store of a datastore with these files.
-pub(crate) fn store_of(alloc: Global, files: &[File]) -> Result<Plain, Fail> {
-    let mut disk = disk_of(alloc, files)?;
-    Ok(Plain::load(alloc, &mut disk)?)
+pub(crate) fn store_of(rt: &impl Abort, alloc: Global, files: &[File]) -> Plain {
+    let mut disk = disk_of(rt, alloc, files);
+    must(rt, Plain::load(alloc, &mut disk))
 }

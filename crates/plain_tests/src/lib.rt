@@ -1,5 +1,5 @@
-//! The tests of the plain store and of jobs: snapshots that are read; lanes that are woven, collections and jobs among them; and prunes
-//! and verifies step by step.
+//! The tests of the plain store and of jobs: snapshots that are read; lanes that are woven, collections and jobs among them; prunes and
+//! verifies step by step; and replies that were kept, compared with a replay's.
 #![tactic(auto)]
 
 #[cfg(test)]
@@ -16,6 +16,8 @@ mod prunes;
 mod pulls;
 #[cfg(test)]
 mod reading;
+#[cfg(test)]
+mod replays;
 #[cfg(test)]
 mod steps;
 #[cfg(test)]

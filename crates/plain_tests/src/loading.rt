@@ -1,37 +1,37 @@
 //! Folders that are loaded as a plain store: LIST tells the whole snapshots. That the core tells the same, and which others are damaged, is
 //! in the scenarios of `folders`. The bytes are made by `tests/make-tables`.
 
-use crate::asserts::same;
+use crate::asserts::{must, same};
 use crate::folders::{change, numbered};
 use crate::reading::{BLOB, DYNAMIC, MANIFEST, OTHER_BLOB, datastore};
 use crate::weaving::told_alone;
 use disk_trait::MemoryDisk;
 use plain_store::Plain;
-use std::alloc::{AllocError, Global};
+use std::alloc::Global;
 use std::process::Abort;
-use std::test::Fail;
 
 /// LIST from the first snapshot on.
 const LIST: &[u8] = b"\x02\0\0\0\x1e\0";
 
-/// The folder is loaded, and LIST tells this.
+/// The folder is loaded, which tells whether a snapshot is damaged, and LIST tells this.
 fn try_folder(
     rt: &impl Abort,
     alloc: Global,
     mut disk: MemoryDisk,
     wanted: &[u8],
-) -> Result<(), Fail> {
-    let store = Plain::load(alloc, &mut disk)?;
-    let told = told_alone(alloc, &store, None, b"06", LIST)?;
+    is_damaged: bool,
+) {
+    let (store, damaged) = must(rt, Plain::load_told(alloc, &mut disk));
+    same(rt, &[damaged as u8], &[is_damaged as u8]);
+    let told = told_alone(rt, alloc, &store, None, b"06", LIST);
     same(rt, told.as_slice(), wanted);
-    Ok(())
 }
 
 /// What stands at a name of the datastore in place of what stood there, or nothing.
 type Change = (&'static str, Option<&'static [u8]>);
 
-/// Changes of the datastore, and what is told of its snapshots then.
-type Row = (&'static [Change], &'static [u8]);
+/// Changes of the datastore, what is told of its snapshots then, and whether one is damaged.
+type Row = (&'static [Change], &'static [u8], bool);
 
 const BOTH: &[u8] =
     b"A\0\0\0\0\x02\0\x1bhost/a/2020-01-15T06:30:03Z\0\x04\x1dhost/a-b/2020-01-15T06:30:03Z\0\x01";
@@ -45,14 +45,14 @@ const NO_JSON: &[u8] = b"B\xab8\x07\xbe\x83p\xa1\x83\x16\xdc\x8cx";
 
 /// Other manifests, files and indexes. No index and no blob is read at opening; without its manifest a snapshot is not finished.
 static DAMAGED: [Row; 8] = [
-    (&[], BOTH),
-    (&[(MANIFEST, Some(ABC))], OTHER_ALONE),
-    (&[(MANIFEST, Some(b""))], OTHER_ALONE),
-    (&[(MANIFEST, Some(NO_JSON))], OTHER_ALONE),
-    (&[(BLOB, None)], OTHER_ALONE),
-    (&[(DYNAMIC, None)], OTHER_ALONE),
-    (&[(DYNAMIC, Some(ABC)), (BLOB, Some(ABC))], BOTH),
-    (&[(MANIFEST, None)], OTHER_ALONE),
+    (&[], BOTH, false),
+    (&[(MANIFEST, Some(ABC))], OTHER_ALONE, true),
+    (&[(MANIFEST, Some(b""))], OTHER_ALONE, true),
+    (&[(MANIFEST, Some(NO_JSON))], OTHER_ALONE, true),
+    (&[(BLOB, None)], OTHER_ALONE, true),
+    (&[(DYNAMIC, None)], OTHER_ALONE, true),
+    (&[(DYNAMIC, Some(ABC)), (BLOB, Some(ABC))], BOTH, false),
+    (&[(MANIFEST, None)], OTHER_ALONE, false),
 ];
 
 /// Names that are none of a snapshot's files; those that go at an opening; snapshots of all types, whatever key their manifests have, one of
@@ -80,6 +80,7 @@ static OTHERS: [Row; 3] = [
             ),
         ],
         BOTH,
+        false,
     ),
     (
         &[
@@ -95,6 +96,7 @@ static OTHERS: [Row; 3] = [
             ("notes.tmp", Some(ABC)),
         ],
         BOTH,
+        false,
     ),
     (
         &[
@@ -110,83 +112,95 @@ static OTHERS: [Row; 3] = [
             ),
         ],
         b"y\0\0\0\0\x04\0\x19ct/z/2020-01-15T06:30:03Z\0\x01\x1bhost/a/2020-01-15T06:30:03Z\0\x04\x1dhost/a-b/2020-01-15T06:30:03Z\0\x01\x19vm/A/9999-12-31T23:59:59Z\0\x01",
+        true,
     ),
 ];
 
 /// The datastore with these changes.
-fn changed(alloc: Global, changes: &[Change]) -> Result<MemoryDisk, Fail> {
-    let mut disk = datastore(alloc)?;
+fn changed(rt: &impl Abort, alloc: Global, changes: &[Change]) -> MemoryDisk {
+    let mut disk = datastore(rt, alloc);
     for (name, bytes) in changes {
-        change(&mut disk, alloc, name, *bytes)?;
+        change(rt, &mut disk, alloc, name, *bytes);
     }
-    Ok(disk)
+    disk
 }
 
-fn try_rows(rt: &impl Abort, alloc: Global, rows: &[Row]) -> Result<(), Fail> {
-    for (changes, wanted) in rows {
-        try_folder(rt, alloc, changed(alloc, changes)?, wanted)?;
+fn try_rows(rt: &impl Abort, alloc: Global, rows: &[Row]) {
+    for (changes, wanted, damaged) in rows {
+        try_folder(rt, alloc, changed(rt, alloc, changes), wanted, *damaged);
     }
-    Ok(())
 }
 
 #[test]
-fn damaged_snapshots_are_left_out(rt: HostRuntime) -> Result<(), Fail> {
+fn damaged_snapshots_are_left_out(rt: HostRuntime) {
     try_rows(&rt, rt.alloc(), &DAMAGED)
 }
 
 #[test]
-fn other_names_are_passed_over(rt: HostRuntime) -> Result<(), Fail> {
+fn other_names_are_passed_over(rt: HostRuntime) {
     try_rows(&rt, rt.alloc(), &OTHERS)
 }
 
 /// The blob of a manifest that lists files of these numbers, from 10 on, behind its header.
-fn many_listed(alloc: Global, header: &[u8], end: usize) -> Result<Vec<u8>, AllocError> {
-    let mut text = header.to_vec(alloc)?;
-    text.extend_from_slice(
-        b"{\"backup-id\":\"a\",\"backup-time\":1579069803,\"backup-type\":\"host\",\"files\":[",
-    )?;
-    for number in 10..end {
+fn many_listed(rt: &impl Abort, alloc: Global, header: &[u8], end: usize) -> Vec<u8> {
+    let mut text = must(rt, header.to_vec(alloc));
+    must(
+        rt,
         text.extend_from_slice(
-            b"{\"crypt-mode\":\"none\",\"csum\":\"313cbece05892a562406ace8a0eee5e8e7b544fda0b69693e09f90cc6fff476b\",\"filename\":\"",
-        )?;
-        let name = numbered(alloc, "x", number, ".blob\",\"size\":12},")?;
-        text.extend_from_slice(name.as_bytes())?;
+            b"{\"backup-id\":\"a\",\"backup-time\":1579069803,\"backup-type\":\"host\",\"files\":[",
+        ),
+    );
+    for number in 10..end {
+        must(
+            rt,
+            text.extend_from_slice(
+                b"{\"crypt-mode\":\"none\",\"csum\":\"313cbece05892a562406ace8a0eee5e8e7b544fda0b69693e09f90cc6fff476b\",\"filename\":\"",
+            ),
+        );
+        let name = numbered(rt, alloc, "x", number, ".blob\",\"size\":12},");
+        must(rt, text.extend_from_slice(name.as_bytes()));
     }
     let _ = text.pop();
-    text.extend_from_slice(b"]}")?;
-    Ok(text)
+    must(rt, text.extend_from_slice(b"]}"));
+    text
 }
 
 /// How the files' paths begin.
 const PATH: &str = "host/a/2020-01-15T06:30:03Z/x";
 
 /// A disk with that manifest, and with the files.
-fn with_many(alloc: Global, header: &[u8], end: usize) -> Result<MemoryDisk, Fail> {
+fn with_many(rt: &impl Abort, alloc: Global, header: &[u8], end: usize) -> MemoryDisk {
     let mut disk = MemoryDisk::new(alloc);
-    let manifest = many_listed(alloc, header, end)?;
-    change(&mut disk, alloc, MANIFEST, Some(&manifest))?;
+    let manifest = many_listed(rt, alloc, header, end);
+    change(rt, &mut disk, alloc, MANIFEST, Some(&manifest));
     for number in 10..end {
-        let name = numbered(alloc, PATH, number, ".blob")?;
-        change(&mut disk, alloc, name.as_str(), Some(ABC))?;
+        let name = numbered(rt, alloc, PATH, number, ".blob");
+        change(rt, &mut disk, alloc, name.as_str(), Some(ABC));
     }
-    Ok(disk)
+    disk
 }
 
-/// A manifest lists 63 files at most: the headers of the blobs of two, and what is told.
-static MANY: [(&[u8], usize, &[u8]); 2] = [
+/// A manifest lists 63 files at most: the headers of the blobs of two, what is told, and whether it is damaged.
+static MANY: [(&[u8], usize, &[u8], bool); 2] = [
     (
         b"B\xab8\x07\xbe\x83p\xa1\xf6P\xb4\x1a",
         73,
         b"!\0\0\0\0\x01\0\x1bhost/a/2020-01-15T06:30:03Z\0@",
+        false,
     ),
-    (b"B\xab8\x07\xbe\x83p\xa1\x888&)", 74, b"\x03\0\0\0\0\0\0"),
+    (
+        b"B\xab8\x07\xbe\x83p\xa1\x888&)",
+        74,
+        b"\x03\0\0\0\0\0\0",
+        true,
+    ),
 ];
 
 #[test]
-fn many_files_are_listed(rt: HostRuntime) -> Result<(), Fail> {
+fn many_files_are_listed(rt: HostRuntime) {
     let alloc = rt.alloc();
-    for (header, end, wanted) in &MANY {
-        try_folder(&rt, alloc, with_many(alloc, header, *end)?, wanted)?;
+    for (header, end, wanted, damaged) in &MANY {
+        let disk = with_many(&rt, alloc, header, *end);
+        try_folder(&rt, alloc, disk, wanted, *damaged);
     }
-    Ok(())
 }

@@ -1,11 +1,14 @@
-//! The order of a replay, as text, and the rules that it keeps.
+//! The order of a replay, as text.
 
-ghost use Rattle.std.specs.Prelude.{◌≡◌, [], IsTrue};
-ghost use Rattle.std.specs.List.{list_all};
-ghost use Rattle.store_files.specs.Order.{ends_once, fits_entry, keeps_rules as rules, moments_rise, of_lane};
+ghost use Rattle.std.specs.Prelude.{IsTrue};
+ghost use Rattle.store_files.specs.Order.{keeps_rules};
 
-use std::alloc::{AllocError, Global};
-use store_types::{Entry, LAST_MOMENT};
+use crate::asserts::must;
+use order_file::{put_order, read_order, what_is_read_has_one_spelling};
+use port_traits::MemSink;
+use std::alloc::Global;
+use std::process::Abort;
+use store_types::Entry;
 
 /// The entry of a letter: a digit is the kind of one of lane 0, and of one of lane 1 0 is `a`, 1 is `b`, and so on.
 fn entry_of(letter: u8) -> Entry {
@@ -17,60 +20,22 @@ fn entry_of(letter: u8) -> Entry {
     }
 }
 
-pub(crate) fn order_of(alloc: Global, letters: &[u8]) -> Result<Vec<Entry>, AllocError> {
+/// The bytes of the order file with the entries of these letters.
+pub(crate) fn file_of(rt: &impl Abort, alloc: Global, letters: &[u8]) -> Vec<u8> {
     let mut order = Vec::new(alloc);
     for letter in letters {
-        order.push(entry_of(*letter))?;
+        must(rt, order.push(entry_of(*letter)));
     }
-    Ok(order)
+    let mut file = MemSink::new(alloc, Vec::new(alloc));
+    must(rt, put_order(&mut file, &order));
+    file.into_bytes()
 }
 
-/// Whether the entries fit so many lanes, and their moments never fall.
-fn fits(order: &[Entry], lanes: u32) -> bool
-    ensures entries { IsTrue result → IsTrue (list_all (fits_entry lanes) order.now) }
-    ensures moments { IsTrue result → IsTrue (moments_rise order.now) }
+/// The order of these letters, as its file gives it: it keeps the rules for so many lanes.
+pub(crate) fn order_of(rt: &impl Abort, alloc: Global, lanes: u32, letters: &[u8]) -> Vec<Entry>
+    ensures { IsTrue (keeps_rules lanes result.items) }
 {
-    match order {
-        [first, rest @ ..] => {
-            let rises = match rest {
-                [second, ..] => first.moment <= second.moment,
-                [] => true,
-            };
-            let is_one = first.lane < lanes && first.moment <= LAST_MOMENT && first.kind < 8;
-            is_one && rises && fits(rest, lanes)
-        }
-        [] => true,
-    }
-}
-
-fn is_over(order: &[Entry], lane: u32) -> bool
-    ensures { IsTrue result → of_lane lane order.now ≡ [] }
-{
-    match order {
-        [first, rest @ ..] => first.lane != lane && is_over(rest, lane),
-        [] => true,
-    }
-}
-
-/// Whether the lane's last entry alone is an end.
-fn ends(order: &[Entry], lane: u32) -> bool
-    ensures { IsTrue result → IsTrue (ends_once (of_lane lane order.now)) }
-{
-    match order {
-        [first, rest @ ..] if first.lane == lane && first.kind == 6 => is_over(rest, lane),
-        [_, rest @ ..] => ends(rest, lane),
-        [] => false,
-    }
-}
-
-/// Whether the order keeps the rules for one lane or two.
-#[tactic(auto, unfolding(store_files::specs::Order::keeps_rules))]
-pub(crate) fn keeps_rules(order: &[Entry], lanes: usize) -> bool
-    ensures { IsTrue result → IsTrue (rules lanes order.now) }
-{
-    match lanes {
-        1 => fits(order, 1) && ends(order, 0),
-        2 => fits(order, 2) && ends(order, 0) && ends(order, 1),
-        _ => false,
-    }
+    what_is_read_has_one_spelling();
+    let read = must(rt, read_order(alloc, lanes, &file_of(rt, alloc, letters)));
+    read.expect(rt, "an order that keeps the rules")
 }

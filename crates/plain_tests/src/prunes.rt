@@ -1,7 +1,6 @@
 //! Prunes step by step. The bytes are made by `tests/make-tables`.
 
 use crate::steps::{Row, try_rows};
-use std::test::Fail;
 
 /// The last week of 2020 ends in the next year; the day of the last is served already; the newest goes first, and one that a lane holds,
 /// and one that is gone, do not end the job.
@@ -105,9 +104,9 @@ static REFUSED: [Row; 3] = [
 ];
 
 #[test]
-fn prunes_ask_and_report(rt: HostRuntime) -> Result<(), Fail> {
-    try_rows(&rt, rt.alloc(), &PRUNES)?;
-    try_rows(&rt, rt.alloc(), &KEEPING)?;
-    try_rows(&rt, rt.alloc(), &ENDED)?;
+fn prunes_ask_and_report(rt: HostRuntime) {
+    try_rows(&rt, rt.alloc(), &PRUNES);
+    try_rows(&rt, rt.alloc(), &KEEPING);
+    try_rows(&rt, rt.alloc(), &ENDED);
     try_rows(&rt, rt.alloc(), &REFUSED)
 }

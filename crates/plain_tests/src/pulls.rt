@@ -1,8 +1,13 @@
 //! Collections and jobs in a replay: the order of a session, beside a remote where there is one, gives the replies of that session.
 
-use crate::folders::File;
+use crate::asserts::{must, same};
+use crate::folders::{File, store_of};
+use crate::order::order_of;
 use crate::weaving::{ONE, Talk, try_talks};
-use std::test::Fail;
+use std::alloc::Global;
+use std::process::Abort;
+use store_model::Ending;
+use store_types::Bytes;
 
 /// GC, VERIFY of the snapshot and SYNC of the group, each with BYE behind it: a collector opens, acts twice, and closes; a reader is opened,
 /// the files are told, the manifest is read, and the reader is closed; the remote's snapshots are read, a writer is opened, and the manifest
@@ -32,8 +37,54 @@ static JOBS: [Talk; 3] = [
 ];
 
 #[test]
-fn jobs_are_done(rt: HostRuntime) -> Result<(), Fail> {
+fn jobs_are_done(rt: HostRuntime) {
     try_talks(&rt, rt.alloc(), &JOBS)
+}
+
+/// An order, what each of two lanes sends, and where their replies have the numbers of collections.
+type Freeing = (&'static [u8], [&'static [u8]; 2], &'static [u8]);
+
+/// Two collections behind a LIST; one beside another lane's LIST; one beside another, which is refused; and two that
+/// reply without numbers: memory is wanting, and the disk fails.
+static FREES: [Freeing; 5] = [
+    (
+        b"0343146g",
+        [b"\x02\0\0\0\x1e\0\x01\0\0\0$\x01\0\0\0$", b""],
+        b"0:12 0:57 ",
+    ),
+    (b"0de6g", [b"\x02\0\0\0\x1e\0", b"\x01\0\0\0$"], b"1:5 "),
+    (b"3a46g", [b"\x01\0\0\0$", b"\x01\0\0\0$"], b"0:5 "),
+    (b"3246g", [b"\x01\0\0\0$", b""], b""),
+    (b"356g", [b"\x01\0\0\0$", b""], b""),
+];
+
+/// The lanes and places of the free numbers.
+fn frees_of(rt: &impl Abort, alloc: Global, order: &[u8], sent: &[Bytes; 2]) -> Vec<u8> {
+    let order = order_of(rt, alloc, 2, order);
+    let store = store_of(rt, alloc, &[]);
+    let Ok(replayed) = must(
+        rt,
+        store.replay(alloc, None, &order, sent, &[Ending::Clean; 2]),
+    ) else {
+        panic!(rt; "a misfit");
+    };
+    let mut text = String::new(alloc);
+    for free in &replayed.frees {
+        must(rt, write!(text, "{}:{} ", free.lane, free.place));
+    }
+    text.into_bytes()
+}
+
+#[test]
+fn numbers_of_collections_are_free(rt: HostRuntime) {
+    let alloc = rt.alloc();
+    for (order, sent, wanted) in &FREES {
+        let sent = [
+            must(&rt, Bytes::from_slice(alloc, sent[0])),
+            must(&rt, Bytes::from_slice(alloc, sent[1])),
+        ];
+        same(&rt, &frees_of(&rt, alloc, order, &sent), wanted);
+    }
 }
 
 /// A snapshot of a blob and an archive, with its chunks.
@@ -128,7 +179,7 @@ static PULLED: [Talk; 4] = [
 ];
 
 #[test]
-fn the_later_is_pulled(rt: HostRuntime) -> Result<(), Fail> {
+fn the_later_is_pulled(rt: HostRuntime) {
     try_talks(&rt, rt.alloc(), &PULLED)
 }
 
@@ -166,7 +217,7 @@ static FAILED: [Talk; 4] = [
 ];
 
 #[test]
-fn what_was_pulled_before_stays(rt: HostRuntime) -> Result<(), Fail> {
+fn what_was_pulled_before_stays(rt: HostRuntime) {
     try_talks(&rt, rt.alloc(), &FAILED)
 }
 
@@ -180,6 +231,6 @@ static REFUSED: [Talk; 1] = [Talk {
 }];
 
 #[test]
-fn a_manifest_is_no_file_of_its_own(rt: HostRuntime) -> Result<(), Fail> {
+fn a_manifest_is_no_file_of_its_own(rt: HostRuntime) {
     try_talks(&rt, rt.alloc(), &REFUSED)
 }

@@ -1,12 +1,12 @@
 //! Datastores, and the snapshots that are read of them. Checksums, digests and the bytes of indexes are made by `tests/make-tables`.
 
-use crate::asserts::same;
+use crate::asserts::{must, same};
 use crate::folders::{File as Stored, change, disk_of, numbered};
 use disk_trait::{Disk, DiskError, FailingDisk, MemoryDisk};
 use plain_snapshots::{Content, File, Snapshot, read_snapshots};
-use std::alloc::{AllocError, Global};
+use sha2::{Digest, Sha256};
+use std::alloc::Global;
 use std::process::Abort;
-use std::test::Fail;
 
 pub(crate) const MANIFEST: &str = "host/a/2020-01-15T06:30:03Z/index.json.blob";
 
@@ -63,53 +63,61 @@ static DATASTORE: [Stored; 9] = [
     ),
 ];
 
-pub(crate) fn datastore(alloc: Global) -> Result<MemoryDisk, Fail> {
-    disk_of(alloc, &DATASTORE)
+pub(crate) fn datastore(rt: &impl Abort, alloc: Global) -> MemoryDisk {
+    disk_of(rt, alloc, &DATASTORE)
 }
 
 /// A file: its name, and the lengths of its pieces, or of its blob behind a `:`.
-fn show_file(alloc: Global, text: &mut Vec<u8>, file: &File) -> Result<(), AllocError> {
-    text.extend_from_slice(b" ")?;
-    text.extend_from_slice(file.name.as_slice())?;
+fn show_file(rt: &impl Abort, alloc: Global, text: &mut Vec<u8>, file: &File) {
+    must(rt, text.extend_from_slice(b" "));
+    must(rt, text.extend_from_slice(file.name.as_slice()));
     match &file.content {
         Content::Archive(archive) => {
             for piece in &archive.pieces {
                 let length = piece.as_slice().len();
-                text.extend_from_slice(numbered(alloc, "/", length, "")?.as_bytes())?;
+                must(
+                    rt,
+                    text.extend_from_slice(numbered(rt, alloc, "/", length, "").as_bytes()),
+                );
             }
         }
         Content::Blob(contents) => {
-            let length = contents.text(alloc)?.len();
-            text.extend_from_slice(numbered(alloc, ":", length, "")?.as_bytes())?;
+            let length = must(rt, contents.text(alloc)).len();
+            must(
+                rt,
+                text.extend_from_slice(numbered(rt, alloc, ":", length, "").as_bytes()),
+            );
         }
     }
-    Ok(())
 }
 
 /// The snapshots, one behind another: the key, and the files.
-fn shown(alloc: Global, snapshots: &[Snapshot]) -> Result<Vec<u8>, AllocError> {
+fn shown(rt: &impl Abort, alloc: Global, snapshots: &[Snapshot]) -> Vec<u8> {
     let mut text = Vec::new(alloc);
     for snapshot in snapshots {
-        text.extend_from_slice(b"[")?;
-        text.extend_from_slice(snapshot.key.text(alloc)?.as_slice())?;
+        must(rt, text.extend_from_slice(b"["));
+        must(
+            rt,
+            text.extend_from_slice(must(rt, snapshot.key.text(alloc)).as_slice()),
+        );
         for file in &snapshot.files {
-            show_file(alloc, &mut text, file)?;
+            show_file(rt, alloc, &mut text, file);
         }
-        text.extend_from_slice(b"]")?;
+        must(rt, text.extend_from_slice(b"]"));
     }
-    Ok(text)
+    text
 }
 
 /// A name, what stands there in place of what stood there, and what is read then.
 type Case = (&'static str, Option<&'static [u8]>, &'static [u8]);
 
-fn try_case(rt: &impl Abort, alloc: Global, case: &Case) -> Result<(), Fail> {
+fn try_case(rt: &impl Abort, alloc: Global, case: &Case) {
     let (name, bytes, wanted) = case;
-    let mut disk = datastore(alloc)?;
-    change(&mut disk, alloc, name, *bytes)?;
-    let text = shown(alloc, &read_snapshots(alloc, &mut disk)?)?;
+    let mut disk = datastore(rt, alloc);
+    change(rt, &mut disk, alloc, name, *bytes);
+    let (snapshots, _) = must(rt, read_snapshots(alloc, &mut disk));
+    let text = shown(rt, alloc, &snapshots);
     same(rt, &text, wanted);
-    Ok(())
 }
 
 /// The second snapshot alone.
@@ -168,61 +176,56 @@ static CASES: [Case; 13] = [
 ];
 
 #[test]
-fn what_is_read(rt: HostRuntime) -> Result<(), Fail> {
+fn what_is_read(rt: HostRuntime) {
     let alloc = rt.alloc();
     for case in &CASES {
-        try_case(&rt, alloc, case)?;
+        try_case(&rt, alloc, case);
     }
-    let none = read_snapshots(alloc, &mut MemoryDisk::new(alloc))?;
-    same(&rt, &shown(alloc, &none)?, b"");
-    Ok(())
+    let (none, _) = must(&rt, read_snapshots(alloc, &mut MemoryDisk::new(alloc)));
+    same(&rt, &shown(&rt, alloc, &none), b"");
 }
 
-/// The text of a file is the bytes that were read, in which an archive's checksum stands.
-fn try_file(
-    rt: &impl Abort,
-    alloc: Global,
-    disk: &mut MemoryDisk,
-    file: &File,
-    path: &str,
-) -> Result<(), Fail> {
-    let Some(bytes) = disk.read(alloc, path)? else {
-        return Err("nothing is there".into());
+/// The text of a file is the bytes that were read, in which an archive's checksum stands. Each piece has its own digest.
+fn try_file(rt: &impl Abort, alloc: Global, disk: &mut MemoryDisk, file: &File, path: &str) {
+    let Some(bytes) = must(rt, disk.read(alloc, path)) else {
+        panic!(rt; "nothing is there");
     };
-    same(rt, &file.content.text(alloc)?, &bytes);
+    same(rt, &must(rt, file.content.text(alloc)), &bytes);
     if let Content::Archive(archive) = &file.content {
-        let csum = archive.csum(alloc)?;
+        let csum = must(rt, archive.csum(alloc));
         same(rt, bytes.get(32..64).unwrap_or(b""), &csum.0);
+        for piece in &archive.pieces {
+            same(rt, &piece.digest().0, &Sha256::digest(piece.as_slice()));
+        }
     }
-    Ok(())
 }
 
 #[test]
-fn texts_and_checksums_of_files(rt: HostRuntime) -> Result<(), Fail> {
+fn texts_and_checksums_of_files(rt: HostRuntime) {
     let alloc = rt.alloc();
-    let mut disk = datastore(alloc)?;
-    let snapshots = read_snapshots(alloc, &mut disk)?;
+    let mut disk = datastore(&rt, alloc);
+    let (snapshots, _) = must(&rt, read_snapshots(alloc, &mut disk));
     let [first, _] = snapshots.as_slice() else {
-        return Err("not two snapshots".into());
+        panic!(rt; "not two snapshots");
     };
     let [manifest, dynamic, fixed, blob] = first.files.as_slice() else {
-        return Err("not four files".into());
+        panic!(rt; "not four files");
     };
-    try_file(&rt, alloc, &mut disk, manifest, MANIFEST)?;
-    try_file(&rt, alloc, &mut disk, dynamic, DYNAMIC)?;
-    try_file(&rt, alloc, &mut disk, fixed, FIXED)?;
+    try_file(&rt, alloc, &mut disk, manifest, MANIFEST);
+    try_file(&rt, alloc, &mut disk, dynamic, DYNAMIC);
+    try_file(&rt, alloc, &mut disk, fixed, FIXED);
     try_file(&rt, alloc, &mut disk, blob, BLOB)
 }
 
 /// Where the call of the disk with this number fails: whether the reading fails by it, and how often the disk failed.
-fn failed_at(alloc: Global, call: u64) -> Result<[u8; 2], Fail> {
-    let mut disk = FailingDisk::at_calls(datastore(alloc)?, [call].to_vec(alloc)?);
+fn failed_at(rt: &impl Abort, alloc: Global, call: u64) -> [u8; 2] {
+    let mut disk = FailingDisk::at_calls(datastore(rt, alloc), must(rt, [call].to_vec(alloc)));
     let failed = match read_snapshots(alloc, &mut disk) {
         Ok(_) => 0,
         Err(DiskError::Failed) => 1,
         Err(_) => 2,
     };
-    Ok([failed, disk.faults().min(9) as u8])
+    [failed, disk.faults().min(9) as u8]
 }
 
 /// How many calls of the disk are made: the names are listed, and each is read.
@@ -230,10 +233,9 @@ const CALLS: u64 = 10;
 
 /// Each call of the disk fails in turn.
 #[test]
-fn each_call_fails(rt: HostRuntime) -> Result<(), Fail> {
+fn each_call_fails(rt: HostRuntime) {
     for call in 0..CALLS {
-        same(&rt, &failed_at(rt.alloc(), call)?, &[1, 1]);
+        same(&rt, &failed_at(&rt, rt.alloc(), call), &[1, 1]);
     }
-    same(&rt, &failed_at(rt.alloc(), CALLS)?, &[0, 0]);
-    Ok(())
+    same(&rt, &failed_at(&rt, rt.alloc(), CALLS), &[0, 0]);
 }

@@ -1,12 +1,11 @@
 //! A VERIFY step by step: an index whose chunks come in several batches, its first fault, and files that are too long.
 
-use crate::asserts::same;
+use crate::asserts::{must, same};
 use crate::steps::{Row, answer, report_of, started, try_rows};
 use job_steps::Job;
 use sha2::{Digest, Sha256};
-use std::alloc::{AllocError, Global};
+use std::alloc::Global;
 use std::process::Abort;
-use std::test::Fail;
 use std::thread::Threads;
 
 /// VERIFY of the snapshot.
@@ -60,15 +59,15 @@ fn entry_of(letter: u8) -> (u64, &'static [u8; 32]) {
 }
 
 /// The reply to its read.
-fn reply_to(alloc: Global, letter: u8) -> Result<Vec<u8>, AllocError> {
+fn reply_to(rt: &impl Abort, alloc: Global, letter: u8) -> Vec<u8> {
     match letter {
-        b'd' | b'D' => DAMAGED_TOLD.to_vec(alloc),
-        b'u' => UNREADABLE_TOLD.to_vec(alloc),
-        b'a'..=b'z' => BLOB.to_vec(alloc),
+        b'd' | b'D' => must(rt, DAMAGED_TOLD.to_vec(alloc)),
+        b'u' => must(rt, UNREADABLE_TOLD.to_vec(alloc)),
+        b'a'..=b'z' => must(rt, BLOB.to_vec(alloc)),
         _ => {
-            let mut reply = ZEROS_FRONT.to_vec(alloc)?;
-            reply.resize(4_194_317, 0)?;
-            Ok(reply)
+            let mut reply = must(rt, ZEROS_FRONT.to_vec(alloc));
+            must(rt, reply.resize(4_194_317, 0));
+            reply
         }
     }
 }
@@ -77,115 +76,101 @@ fn reply_to(alloc: Global, letter: u8) -> Result<Vec<u8>, AllocError> {
 type Runs = &'static [(u16, u8)];
 
 /// The entries' bytes, and where the last ends.
-fn entries_of(alloc: Global, runs: &[(u16, u8)]) -> Result<(Vec<u8>, u64), AllocError> {
+fn entries_of(rt: &impl Abort, alloc: Global, runs: &[(u16, u8)]) -> (Vec<u8>, u64) {
     let mut entries = Vec::new(alloc);
     let mut end: u64 = 0;
     for (count, letter) in runs {
         let (length, digest) = entry_of(*letter);
         for _ in 0..*count {
             end = end.saturating_add(length);
-            entries.extend_from_slice(&end.to_le_bytes())?;
-            entries.extend_from_slice(digest)?;
+            must(rt, entries.extend_from_slice(&end.to_le_bytes()));
+            must(rt, entries.extend_from_slice(digest));
         }
     }
-    Ok((entries, end))
+    (entries, end)
 }
 
 /// The reply of FILES that lists the index alone.
-fn listed(alloc: Global, size: u64, csum: &[u8]) -> Result<Vec<u8>, AllocError> {
-    let mut body = b"\0\x01\x09root.didx".to_vec(alloc)?;
-    body.extend_from_slice(&size.to_le_bytes())?;
-    body.extend_from_slice(csum)?;
-    Ok(body)
+fn listed(rt: &impl Abort, alloc: Global, size: u64, csum: &[u8]) -> Vec<u8> {
+    let mut body = must(rt, b"\0\x01\x09root.didx".to_vec(alloc));
+    must(rt, body.extend_from_slice(&size.to_le_bytes()));
+    must(rt, body.extend_from_slice(csum));
+    body
 }
 
 /// The index with these entries.
-fn index_of(alloc: Global, entries: &[u8], csum: &[u8]) -> Result<Vec<u8>, AllocError> {
-    let mut index = b"\x1c\x91N\xa5\x19\xba\xb3\xcd".to_vec(alloc)?;
-    index.extend_from_slice(&[0; 24])?;
-    index.extend_from_slice(csum)?;
-    index.resize(4096, 0)?;
-    index.extend_from_slice(entries)?;
-    Ok(index)
+fn index_of(rt: &impl Abort, alloc: Global, entries: &[u8], csum: &[u8]) -> Vec<u8> {
+    let mut index = must(rt, b"\x1c\x91N\xa5\x19\xba\xb3\xcd".to_vec(alloc));
+    must(rt, index.extend_from_slice(&[0; 24]));
+    must(rt, index.extend_from_slice(csum));
+    must(rt, index.resize(4096, 0));
+    must(rt, index.extend_from_slice(entries));
+    index
 }
 
 /// The reply to the read of a part, of a file of so many bytes.
-fn part_of(alloc: Global, total: usize, part: &[u8]) -> Result<Vec<u8>, AllocError> {
-    let mut body = DONE.to_vec(alloc)?;
-    body.extend_from_slice(&total.to_le_bytes())?;
-    body.extend_from_slice(part)?;
-    Ok(body)
+fn part_of(rt: &impl Abort, alloc: Global, total: usize, part: &[u8]) -> Vec<u8> {
+    let mut body = must(rt, DONE.to_vec(alloc));
+    must(rt, body.extend_from_slice(&total.to_le_bytes()));
+    must(rt, body.extend_from_slice(part));
+    body
 }
 
 /// Answers the reads of the index in two parts.
-fn answer_parts(
-    rt: &(impl Threads + Sync),
-    alloc: Global,
-    job: &mut Job,
-    index: &[u8],
-) -> Result<(), Fail> {
+fn answer_parts(rt: &(impl Abort + Threads + Sync), alloc: Global, job: &mut Job, index: &[u8]) {
     let (first, second) = index.split_at(index.len() / 2);
-    answer(rt, alloc, job, &part_of(alloc, index.len(), first)?)?;
-    answer(rt, alloc, job, &part_of(alloc, index.len(), second)?)?;
-    Ok(())
+    answer(rt, alloc, job, &part_of(rt, alloc, index.len(), first));
+    answer(rt, alloc, job, &part_of(rt, alloc, index.len(), second));
 }
 
 /// Answers the reads of the chunks, up to one by which the index can't be read any more.
 fn answer_chunks(
-    rt: &(impl Threads + Sync),
+    rt: &(impl Abort + Threads + Sync),
     alloc: Global,
     job: &mut Job,
     runs: &[(u16, u8)],
-) -> Result<(), Fail> {
+) {
     for (count, letter) in runs {
-        let reply = reply_to(alloc, *letter)?;
+        let reply = reply_to(rt, alloc, *letter);
         for _ in 0..*count {
-            answer(rt, alloc, job, &reply)?;
+            answer(rt, alloc, job, &reply);
         }
         if *letter == b'u' {
             break;
         }
     }
-    Ok(())
 }
 
 /// Answers all steps of the job: a reader, the files, the index, the chunks, and the reader's close.
 fn answer_all(
-    rt: &(impl Threads + Sync),
+    rt: &(impl Abort + Threads + Sync),
     alloc: Global,
     job: &mut Job,
     runs: &[(u16, u8)],
-) -> Result<(), Fail> {
-    let (entries, size) = entries_of(alloc, runs)?;
+) {
+    let (entries, size) = entries_of(rt, alloc, runs);
     let csum = Sha256::digest(&entries);
-    answer(rt, alloc, job, DONE)?;
-    answer(rt, alloc, job, &listed(alloc, size, &csum)?)?;
-    answer_parts(rt, alloc, job, &index_of(alloc, &entries, &csum)?)?;
-    answer_chunks(rt, alloc, job, runs)?;
-    answer(rt, alloc, job, DONE)?;
-    Ok(())
+    answer(rt, alloc, job, DONE);
+    answer(rt, alloc, job, &listed(rt, alloc, size, &csum));
+    answer_parts(rt, alloc, job, &index_of(rt, alloc, &entries, &csum));
+    answer_chunks(rt, alloc, job, runs);
+    answer(rt, alloc, job, DONE);
 }
 
 /// What is reported of a snapshot of one index.
 type Long = (Runs, &'static [u8]);
 
-fn try_long(rt: &(impl Abort + Threads + Sync), alloc: Global, row: &Long) -> Result<(), Fail> {
+fn try_long(rt: &(impl Abort + Threads + Sync), alloc: Global, row: &Long) {
     let (runs, wanted) = row;
-    let mut job = started(alloc, VERIFY)?;
-    answer_all(rt, alloc, &mut job, runs)?;
-    same(rt, &report_of(alloc, job)?, wanted);
-    Ok(())
+    let mut job = started(rt, alloc, VERIFY);
+    answer_all(rt, alloc, &mut job, runs);
+    same(rt, &report_of(rt, alloc, job), wanted);
 }
 
-fn try_all_long(
-    rt: &(impl Abort + Threads + Sync),
-    alloc: Global,
-    rows: &[Long],
-) -> Result<(), Fail> {
+fn try_all_long(rt: &(impl Abort + Threads + Sync), alloc: Global, rows: &[Long]) {
     for row in rows {
-        try_long(rt, alloc, row)?;
+        try_long(rt, alloc, row);
     }
-    Ok(())
 }
 
 /// The last of a batch, the first of the next, and the last of all; the last of a batch before one that is damaged, and longer than the index
@@ -278,17 +263,17 @@ static LENGTHS: [Long; 6] = [
 ];
 
 #[test]
-fn the_first_fault_is_told(rt: HostRuntime) -> Result<(), Fail> {
+fn the_first_fault_is_told(rt: HostRuntime) {
     try_all_long(&rt, rt.alloc(), &FAULTS)
 }
 
 #[test]
-fn lengths_are_compared(rt: HostRuntime) -> Result<(), Fail> {
+fn lengths_are_compared(rt: HostRuntime) {
     try_all_long(&rt, rt.alloc(), &LENGTHS)
 }
 
 #[test]
-fn batches_tell_the_first_fault(rt: HostRuntime) -> Result<(), Fail> {
+fn batches_tell_the_first_fault(rt: HostRuntime) {
     try_all_long(&rt, rt.alloc(), &BATCHES)
 }
 
@@ -357,7 +342,7 @@ static TOO_LONG: [Row; 6] = [
 ];
 
 #[test]
-fn what_is_too_long_is_not_read_on(rt: HostRuntime) -> Result<(), Fail> {
+fn what_is_too_long_is_not_read_on(rt: HostRuntime) {
     try_rows(&rt, rt.alloc(), &TOO_LONG)
 }
 
@@ -410,7 +395,7 @@ static LONGEST: [Row; 4] = [
 ];
 
 #[test]
-fn what_may_be_as_long_is_read_on(rt: HostRuntime) -> Result<(), Fail> {
+fn what_may_be_as_long_is_read_on(rt: HostRuntime) {
     try_rows(&rt, rt.alloc(), &LONGEST)
 }
 
@@ -466,6 +451,6 @@ static ENDED: [Row; 7] = [
 ];
 
 #[test]
-fn a_refused_step_is_reported(rt: HostRuntime) -> Result<(), Fail> {
+fn a_refused_step_is_reported(rt: HostRuntime) {
     try_rows(&rt, rt.alloc(), &ENDED)
 }

@@ -1,13 +1,12 @@
 //! Lanes that take turns over datastores, and what they are told, in bytes. These are made by `tests/make-tables`, which says of each
 //! string which commands and replies it has.
 
-use crate::asserts::same;
+use crate::asserts::{must, same};
 use crate::folders::{File, store_of};
-use crate::order::{keeps_rules, order_of};
+use crate::order::order_of;
 use plain_store::{Misfit, Plain, Woven};
 use std::alloc::Global;
 use std::process::Abort;
-use std::test::Fail;
 use store_model::Ending;
 use store_types::{Bytes, Rows};
 
@@ -22,87 +21,83 @@ pub(crate) struct Talk {
 }
 
 /// What each lane is told, or the misfit: its entry, lane, and how much was replayed.
-fn told_by(alloc: Global, woven: Result<Woven, Misfit>) -> Result<Rows<Bytes>, Fail> {
+fn told_by(rt: &impl Abort, alloc: Global, woven: Result<Woven, Misfit>) -> Rows<Bytes> {
     match woven {
-        Ok(woven) => Ok(woven.replies),
+        Ok(woven) => woven.replies,
         Err(misfit) => {
-            let mut told = misfit.entry.to_le_bytes().to_vec(alloc)?;
-            told.extend_from_slice(&misfit.lane.to_le_bytes())?;
-            told.extend_from_slice(&misfit.replayed.to_le_bytes())?;
+            let mut told = must(rt, misfit.entry.to_le_bytes().to_vec(alloc));
+            must(rt, told.extend_from_slice(&misfit.lane.to_le_bytes()));
+            must(rt, told.extend_from_slice(&misfit.replayed.to_le_bytes()));
             let mut all = Vec::new(alloc);
-            all.push(Bytes::from_vec(told))?;
-            Ok(Rows::from_vec(all))
+            must(rt, all.push(Bytes::from_vec(told)));
+            Rows::from_vec(all)
         }
     }
 }
 
 /// What one lane or two are told that send this in turn, and then end.
 pub(crate) fn replayed(
+    rt: &impl Abort,
     alloc: Global,
     here: &Plain,
     there: Option<&Plain>,
     order: &[u8],
     sent: &[Bytes],
-) -> Result<Rows<Bytes>, Fail> {
-    let order = order_of(alloc, order)?;
+) -> Rows<Bytes> {
     let lanes = sent.len();
-    if lanes > 2 || !keeps_rules(&order, lanes) {
-        return Err("no order".into());
-    }
+    assert!(rt; lanes <= 2);
+    let order = order_of(rt, alloc, lanes as u32, order);
     let endings = [Ending::Clean; 2];
-    told_by(
-        alloc,
-        here.weave(alloc, there, &order, sent, &endings[..lanes])?,
-    )
+    let woven = must(
+        rt,
+        here.weave(alloc, there, &order, sent, &endings[..lanes]),
+    );
+    told_by(rt, alloc, woven)
 }
 
 /// What one lane is told.
 pub(crate) fn told_alone(
+    rt: &impl Abort,
     alloc: Global,
     here: &Plain,
     there: Option<&Plain>,
     order: &[u8],
     sent: &[u8],
-) -> Result<Bytes, Fail> {
+) -> Bytes {
     let mut all = Vec::new(alloc);
-    all.push(Bytes::from_slice(alloc, sent)?)?;
-    let mut told = replayed(alloc, here, there, order, &all)?.into_vec();
-    match told.pop() {
-        Some(told) => Ok(told),
-        None => Err("no lane".into()),
-    }
+    must(rt, all.push(must(rt, Bytes::from_slice(alloc, sent))));
+    let mut told = replayed(rt, alloc, here, there, order, &all).into_vec();
+    told.pop().expect(rt, "a lane")
 }
 
-fn try_talk(rt: &impl Abort, alloc: Global, talk: &Talk) -> Result<(), Fail> {
-    let here = store_of(alloc, talk.here)?;
+fn try_talk(rt: &impl Abort, alloc: Global, talk: &Talk) {
+    let here = store_of(rt, alloc, talk.here);
     let there = match talk.there {
-        Some(files) => Some(store_of(alloc, files)?),
+        Some(files) => Some(store_of(rt, alloc, files)),
         None => None,
     };
-    let told = told_alone(alloc, &here, there.as_ref(), talk.order, talk.sent)?;
+    let told = told_alone(rt, alloc, &here, there.as_ref(), talk.order, talk.sent);
     same(rt, told.as_slice(), talk.told);
-    Ok(())
 }
 
-pub(crate) fn try_talks(rt: &impl Abort, alloc: Global, talks: &[Talk]) -> Result<(), Fail> {
+pub(crate) fn try_talks(rt: &impl Abort, alloc: Global, talks: &[Talk]) {
     for talk in talks {
-        try_talk(rt, alloc, talk)?;
+        try_talk(rt, alloc, talk);
     }
-    Ok(())
 }
 
 /// Bytes in parts. An empty one stands for 4,096 zeros.
 type Parts = &'static [&'static [u8]];
 
-fn joined(alloc: Global, parts: &[&[u8]]) -> Result<Bytes, Fail> {
+fn joined(rt: &impl Abort, alloc: Global, parts: &[&[u8]]) -> Bytes {
     let mut bytes = Vec::new(alloc);
     for part in parts {
         if part.is_empty() {
-            bytes.extend_from_slice(&[0; 4096])?;
+            must(rt, bytes.extend_from_slice(&[0; 4096]));
         }
-        bytes.extend_from_slice(part)?;
+        must(rt, bytes.extend_from_slice(part));
     }
-    Ok(Bytes::from_vec(bytes))
+    Bytes::from_vec(bytes)
 }
 
 /// Two lanes send this over a store, and are told that.
@@ -113,20 +108,19 @@ fn try_both(
     order: &[u8],
     sent: [Parts; 2],
     told: [Parts; 2],
-) -> Result<(), Fail> {
-    let here = store_of(alloc, here)?;
+) {
+    let here = store_of(rt, alloc, here);
     let [first, second] = sent;
     let mut all = Vec::new(alloc);
-    all.push(joined(alloc, first)?)?;
-    all.push(joined(alloc, second)?)?;
-    let replies = replayed(alloc, &here, None, order, &all)?;
+    must(rt, all.push(joined(rt, alloc, first)));
+    must(rt, all.push(joined(rt, alloc, second)));
+    let replies = replayed(rt, alloc, &here, None, order, &all);
     let [one, two] = replies.as_slice() else {
-        return Err("not two lanes".into());
+        panic!(rt; "not two lanes");
     };
     let [first, second] = told;
-    same(rt, one.as_slice(), joined(alloc, first)?.as_slice());
-    same(rt, two.as_slice(), joined(alloc, second)?.as_slice());
-    Ok(())
+    same(rt, one.as_slice(), joined(rt, alloc, first).as_slice());
+    same(rt, two.as_slice(), joined(rt, alloc, second).as_slice());
 }
 
 /// What the first lane sends: a writer without a base; manifests that are none, of another group, and without an upload; a fixed archive of
@@ -159,7 +153,7 @@ static SECOND_TOLD: [&[u8]; 2] = [
 ];
 
 #[test]
-fn two_lanes_take_turns(rt: HostRuntime) -> Result<(), Fail> {
+fn two_lanes_take_turns(rt: HostRuntime) {
     try_both(
         &rt,
         rt.alloc(),
@@ -209,7 +203,7 @@ static BESIDE_TOLD: [&[u8]; 1] = [
 ];
 
 #[test]
-fn snapshots_are_told_and_pruned(rt: HostRuntime) -> Result<(), Fail> {
+fn snapshots_are_told_and_pruned(rt: HostRuntime) {
     try_both(
         &rt,
         rt.alloc(),
@@ -268,6 +262,6 @@ static ENDS: [Talk; 6] = [
 ];
 
 #[test]
-fn lanes_end(rt: HostRuntime) -> Result<(), Fail> {
+fn lanes_end(rt: HostRuntime) {
     try_talks(&rt, rt.alloc(), &ENDS)
 }

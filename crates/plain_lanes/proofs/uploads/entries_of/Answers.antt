@@ -1,6 +1,6 @@
-use Rattle.std.proofs.Common.{◌≡◌, ◌+◌, ◌<◌, List, ℕ, length, drop, refl, ap, ◌∙◌, arith, rules}
-use Rattle.sha2.specs.Sha256.{sha256}
+use Rattle.std.proofs.Common.{◌≡◌, ◌+◌, ◌<◌, length, drop, refl, ap, ◌∙◌, arith, rules}
 use Rattle.store_types.specs.declared.append.AppendEntry.{AppendEntry}
+use Rattle.store_types.specs.declared.names.Digest32.{Digest32}
 use Rattle.store_model.specs.SyncJob.{entries_from}
 use Rattle.plain_lanes.proofs.UploadLemmas.{from_place, all_done, entry_pushed}
 use Rattle.plain_lanes.proofs.uploads.entries_of.Goals as goal
@@ -12,10 +12,8 @@ loop-piece-preserved c =
     let p = c.piece-item.result in
     let offset = c.loop-piece.offset in
     let below : i < length ps = omega arith in
-    let same : c.as_slice-piece.result.now ≡ p = c.as_slice-piece.ensures.value in
-    let digest : c.digest.result ≡ sha256 p = search rules in
-    let e : AppendEntry = record { digest = record { 0 = c.digest.result }; offset = offset } in
-    let own = ap (λ (d : List ℕ). (let x : AppendEntry = record { digest = record { 0 = d }; offset = offset } in x)) digest in
+    let e : AppendEntry = record { digest = c.digest.result; offset = offset } in
+    let own = ap (λ (d : Digest32). (let x : AppendEntry = record { digest = d; offset = offset } in x)) c.digest.ensures in
     let further : c.in_ok-offset.offset ≡ offset + length p = search (rules, arith) in
     entry_pushed c.loop-piece.entries.items c.push.new.self.items e offset c.in_ok-offset.offset p (drop i ps) (drop (i + 1) ps)
     (from_place ps i p below c.piece-item.is) c.in_ok-push.ensures.items own further

@@ -1,9 +1,9 @@
-use Rattle.std.proofs.Common.{◌≡◌, ◌-◌, ◌∙◌, List, ℕ, true, false, Ok, Err, ap, sym, take, drop, length, rules}
+use Rattle.std.proofs.Common.{◌≡◌, ◌∙◌, List, ℕ, true, false, Ok, Err, ap, sym, take, drop, length, rules}
 use Rattle.std.specs.List.{concat}
 use Rattle.store_model.specs.ReaderSteps.{is_noted, pieces_at, want_range}
 use Rattle.plain_sessions.specs.declared.stop.Stop.TheVariants.{Refused}
 use Rattle.plain_sessions.proofs.Stopping.{gives_refusal}
-use Rattle.plain_sessions.proofs.Noted.{range_bytes, range_not_noted, range_refused, range_goes}
+use Rattle.plain_sessions.proofs.Noted.{range_not_noted, range_refused, range_goes}
 use Rattle.plain_sessions.proofs.reader.Reader.range.Goals as goal
 
 pub returns-then-not-is_noted-clause-gives : goal.returns-then-not-is_noted-clause-gives
@@ -27,10 +27,7 @@ returns-clause-gives c =
     let name = c.args.name.now in
     let offset = c.args.offset in
     let count = c.args.count in
-    let text = c.in_ok-content.content.items in
-    let left = λ (t : List ℕ). take (length t - offset) (drop offset t) in
     let noted : is_noted c.args.self.now name ≡ true = search rules in
     let fits : want_range (length (concat (pieces_at files name))) offset count ≡ Ok tt = search rules in
-    let whole = c.in_ok-content.ensures ∙ ap concat c.pieces_at.ensures in
-    let is = c.in_ok-bytes.ensures ∙ ap (λ t. take count (left t)) c.deref.ensures.value in
-    range_goes files c.args.self.now name offset count noted fits ∙ ap (λ t. Ok (take count (drop offset t))) (sym whole) ∙ ap (λ b. Ok b) (sym (range_bytes text c.in_ok-bytes.bytes offset count is))
+    range_goes files c.args.self.now name offset count noted fits
+    ∙ sym (ap (λ b. Ok b) (c.in_ok-bytes.ensures.bytes ∙ ap (λ ps. take count (drop offset (concat ps))) c.pieces_at-pieces.ensures))

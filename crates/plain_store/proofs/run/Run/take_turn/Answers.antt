@@ -1,8 +1,10 @@
-use Rattle.std.proofs.Common.{length, get_or, arith, sym, ap, ◌∙◌, Err}
+use Rattle.std.proofs.Common.{length, get_or, arith, sym, ap, ◌∙◌, ◌++◌, [], Option, Err}
+use Rattle.std.specs.List.{cons_option}
 use Rattle.std.proofs.lemmas.List.{get_or_default}
 use Rattle.store_types.specs.declared.order.Entry.{Entry}
 use Rattle.store_model.specs.Weave.{misfit}
-use Rattle.plain_store.proofs.WeaveLemmas.{entry_fits, turn_taken, turn_stopped}
+use Rattle.plain_store.specs.declared.frees.Free.{Free}
+use Rattle.plain_store.proofs.WeaveLemmas.{entry_fits, turn_taken, turn_noted, turn_stopped}
 use Rattle.plain_store.proofs.run.Run.take_turn.Goals as goal
 
 abbrev no_entry : Entry
@@ -13,6 +15,11 @@ ending_of-ending-requires c =
     let e = get_or c.args.order.now c.args.place no_entry in
     let fit = entry_fits (length c.args.self.now.lanes) c.args.order.now c.args.place e c.requires.rules c.requires.place (get_or_default c.args.order.now c.args.place no_entry e c.requires.place) in
     omega (arith, fit.0, c.requires.endings)
+
+pub freed-requires : goal.freed-requires
+freed-requires c =
+    let e = get_or c.args.order.now c.args.place no_entry in
+    (entry_fits (length c.args.self.now.lanes) c.args.order.now c.args.place e c.requires.rules c.requires.place (get_or_default c.args.order.now c.args.place no_entry e c.requires.place)).0
 
 pub enter-requires-clause-lane : goal.enter-requires-clause-lane
 enter-requires-clause-lane c =
@@ -35,8 +42,11 @@ returns-then-branch-clause-turn c =
     let order = c.args.order.now in
     let e = get_or order c.args.place no_entry in
     let is = get_or_default order c.args.place no_entry e c.requires.place in
-    let h = (rw c.if-branch.true at c.in_ok-enter.ensures.enters) in
-    turn_taken c.args.endings.now order c.args.place c.args.self.now c.enter.new.self e c.ending_of-ending.result c.requires.place is c.ending_of-ending.ensures h
+    let h = (rw c.if-branch.true at c.in_ok-enter.ensures.enters) in (
+      turn_taken c.args.endings.now order c.args.place c.args.self.now c.enter.new.self e c.ending_of-ending.result c.requires.place is c.ending_of-ending.ensures h,
+      turn_noted c.args.endings.now order c.args.place c.args.self.now c.enter.new.self e c.ending_of-ending.result c.requires.place is c.ending_of-ending.ensures _ _ h
+          (c.in_ok-note.ensures ∙ ap (λ (o : Option Free). c.args.frees.now.items ++ cons_option o []) c.freed.ensures),
+    )
 
 pub returns-clause-turn : goal.returns-clause-turn
 returns-clause-turn c =
