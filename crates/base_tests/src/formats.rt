@@ -7,5 +7,6 @@ mod dynamic;
 mod fixed;
 mod fixtures;
 mod frames;
+mod inputs;
 mod manifests;
 mod order;

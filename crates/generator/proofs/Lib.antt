@@ -1,0 +1,4 @@
+pub mod PieceLemmas
+pub mod CommandTexts
+pub mod SessionLemmas
+pub mod JsonLemmas
