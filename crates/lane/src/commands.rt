@@ -6,9 +6,9 @@ ghost use Rattle.store_model.specs.ArchiveSteps.{check_chunk as piece_of};
 ghost use Rattle.store_history.specs.Acts.{check_blob, checked_by, act_of_command};
 ghost use Rattle.lane.specs.Fronts.{IsAhead, IsAheadAs, TestsChunk, ahead_of, is_gc, is_job};
 
+use crate::hashing::hash_of;
 use blob_codec::decode;
 use core_state::Act;
-use sha2::{Digest, Sha256};
 use std::alloc::Global;
 use store_types::{Bytes, Digest32, Refusal};
 use wire_commands::Command;
@@ -88,7 +88,7 @@ fn test_chunk(digest: Digest32, blob: &[u8]) -> Result<(), Refusal>
     if piece.is_empty() {
         return Err(Refusal::WrongSize { place: 0, size: 0 });
     }
-    let found = Digest32(Sha256::digest(piece));
+    let found = hash_of(piece);
     if found != digest {
         return Err(Refusal::WrongDigest { found });
     }

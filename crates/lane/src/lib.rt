@@ -5,6 +5,7 @@ mod acts;
 mod collecting;
 mod commands;
 mod ending;
+mod hashing;
 mod input;
 mod jobs;
 mod port;

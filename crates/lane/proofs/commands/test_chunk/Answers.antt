@@ -8,7 +8,7 @@ pub returns-then-is_empty : goal.returns-then-is_empty
 returns-then-is_empty c = no_piece c.args.digest c.args.blob.now c.in-Ok.piece.now c.in-Ok.ensures c.if-is_empty.ensures
 
 pub returns-then-ne : goal.returns-then-ne
-returns-then-ne c = other_digest c.args.digest c.args.blob.now c.in-Ok.piece.now c.digest.result c.in-Ok.ensures c.if-is_empty.ensures c.digest.ensures c.if-ne.ensures
+returns-then-ne c = other_digest c.args.digest c.args.blob.now c.in-Ok.piece.now c.hash_of-found.result.0 c.in-Ok.ensures c.if-is_empty.ensures c.hash_of-found.ensures c.if-ne.ensures
 
 pub returns : goal.returns
-returns c = same_digest c.args.digest c.args.blob.now c.in-Ok.piece.now c.digest.result c.in-Ok.ensures c.if-is_empty.ensures c.digest.ensures c.if-ne.ensures
+returns c = same_digest c.args.digest c.args.blob.now c.in-Ok.piece.now c.hash_of-found.result.0 c.in-Ok.ensures c.if-is_empty.ensures c.hash_of-found.ensures c.if-ne.ensures
