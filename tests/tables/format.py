@@ -1,5 +1,6 @@
 """Blobs, frames, commands and replies, indexes, manifests, the book and the order file, each byte by byte."""
 from session import *
+from tables import generated
 from tables.common import *
 
 TABLES = {
@@ -260,6 +261,16 @@ TABLES = {
             done(),
             bad_frame(13941866496) + b"\x00",
         ],
+    },
+    "base_tests/src/formats/inputs.rt": {
+        "PIECES": [
+            part
+            for it in map(generated.piece, (0, 2**32 + 1))
+            for part in (it[:8], sha256(it))
+        ],
+        "INPUTS": [sha256(generated.generated(lane)) for lane in (0, 63)],
+        "SUMMARY": [generated.summary([b"x", b"abc", b""], [("host/g1/2020-01-03T00:00:00Z", 2), ("host/g2/2020-01-04T00:00:00Z", 0)])],
+        "summary_of_no_lanes": [generated.summary([], [])],
     },
     "base_tests/src/formats/manifests.rt": {
         "no_text": [b'"\xff"'],

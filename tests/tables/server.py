@@ -140,6 +140,10 @@ TABLES = {
             frames(*(command for command, _ in TWO), prune("host/a", last=1, dry=1), prune("host/a", last=1), group("host/a"), bye()),
         ],
     },
+    "server_tests/src/serving/journal.rt": {
+        "TAKEN": [order((0, NOW, 6))],
+        "ORDER": [order(*[(0, NOW, 0)] * 5, (0, NOW, 6))],
+    },
     "server_tests/src/serving/long.rt": {
         "LARGE": [
             frame(open_writer(A)) + u32(len(put_file("a.blob", blob(b""))) + (16 << 20) + 1) + put_file("a.blob", blob(b"")),
@@ -260,6 +264,7 @@ TABLES = {
         "ROOT_LISTED": [blob(manifest(A, listed("root.didx", 5, BOTH_CSUM)))],
         "LISTED": talk((list_after(), rows((A, 2)))),
     },
+    "server_tests/src/serving/statuses.rt": {"NO_COMMAND": [frame(b"c")]},
     "server_tests/src/serving/together.rt": {
         "OPENED": [frame(open_writer(B))],
         "STARTED": [B_SENT],

@@ -14,3 +14,4 @@ pub mod Changes
 pub mod Orderly
 pub mod Acknowledged
 pub mod Words
+pub mod Journal

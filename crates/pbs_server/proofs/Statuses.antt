@@ -1,5 +1,5 @@
 -- Which statuses a run has whose sessions were served: the first that applies.
-use Rattle.std.proofs.Common.{◌≡◌, ◌⊎◌, inl, inr, Bool, true, false, ◌||◌, List, [], ◌∷◌, Option, Some, None, if◌then◌else◌, refl, ap, sym, ◌∙◌}
+use Rattle.std.proofs.Common.{◌≡◌, inl, inr, Bool, true, false, ◌||◌, List, [], ◌∷◌, Option, Some, None, if◌then◌else◌, refl, ap, sym, ◌∙◌}
 use Rattle.std.specs.List.{list_any}
 use Rattle.disk_trait.specs.declared.disk.DiskError.{DiskError}
 use Rattle.disk_trait.specs.declared.disk.DiskError.TheVariants as disks
@@ -10,7 +10,7 @@ use Rattle.lane.specs.Entries.{has_kind}
 use Rattle.pbs_server.specs.declared.status.Status.{Status}
 use Rattle.pbs_server.specs.declared.status.Status.TheVariants as statuses
 use Rattle.pbs_server.specs.Headline.{AsksNone}
-use Rattle.pbs_server.specs.Statuses.{endings_of, is_failed, is_wanting, some_tells, status_by, status_of_endings, tells}
+use Rattle.pbs_server.specs.Statuses.{beside_sink, endings_of, first_of, has_disk_fault, is_failed, is_short, is_wanting, run_facts, some_tells, tells}
 
 -- ---- by how lanes ended
 
@@ -67,70 +67,44 @@ place_ended s k l b p =
 
 -- ---- what comes before
 
--- by entries of want of memory, a lane that ended by it, a book not saved for it, entries of a disk's fault, a book not saved for one, entries of a remote's
-abbrev pub chosen : Bool → Bool → Bool → Bool → Bool → Bool → Status → Status
-chosen memory short wanting disk failed reads s =
-    if memory then statuses.NoMemory else if short then statuses.NoMemory else if wanting then statuses.NoMemory else if disk then statuses.DiskFault else if failed then statuses.DiskFault
-    else if reads then statuses.RemoteFault else s
+-- by want of memory, a fault of the disk, one of the remote
+abbrev pub chosen : Bool → Bool → Bool → Status → Status
+chosen short disk remote s = if short then statuses.NoMemory else if disk then statuses.DiskFault else if remote then statuses.RemoteFault else s
 
-pub record IsLast (memory short wanting disk failed reads : Bool) (s t : Status) : Type 0 where
+pub record IsLast (short disk remote : Bool) (s t : Status) : Type 0 where
   pub status : s ≡ t
-  pub memory_is : memory ≡ false
   pub short_is : short ≡ false
-  pub wanting_is : wanting ≡ false
   pub disk_is : disk ≡ false
-  pub failed_is : failed ≡ false
-  pub reads_is : reads ≡ false
+  pub remote_is : remote ≡ false
 
 -- neither want of memory nor a fault of the disk or of the remote
-pub last_chosen : (a b w c f g : Bool) (s t : Status) → (statuses.NoMemory ≡ t → ⊥) → (statuses.DiskFault ≡ t → ⊥) → (statuses.RemoteFault ≡ t → ⊥) → chosen a b w c f g s ≡ t → IsLast a b w c f g s t
-last_chosen true b w c f g s t memory disk remote is = absurd (memory is)
-last_chosen false true w c f g s t memory disk remote is = absurd (memory is)
-last_chosen false false true c f g s t memory disk remote is = absurd (memory is)
-last_chosen false false false true f g s t memory disk remote is = absurd (disk is)
-last_chosen false false false false true g s t memory disk remote is = absurd (disk is)
-last_chosen false false false false false true s t memory disk remote is = absurd (remote is)
-last_chosen false false false false false false s t memory disk remote is =
-    record { status = is; memory_is = refl; short_is = refl; wanting_is = refl; disk_is = refl; failed_is = refl; reads_is = refl }
+pub last_chosen : (a c g : Bool) (s t : Status) → (statuses.NoMemory ≡ t → ⊥) → (statuses.DiskFault ≡ t → ⊥) → (statuses.RemoteFault ≡ t → ⊥) → chosen a c g s ≡ t → IsLast a c g s t
+last_chosen true c g s t memory disk remote is = absurd (memory is)
+last_chosen false true g s t memory disk remote is = absurd (disk is)
+last_chosen false false true s t memory disk remote is = absurd (remote is)
+last_chosen false false false s t memory disk remote is = record { status = is; short_is = refl; disk_is = refl; remote_is = refl }
 
 -- a calm order is answered by the endings
-pub calm_chosen : (a b w c f g : Bool) (s : Status) → a ≡ false → b ≡ false → w ≡ false → c ≡ false → f ≡ false → g ≡ false → chosen a b w c f g s ≡ s
-calm_chosen a b w c f g s x y v z u r =
-    ap (λ i. chosen i b w c f g s) x ∙ ap (λ i. chosen false i w c f g s) y ∙ ap (λ i. chosen false false i c f g s) v
-    ∙ ap (λ i. chosen false false false i f g s) z ∙ ap (λ i. chosen false false false false i g s) u ∙ ap (λ i. chosen false false false false false i s) r
+pub calm_chosen : (a c g : Bool) (s : Status) → a ≡ false → c ≡ false → g ≡ false → chosen a c g s ≡ s
+calm_chosen a c g s x z r = ap (λ i. chosen i c g s) x ∙ ap (λ i. chosen false i g s) z ∙ ap (λ i. chosen false false i s) r
 
-pub disk_chosen : (a b w c f g : Bool) (s : Status) → (s ≡ statuses.DiskFault → ⊥) → chosen a b w c f g s ≡ statuses.DiskFault → (c ≡ true) ⊎ (f ≡ true)
-disk_chosen true b w c f g s other is = cc
-disk_chosen false true w c f g s other is = cc
-disk_chosen false false true c f g s other is = cc
-disk_chosen false false false true f g s other is = inl refl
-disk_chosen false false false false true g s other is = inr refl
-disk_chosen false false false false false true s other is = cc
-disk_chosen false false false false false false s other is = absurd (other is)
+pub disk_chosen : (a c g : Bool) (s : Status) → (s ≡ statuses.DiskFault → ⊥) → chosen a c g s ≡ statuses.DiskFault → c ≡ true
+disk_chosen true c g s other is = cc
+disk_chosen false true g s other is = refl
+disk_chosen false false true s other is = cc
+disk_chosen false false false s other is = absurd (other is)
 
-pub remote_chosen : (a b w c f g : Bool) (s : Status) → (s ≡ statuses.RemoteFault → ⊥) → chosen a b w c f g s ≡ statuses.RemoteFault → g ≡ true
-remote_chosen true b w c f g s other is = cc
-remote_chosen false true w c f g s other is = cc
-remote_chosen false false true c f g s other is = cc
-remote_chosen false false false true f g s other is = cc
-remote_chosen false false false false true g s other is = cc
-remote_chosen false false false false false true s other is = refl
-remote_chosen false false false false false false s other is = absurd (other is)
+pub remote_chosen : (a c g : Bool) (s : Status) → (s ≡ statuses.RemoteFault → ⊥) → chosen a c g s ≡ statuses.RemoteFault → g ≡ true
+remote_chosen true c g s other is = cc
+remote_chosen false true g s other is = cc
+remote_chosen false false true s other is = refl
+remote_chosen false false false s other is = absurd (other is)
 
-pub memory_chosen : (a b w c f g : Bool) (s : Status) → (s ≡ statuses.NoMemory → ⊥) → chosen a b w c f g s ≡ statuses.NoMemory → (a ≡ true) ⊎ ((b ≡ true) ⊎ (w ≡ true))
-memory_chosen true b w c f g s other is = inl refl
-memory_chosen false true w c f g s other is = inr (inl refl)
-memory_chosen false false true c f g s other is = inr (inr refl)
-memory_chosen false false false true f g s other is = cc
-memory_chosen false false false false true g s other is = cc
-memory_chosen false false false false false true s other is = cc
-memory_chosen false false false false false false s other is = absurd (other is)
-
--- a book that was not saved for want of memory
-pub want_chosen : (a b c f g : Bool) (s : Status) → chosen a b true c f g s ≡ statuses.NoMemory
-want_chosen true b c f g s = refl
-want_chosen false true c f g s = refl
-want_chosen false false c f g s = refl
+pub memory_chosen : (a c g : Bool) (s : Status) → (s ≡ statuses.NoMemory → ⊥) → chosen a c g s ≡ statuses.NoMemory → a ≡ true
+memory_chosen true c g s other is = refl
+memory_chosen false true g s other is = cc
+memory_chosen false false true s other is = cc
+memory_chosen false false false s other is = absurd (other is)
 
 -- ---- the statuses that are told by none of these
 
@@ -173,21 +147,50 @@ no_many false false true b is = cc
 no_many false false false true is = cc
 no_many false false false false is = cc
 
-other_chosen : (order : List Entry) (all : List Ending) (not_saved : Option DiskError) (t : Status) → IsNoEnding t → (statuses.NoMemory ≡ t → ⊥) → (statuses.DiskFault ≡ t → ⊥) → (statuses.RemoteFault ≡ t → ⊥)
-    → status_by order all not_saved ≡ t → ⊥
-other_chosen order all not_saved t none memory disk remote is =
-    let last = last_chosen (has_kind 2 order) (some_tells statuses.NoMemory all) (is_wanting not_saved) (has_kind 5 order) (is_failed not_saved) (has_kind 7 order) (status_of_endings all) t memory disk remote is in
-    none (some_tells statuses.SourceFault all) (some_tells statuses.SinkFault all) (some_tells statuses.SourceTooLong all) (some_tells statuses.BadFrame all) last.status
+-- where sessions were served
+module _ (order : List Entry) (all : List Ending) (not_saved : Option DiskError) (failed : Bool) where
+  other_chosen : (t : Status) → IsNoEnding t → (statuses.NoMemory ≡ t → ⊥) → (statuses.DiskFault ≡ t → ⊥) → (statuses.RemoteFault ≡ t → ⊥)
+      → first_of (run_facts order all not_saved failed) ≡ t → ⊥
+  other_chosen t none memory disk remote is =
+      let sink = failed || some_tells statuses.SinkFault all in
+      let s = ended (some_tells statuses.SourceFault all) sink (some_tells statuses.SourceTooLong all) (some_tells statuses.BadFrame all) in
+      let last = last_chosen (is_short order all not_saved) (has_disk_fault order not_saved) (has_kind 7 order) s t memory disk remote is in
+      none (some_tells statuses.SourceFault all) sink (some_tells statuses.SourceTooLong all) (some_tells statuses.BadFrame all) last.status
 
--- sessions that were served are never answered Usage or TooManyLanes
-pub served_asks : (order : List Entry) (all : List Ending) (not_saved : Option DiskError) → AsksNone (status_by order all not_saved) → ⊥
-served_asks order all not_saved (inl is) = other_chosen order all not_saved statuses.Usage no_usage (λ e. cc) (λ e. cc) (λ e. cc) is
-served_asks order all not_saved (inr is) = other_chosen order all not_saved statuses.TooManyLanes no_many (λ e. cc) (λ e. cc) (λ e. cc) is
+  -- they are never answered Usage or TooManyLanes
+  pub served_asks : AsksNone (first_of (run_facts order all not_saved failed)) → ⊥
+  served_asks (inl is) = other_chosen statuses.Usage no_usage (λ e. cc) (λ e. cc) (λ e. cc) is
+  served_asks (inr is) = other_chosen statuses.TooManyLanes no_many (λ e. cc) (λ e. cc) (λ e. cc) is
 
 -- by the order and the report that are handed back
-pub status_is : (status : Status) (order kept : List Entry) (all : List Ending) (told not_saved : Option DiskError)
-    → status ≡ status_by kept all not_saved → order ≡ kept → told ≡ not_saved → status ≡ status_by order all told
-status_is status order kept all told not_saved is same so = is ∙ ap (λ es. status_by es all not_saved) (sym same) ∙ ap (λ o. status_by order all o) (sym so)
+pub status_is : (status : Status) (order kept : List Entry) (all : List Ending) (told not_saved : Option DiskError) (failed told_failed : Bool)
+    → status ≡ first_of (run_facts kept all not_saved failed) → order ≡ kept → told ≡ not_saved → told_failed ≡ failed
+    → status ≡ first_of (run_facts order all told told_failed)
+status_is status order kept all told not_saved failed told_failed is same so fails =
+    is ∙ ap (λ es. first_of (run_facts es all not_saved failed)) (sym same) ∙ ap (λ o. first_of (run_facts order all o failed)) (sym so)
+    ∙ ap (λ b. first_of (run_facts order all told b)) (sym fails)
+
+-- ---- where the journal fails too
+
+beside_ended : (s k l b : Bool) → ended s true l b ≡ beside_sink (ended s k l b)
+beside_ended true k l b = refl
+beside_ended false true l b = refl
+beside_ended false false true b = refl
+beside_ended false false false true = refl
+beside_ended false false false false = refl
+
+beside_chosen : (a c g s k l b : Bool) → chosen a c g (ended s true l b) ≡ beside_sink (chosen a c g (ended s k l b))
+beside_chosen true c g s k l b = refl
+beside_chosen false true g s k l b = refl
+beside_chosen false false true s k l b = refl
+beside_chosen false false false s k l b = beside_ended s k l b
+
+-- its fault is told where none of those comes before
+pub beside_failed : (order : List Entry) (all : List Ending) (not_saved : Option DiskError)
+    → first_of (run_facts order all not_saved true) ≡ beside_sink (first_of (run_facts order all not_saved false))
+beside_failed order all not_saved =
+    beside_chosen (is_short order all not_saved) (has_disk_fault order not_saved) (has_kind 7 order)
+    (some_tells statuses.SourceFault all) (some_tells statuses.SinkFault all) (some_tells statuses.SourceTooLong all) (some_tells statuses.BadFrame all)
 
 -- ---- by reports
 

@@ -1,5 +1,5 @@
 -- Why sessions are answered so, on any disk.
-use Rattle.std.specs.Prelude.{◌≡◌, ◌≢◌, ◌+◌, ◌-◌, ◌<◌, ◌≤◌, ◌^◌, ◌↔◌, ◌⊎◌, ℕ, true, false, List, [], ◌∷◌, ◌++◌, length, Option, Some, None}
+use Rattle.std.specs.Prelude.{◌≡◌, ◌≢◌, ◌+◌, ◌-◌, ◌<◌, ◌≤◌, ◌^◌, ◌↔◌, ◌⊎◌, ℕ, Bool, true, false, List, [], ◌∷◌, ◌++◌, length, Option, Some, None}
 use Rattle.std.specs.List.{All}
 use Rattle.port_traits.specs.declared.source.Source as sources
 use Rattle.port_traits.specs.declared.sink.Sink as sinks
@@ -43,12 +43,13 @@ pub record NoDiskFault (order : List Entry) (not_saved : Option DiskError) : Typ
   pub acts : has_kind 5 order ≡ false
   pub saving : not_saved ≢ Some disks.Failed
 
--- neither memory was wanting nor did the disk or the remote fail, and the book was saved
-pub record IsCalm (order : List Entry) (not_saved : Option DiskError) : Type 0 where
+-- neither memory was wanting nor did the disk, the remote or the journal fail, and the book was saved
+pub record IsCalm (order : List Entry) (not_saved : Option DiskError) (journal_failed : Bool) : Type 0 where
   pub memory : has_kind 2 order ≡ false
   pub disk : has_kind 5 order ≡ false
   pub remote : has_kind 7 order ≡ false
   pub saved : not_saved ≡ None
+  pub journal : journal_failed ≡ false
 
 -- The events before the lane's end led to a place of its input at which no command stands.
 pub record ReachesNoCommand (input : List ℕ) (events : List Event) : Type 0 where
@@ -87,13 +88,13 @@ SomeTooLong (r ∷ rs) = ((r.ending ≡ endings.SourceTooLong) × (r.taken ≡ 2
 -- ---- the whole
 
 -- The causes of the statuses of sessions that were served. A fault comes only where the count of that object rose.
-pub record HasCause {S K : Type 0} (source : sources.Ghosts S) (sink : sinks.Ghosts K) (status : Status) (order : List Entry) (not_saved : Option DiskError)
+pub record HasCause {S K : Type 0} (source : sources.Ghosts S) (sink : sinks.Ghosts K) (status : Status) (order : List Entry) (not_saved : Option DiskError) (journal_failed : Bool)
     (old new : List (Port S K)) (reports : List LaneReport) (runs : List Run) (events : List Event) (disk disk' remote remote' : ℕ) : Type 0 where
-  pub ok : (status ≡ statuses.Ok) ↔ (All (λ r. r.ending ≡ endings.Clean) reports × IsCalm order not_saved)
-  pub bad_frame : (status ≡ statuses.BadFrame) ↔ (SomeReaches 0 runs events × All (λ r. HasNotFailed r.ending) reports × IsCalm order not_saved)
+  pub ok : (status ≡ statuses.Ok) ↔ (All (λ r. r.ending ≡ endings.Clean) reports × IsCalm order not_saved journal_failed)
+  pub bad_frame : (status ≡ statuses.BadFrame) ↔ (SomeReaches 0 runs events × All (λ r. HasNotFailed r.ending) reports × IsCalm order not_saved journal_failed)
   pub disk_fault : status ≡ statuses.DiskFault → Rose disk disk'
   pub remote_fault : status ≡ statuses.RemoteFault → Rose remote remote'
   pub source_fault : status ≡ statuses.SourceFault → SomeFailed (λ p. source.faults p.source) endings.SourceFault old new reports
-  pub sink_fault : status ≡ statuses.SinkFault → SomeFailed (λ p. sink.faults p.sink) endings.SinkFault old new reports
+  pub sink_fault : status ≡ statuses.SinkFault → SomeFailed (λ p. sink.faults p.sink) endings.SinkFault old new reports ⊎ (journal_failed ≡ true)
   pub no_memory : (status ≡ statuses.NoMemory) ↔ ((has_kind 2 order ≡ true) ⊎ (not_saved ≡ Some disks.NoMemory))
   pub too_long : status ≡ statuses.SourceTooLong → SomeTooLong reports

@@ -2,8 +2,7 @@
 use Rattle.disk_trait.specs.declared.disk.Disk.{Ghosts}
 use Rattle.disk_trait.specs.declared.disk.DiskError.{DiskError}
 use Rattle.disk_trait.specs.Disk.{Serves}
-use Rattle.std.specs.Prelude.{◌≡◌, ◌≢◌, ◌≤◌, ◌<◌, ◌⊎◌, ℕ, false, List, [], ◌∷◌, ◌++◌, map, length, Option, Some, None, is_some, IfSome, IsTrue, Ok, String}
-use Rattle.std.specs.declared.alloc.Global.{Global}
+use Rattle.std.specs.Prelude.{◌≡◌, ◌≢◌, ◌≤◌, ◌⊎◌, ℕ, false, List, [], ◌∷◌, ◌++◌, map, length, Option, Some, None, is_some, IfSome, IsTrue, Ok}
 use Rattle.std.specs.FinMap.{get}
 use Rattle.port_traits.specs.declared.sink.Sink as sinks
 use Rattle.port_traits.specs.declared.source.Source as sources
@@ -15,7 +14,7 @@ use Rattle.store_files.specs.Archive.{Snapshot}
 use Rattle.store_files.specs.Order.{keeps_rules}
 use Rattle.store_model.specs.Clash.{NoClash, chunk_pieces}
 use Rattle.store_model.specs.Load.{load}
-use Rattle.store_model.specs.Store.{Store, lane_count}
+use Rattle.store_model.specs.Store.{Store}
 use Rattle.store_model.specs.Stands.{StandsFor}
 use Rattle.store_model.specs.Weave.{weave}
 use Rattle.store_history.specs.declared.act.Event.{Event}
@@ -44,8 +43,7 @@ use Rattle.pbs_server.specs.declared.status.Status.TheVariants as statuses
 use Rattle.pbs_server.specs.Acknowledged.{FoundAfter}
 use Rattle.pbs_server.specs.Causes.{IsOrder, SaveIsTold, NoDiskFault, HasCause}
 use Rattle.pbs_server.specs.Collections.{HasCollected}
-use Rattle.pbs_server.specs.Statuses.{endings_of, status_by, status_of_opening}
-use Rattle.pbs_server.specs.Words.{IsAsked, texts}
+use Rattle.pbs_server.specs.Statuses.{endings_of, first_of, run_facts, status_of_opening}
 
 -- the inputs of lanes, and what each told
 abbrev pub inputs_of : List Run → List (List ℕ)
@@ -135,8 +133,8 @@ pub record HasServed {D E S K : Type 0} (d : Ghosts D) (e : Ghosts E) (source : 
   pub stops : (L : List Snapshot) (R : Option (List Snapshot)) → IsBeside e remote R told.events → d.honest disk → StandsFor (d.content disk) L → NoClash (chunk_pieces (d.content disk) ++ sent told.events)
       → StopsLeave d ((was_opened.opens).start) result.disk R (opening_of d disk opened L) told.events
   -- on any disk
-  pub status : result.status ≡ status_by (result.order).items (endings_of reports) (result.report).not_saved
-  pub why : HasCause source sink result.status (result.order).items (result.report).not_saved old new reports told.runs told.events
+  pub status : result.status ≡ first_of (run_facts (result.order).items (endings_of reports) (result.report).not_saved (result.report).journal_failed)
+  pub why : HasCause source sink result.status (result.order).items (result.report).not_saved (result.report).journal_failed old new reports told.runs told.events
       (d.faults disk) (d.faults result.disk) (faults_of e remote) (faults_of e result.remote)
   -- the remote is there where it was, honest where it was; an honest one reads as before, and a crash leaves of it what it left
   pub stays : RemoteStays e remote result.remote
@@ -179,11 +177,3 @@ abbrev pub Leaves : {D E S K : Type 0} → Ghosts D → Ghosts E → sources.Gho
     → List (Port S K) → List (Port S K) → List LaneReport → Type 0
 Leaves d e source sink readings disk remote result old new [] = HasNotServed d disk remote old new result
 Leaves d e source sink readings disk remote result old new (report ∷ reports) = HasServed d e source sink readings disk remote old new (report ∷ reports) result
-
--- the words have no reading, or ask for another number of sessions than there are ports
-abbrev pub IsMisused : List (String Global) → ℕ → Type 0
-IsMisused words ports = IsAsked (texts words) ports → ⊥
-
--- they ask for as many sessions as there are ports, and these are more than there are lanes
-abbrev pub AsksTooMany : List (String Global) → ℕ → Type 0
-AsksTooMany words ports = IsAsked (texts words) ports × (lane_count < ports)

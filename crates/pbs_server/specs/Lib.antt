@@ -4,4 +4,5 @@ pub mod Saving
 pub mod Causes
 pub mod Collections
 pub mod Headline
+pub mod Journal
 pub mod Acknowledged

@@ -1,5 +1,5 @@
 -- The status of a run.
-use Rattle.std.specs.Prelude.{ℕ, Bool, true, false, ◌==◌, List, map, codes, if◌then◌else◌, Option, Some}
+use Rattle.std.specs.Prelude.{ℕ, Bool, true, false, ◌==◌, ◌||◌, List, map, codes, if◌then◌else◌, Option, Some}
 use Rattle.std.specs.List.{list_any}
 use Rattle.disk_trait.specs.declared.disk.DiskError.{DiskError}
 use Rattle.disk_trait.specs.declared.disk.DiskError.TheVariants as disks
@@ -49,16 +49,62 @@ tells status ending = number_of (status_of_ending ending) == number_of status
 abbrev pub some_tells : Status → List Ending → Bool
 some_tells status all = list_any (tells status) all
 
--- a source that failed comes first, then a sink, then too long a source, then a place without a command
-abbrev pub status_of_endings : List Ending → Status
-status_of_endings all =
-    if some_tells statuses.SourceFault all then statuses.SourceFault else
-    if some_tells statuses.SinkFault all then statuses.SinkFault else
-    if some_tells statuses.SourceTooLong all then statuses.SourceTooLong else
-    if some_tells statuses.BadFrame all then statuses.BadFrame else
+-- ---- which of several
+
+-- what may be true of a call, in the order in which it is told
+pub record Facts : Type 0 where
+  -- the words have no reading, or ask for another number of ports than there are
+  pub misused : Bool
+  -- there are more sessions than lanes
+  pub many : Bool
+  -- memory was wanting
+  pub short : Bool
+  -- the disk failed, or the remote's
+  pub disk : Bool
+  pub remote : Bool
+  -- a source failed, or a sink
+  pub source : Bool
+  pub sink : Bool
+  -- a source has too many bytes
+  pub long : Bool
+  -- the order's file is none, or doesn't belong to the datastore
+  pub bad_order : Bool
+  -- on a lane something stands that isn't a command
+  pub broken : Bool
+  -- replayed and kept replies differ
+  pub unequal : Bool
+
+-- the first that is true
+abbrev pub first_of : Facts → Status
+first_of f =
+    if f.misused then statuses.Usage else
+    if f.many then statuses.TooManyLanes else
+    if f.short then statuses.NoMemory else
+    if f.disk then statuses.DiskFault else
+    if f.remote then statuses.RemoteFault else
+    if f.source then statuses.SourceFault else
+    if f.sink then statuses.SinkFault else
+    if f.long then statuses.SourceTooLong else
+    if f.bad_order then statuses.BadOrder else
+    if f.broken then statuses.BadFrame else
+    if f.unequal then statuses.Unequal else
     statuses.Ok
 
--- ---- the whole
+-- by how lanes ended: a source failed, a sink, a source has too many bytes, on a lane something stands that isn't a command
+abbrev pub endings_facts : List Ending → Facts
+endings_facts all = record {
+  misused = false;
+  many = false;
+  short = false;
+  disk = false;
+  remote = false;
+  source = some_tells statuses.SourceFault all;
+  sink = some_tells statuses.SinkFault all;
+  long = some_tells statuses.SourceTooLong all;
+  bad_order = false;
+  broken = some_tells statuses.BadFrame all;
+  unequal = false;
+}
 
 -- why the book was not saved: want of memory, or the disk
 abbrev pub is_wanting : Option DiskError → Bool
@@ -69,18 +115,33 @@ abbrev pub is_failed : Option DiskError → Bool
 is_failed (Some disks.Failed) = true
 is_failed _ = false
 
--- Want of memory comes first: an entry of kind 2, a lane that ended by it, or a book that was not saved for it. Then a fault of the
--- disk: an entry of kind 5, or a book that was not saved for it. Then a read of the remote that failed, an entry of kind 7. Then how the
--- lanes ended.
-abbrev pub status_by : List Entry → List Ending → Option DiskError → Status
-status_by order all not_saved =
-    if has_kind 2 order then statuses.NoMemory else
-    if some_tells statuses.NoMemory all then statuses.NoMemory else
-    if is_wanting not_saved then statuses.NoMemory else
-    if has_kind 5 order then statuses.DiskFault else
-    if is_failed not_saved then statuses.DiskFault else
-    if has_kind 7 order then statuses.RemoteFault else
-    status_of_endings all
+-- an entry of kind 2, a lane that ended by want of memory, or a book that was not saved for it
+abbrev pub is_short : List Entry → List Ending → Option DiskError → Bool
+is_short order all not_saved = has_kind 2 order || some_tells statuses.NoMemory all || is_wanting not_saved
+
+-- an entry of kind 5, or a book that was not saved for a fault of the disk
+abbrev pub has_disk_fault : List Entry → Option DiskError → Bool
+has_disk_fault order not_saved = has_kind 5 order || is_failed not_saved
+
+-- Of a run: what its order, the lanes' endings, the saving of the book and the journal tell. A read of the remote that failed is an entry of
+-- kind 7.
+abbrev pub run_facts : List Entry → List Ending → Option DiskError → Bool → Facts
+run_facts order all not_saved journal_failed = record (endings_facts all) {
+  short = is_short order all not_saved;
+  disk = has_disk_fault order not_saved;
+  remote = has_kind 7 order;
+  sink = journal_failed || some_tells statuses.SinkFault all;
+}
+
+-- the status where the journal failed too: what comes before a sink's fault stays
+abbrev pub beside_sink : Status → Status
+beside_sink statuses.SinkFault = statuses.SinkFault
+beside_sink statuses.SourceTooLong = statuses.SinkFault
+beside_sink statuses.BadOrder = statuses.SinkFault
+beside_sink statuses.BadFrame = statuses.SinkFault
+beside_sink statuses.Unequal = statuses.SinkFault
+beside_sink statuses.Ok = statuses.SinkFault
+beside_sink told = told
 
 -- by why the datastore was not opened
 abbrev pub status_of_opening : OpenFault → Status

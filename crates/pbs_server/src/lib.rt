@@ -1,15 +1,16 @@
 //! The program's call: sessions are served on a datastore, and all that was handed in is handed back.
 #![tactic(auto)]
 
+mod asking;
 pub mod laws;
-mod plan;
 mod run;
 mod saving;
 mod served;
 mod serving;
 mod status;
+mod telling;
 
-pub use plan::{Plan, WordFault, plan_words};
+pub use command_line::{Plan, WordFault, plan_words};
 pub use served::{RunReport, Served, Unequal};
 pub use serving::serve;
 pub use status::Status;

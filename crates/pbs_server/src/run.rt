@@ -1,8 +1,8 @@
 //! A run of the sessions that were handed in.
 
-ghost use Rattle.std.specs.Prelude.{◌≡◌, ◌≤◌, ◌+◌, ◌++◌, [], None, Some, length, vec_capacity, vec_len};
+ghost use Rattle.std.specs.Prelude.{◌≡◌, ◌≤◌, ◌+◌, ◌++◌, [], None, Some, false, length, vec_capacity, vec_len};
 ghost use Rattle.pbs_server.specs.Headline.{AsksNone, Leaves};
-ghost use Rattle.pbs_server.specs.Statuses.{endings_of, status_by};
+ghost use Rattle.pbs_server.specs.Statuses.{endings_of, first_of, run_facts};
 
 use crate::saving::save;
 use crate::served::{RunReport, Served};
@@ -32,6 +32,7 @@ pub fn not_served<D, E>(
     ensures order { result.order.items ≡ [] }
     ensures lanes { result.report.lanes.items ≡ [] }
     ensures calls { result.report.calls.items ≡ [] }
+    ensures journal { result.report.journal_failed ≡ false }
     ensures unequal { result.report.unequal ≡ None }
     ensures disk { result.disk ≡ disk }
     ensures remote { result.remote ≡ remote }
@@ -44,6 +45,7 @@ pub fn not_served<D, E>(
             calls: Vec::new(alloc),
             not_opened,
             not_saved: None,
+            journal_failed: false,
             unequal: None,
         },
         disk,
@@ -58,12 +60,13 @@ fn handed_back<D, E, C: Drop>(
     not_saved: Option<DiskError>,
 ) -> Served<D, E>
     ensures status { result.status
-        ≡ status_by core.journal.entries.items (endings_of lanes.items) not_saved }
+        ≡ first_of (run_facts core.journal.entries.items (endings_of lanes.items) not_saved false) }
     ensures order { result.order ≡ core.journal.entries }
     ensures lanes { result.report.lanes ≡ lanes }
     ensures calls { result.report.calls ≡ core.journal.calls }
     ensures not_opened { result.report.not_opened ≡ None }
     ensures not_saved { result.report.not_saved ≡ not_saved }
+    ensures journal { result.report.journal_failed ≡ false }
     ensures unequal { result.report.unequal ≡ None }
     ensures disk { result.disk ≡ core.parts.disk }
     ensures remote { result.remote ≡ core.remote }
@@ -85,6 +88,7 @@ fn handed_back<D, E, C: Drop>(
             calls,
             not_opened: None,
             not_saved,
+            journal_failed: false,
             unequal: None,
         },
         disk,
@@ -100,6 +104,7 @@ fn not_turned<D, E, C: Drop>(alloc: Global, core: Core<D, E, C>) -> Served<D, E>
     ensures order { result.order.items ≡ [] }
     ensures lanes { result.report.lanes.items ≡ [] }
     ensures calls { result.report.calls.items ≡ [] }
+    ensures journal { result.report.journal_failed ≡ false }
     ensures unequal { result.report.unequal ≡ None }
     ensures disk { result.disk ≡ core.parts.disk }
     ensures remote { result.remote ≡ core.remote }
@@ -142,6 +147,7 @@ pub fn serve_sessions<
     ensures leaves { Leaves D.Disk E.Disk S.Source K.Sink (C.readings clock)
         disk remote result ports.old ports.new result.report.lanes.items }
     ensures status { AsksNone result.status → ⊥ }
+    ensures journal { result.report.journal_failed ≡ false }
     ensures unequal { result.report.unequal ≡ None }
 {
     let Ok(mut lanes) = Vec::with_capacity(alloc, ports.len()) else {

@@ -26,6 +26,8 @@ pub struct RunReport {
     /// Why the book of touches was not saved. None where it was, and where that was not tried, because no lane was served or
     /// the disk had failed.
     pub not_saved: Option<DiskError>,
+    /// The journal failed as the order was written into it.
+    pub journal_failed: bool,
     /// Only a check of a run tells one.
     pub unequal: Option<Unequal>,
 }

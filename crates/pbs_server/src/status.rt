@@ -1,8 +1,8 @@
 //! What a run is answered.
 
-ghost use Rattle.std.specs.Prelude.{◌≡◌};
+ghost use Rattle.std.specs.Prelude.{◌≡◌, false};
 ghost use Rattle.lane.specs.Entries.{has_kind};
-ghost use Rattle.pbs_server.specs.Statuses.{endings_of, is_failed, is_wanting, some_tells, status_by, status_of_ending, status_of_endings, status_of_opening};
+ghost use Rattle.pbs_server.specs.Statuses.{endings_facts, endings_of, first_of, has_disk_fault, is_failed, is_short, is_wanting, run_facts, some_tells, status_of_ending, status_of_opening};
 
 use core_opening::OpenFault;
 use disk_trait::DiskError;
@@ -116,7 +116,7 @@ fn some_tell(lanes: &[LaneReport], status: Status) -> bool
 
 /// By the lanes' endings alone: the first of these of which one tells.
 fn by_endings(lanes: &[LaneReport]) -> Status
-    ensures { result ≡ status_of_endings (endings_of lanes.now) }
+    ensures { result ≡ first_of (endings_facts (endings_of lanes.now)) }
 {
     if some_tell(lanes, Status::SourceFault) {
         return Status::SourceFault;
@@ -158,15 +158,29 @@ fn has_failed(not_saved: Option<DiskError>) -> bool
     matches!(not_saved, Some(DiskError::Failed))
 }
 
+/// Memory was wanting: an entry of the order, a lane's ending, or the saving of the book tells it.
+fn lacks_memory(order: &[Entry], lanes: &[LaneReport], not_saved: Option<DiskError>) -> bool
+    ensures { result ≡ is_short order.now (endings_of lanes.now) not_saved }
+{
+    has_entry(order, 2) || some_tell(lanes, Status::NoMemory) || wants_memory(not_saved)
+}
+
+/// The disk failed: an entry of the order or the saving of the book tells it.
+fn lacks_disk(order: &[Entry], not_saved: Option<DiskError>) -> bool
+    ensures { result ≡ has_disk_fault order.now not_saved }
+{
+    has_entry(order, 5) || has_failed(not_saved)
+}
+
 /// The status of a run: want of memory comes first, then a fault of the disk, then one of the remote, then how the lanes
 /// ended. What the saving of the book came to counts as what an act came to.
 pub fn status_of(order: &[Entry], lanes: &[LaneReport], not_saved: Option<DiskError>) -> Status
-    ensures { result ≡ status_by order.now (endings_of lanes.now) not_saved }
+    ensures { result ≡ first_of (run_facts order.now (endings_of lanes.now) not_saved false) }
 {
-    if has_entry(order, 2) || some_tell(lanes, Status::NoMemory) || wants_memory(not_saved) {
+    if lacks_memory(order, lanes, not_saved) {
         return Status::NoMemory;
     }
-    if has_entry(order, 5) || has_failed(not_saved) {
+    if lacks_disk(order, not_saved) {
         return Status::DiskFault;
     }
     if has_entry(order, 7) {

@@ -1,11 +1,12 @@
 //! The program `pbstore`: serves the sessions that its words name, all at once, on a datastore folder, beside another that snapshots
-//! may be pulled from. The replies to the session in a file go to the file of its name with `.out` behind it.
+//! may be pulled from. The replies to the session in a file go to the file of its name with `.out` behind it, and the order of all
+//! acts to the file that the words name for it.
 #![tactic(auto)]
 
 use file_disk::{AtOnce, FileDisk};
 use lane::Port;
 use pbs_server::{Plan, Status, WordFault, plan_words, serve};
-use port_traits::{FileSink, FileSource, FreeGate, WallClock};
+use port_traits::{FileSink, FileSource, FreeGate, Sink, WallClock};
 use std::alloc::{AllocError, Global};
 use std::fs::File;
 use std::io::ErrorKind;
@@ -73,51 +74,87 @@ fn remote_of<'a, R: Threads + Wait + Sync>(
     }
 }
 
-/// The root, the remote's, and the sessions of a plan.
-fn parts_of(plan: &Plan) -> (&str, Option<&str>, &[String]) {
-    let Plan::Run {
-        root,
-        remote,
-        sessions,
-        ..
-    } = plan;
-    let remote = match remote {
-        Some(remote) => Some(remote.as_str()),
-        None => None,
-    };
-    (root.as_str(), remote, sessions.as_slice())
+/// The folders and files of a run.
+#[derive(Clone, Copy)]
+struct Paths<'a> {
+    root: &'a str,
+    remote: Option<&'a str>,
+    order: Option<&'a str>,
+    sessions: &'a [String],
 }
 
-/// Makes the real objects that the words name, and serves.
+fn text_of(text: &Option<String>) -> Option<&str> {
+    match text {
+        Some(text) => Some(text.as_str()),
+        None => None,
+    }
+}
+
+/// Other words than a run's name none: `serve` opens nothing then.
+fn paths_of(plan: &Result<Plan, WordFault>) -> Paths<'_> {
+    match plan {
+        Ok(
+            Plan::Run {
+                root,
+                remote,
+                order,
+                sessions,
+            },
+        ) => Paths {
+            root: root.as_str(),
+            remote: text_of(remote),
+            order: text_of(order),
+            sessions: sessions.as_slice(),
+        },
+        _ => Paths {
+            root: "",
+            remote: None,
+            order: None,
+            sessions: &[],
+        },
+    }
+}
+
+/// Makes the real objects that a run names, but for its journal, and serves.
+fn serve_run<R: Threads + Wait + Sync, J: Sink>(
+    rt: HostRuntime,
+    threads: &R,
+    words: &[String],
+    paths: &Paths<'_>,
+    journal: &mut J,
+) -> Result<Status, AllocError> {
+    let alloc = rt.alloc();
+    let mut ports = ports_of(rt, alloc, paths.sessions)?;
+    let disk = FileDisk::alone(rt, AtOnce::new(rt, threads), alloc, paths.root)?;
+    let remote = remote_of(rt, threads, alloc, paths.remote)?;
+    let clock = WallClock::new(rt);
+    let served = serve(
+        threads, alloc, words, &mut ports, disk, remote, clock, journal, &FreeGate,
+    );
+    Ok(served.status)
+}
+
+/// The journal is the order's file, where the words name one, and else standard output.
 fn serve_words<R: Threads + Wait + Sync>(
     rt: HostRuntime,
     threads: &R,
-    alloc: Global,
     words: &[String],
 ) -> Result<Status, AllocError> {
-    let plan = plan_words(alloc, words);
-    let (root, remote, sessions): (&str, Option<&str>, &[String]) = match &plan {
-        Ok(plan) => parts_of(plan),
-        Err(WordFault::NoReading) => ("", None, &[]),
-        Err(WordFault::NoMemory) => return Ok(Status::NoMemory),
-    };
-    let mut ports = ports_of(rt, alloc, sessions)?;
-    let disk = FileDisk::alone(rt, AtOnce::new(rt, threads), alloc, root)?;
-    let remote = remote_of(rt, threads, alloc, remote)?;
-    let clock = WallClock::new(rt);
-    let mut journal = FileSink::over(io::writer(&rt));
-    let served = serve(
-        threads,
-        alloc,
-        words,
-        &mut ports,
-        disk,
-        remote,
-        clock,
-        &mut journal,
-        &FreeGate,
-    );
-    Ok(served.status)
+    let plan = plan_words(rt.alloc(), words);
+    if let Err(WordFault::NoMemory) = plan {
+        return Ok(Status::NoMemory);
+    }
+    let paths = paths_of(&plan);
+    match paths.order {
+        Some(path) => {
+            let mut journal = FileSink::create(&rt, path);
+            serve_run(rt, threads, words, &paths, &mut journal)
+        }
+        None => {
+            let mut journal = FileSink::over(io::writer(&rt));
+            serve_run(rt, threads, words, &paths, &mut journal)
+        }
+    }
 }
 
 fn run<R: Threads + Wait + Sync>(rt: HostRuntime, threads: &R) -> Status {
@@ -125,7 +162,7 @@ fn run<R: Threads + Wait + Sync>(rt: HostRuntime, threads: &R) -> Status {
         Ok(words) => words,
         Err(status) => return status,
     };
-    match serve_words(rt, threads, rt.alloc(), &words) {
+    match serve_words(rt, threads, &words) {
         Ok(status) => status,
         Err(_) => Status::NoMemory,
     }

@@ -2,9 +2,11 @@
 
 mod disk_faults;
 pub(crate) mod gated;
+mod journal;
 pub(crate) mod long;
 mod memory;
 mod port_faults;
+mod statuses;
 mod together;
 mod words;
 

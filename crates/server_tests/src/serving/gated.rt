@@ -58,7 +58,7 @@ pub(crate) static BACKUPS: [&[u8]; 4] = [
 pub(crate) const BACKED_UP: &[u8] = b"\x02\0\0\0\0\0\x01\0\0\0\0\x01\0\0\0\0";
 
 /// LIST of them.
-const LIST: &[u8] = b"\x02\0\0\0\x1e\0";
+pub(crate) const LIST: &[u8] = b"\x02\0\0\0\x1e\0";
 
 const FOUR_LISTED: &[u8] =
     b"{\0\0\0\0\x04\0\x1bhost/a/2020-01-15T06:30:03Z\0\x01\x1bhost/b/2020-01-15T06:30:03Z\0\x01\x1bhost/c/2020-01-15T06:30:03Z\0\x01\x1bhost/d/2020-01-15T06:30:03Z\0\x01";

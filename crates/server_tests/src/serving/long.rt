@@ -60,7 +60,7 @@ const VERIFY: &[u8] = b"\x1d\0\0\0\"\x1bhost/a/2020-01-15T06:30:03Z";
 
 const TWO_FILES: &[u8] = b"\x13\0\0\0\0\x02\0\0\0\0\0\0\0\0\0\0\0\0\0\0\0\0\0";
 
-const SYNC: &[u8] = b"\x08\0\0\0#\x06host/a";
+pub const SYNC: &[u8] = b"\x08\0\0\0#\x06host/a";
 
 const ONE_KEY: &[u8] = b"\x1f\0\0\0\0\x01\0\x1bhost/a/2020-01-15T06:30:03Z";
 

@@ -1,4 +1,4 @@
-use Rattle.std.proofs.Common.{◌≡◌, ◌≤◌, ◌++◌, [], None, length, refl, ap, sym, subst, ◌∙◌, arith}
+use Rattle.std.proofs.Common.{◌≡◌, ◌≤◌, ◌++◌, [], None, false, length, refl, ap, sym, subst, ◌∙◌, arith}
 use Rattle.core_state.specs.History.{began}
 use Rattle.core_state.specs.Remotes.{RemoteStays, faults_of}
 use Rattle.lane.specs.Entries.{has_kind}
@@ -6,7 +6,7 @@ use Rattle.lane_threads.specs.Served.{RanAs}
 use Rattle.lane_threads.proofs.Halves.{each_counts}
 use Rattle.pbs_server.specs.Headline.{AsksNone, Leaves}
 use Rattle.pbs_server.specs.Saving.{EndsSaved}
-use Rattle.pbs_server.specs.Statuses.{endings_of, status_by}
+use Rattle.pbs_server.specs.Statuses.{endings_of, first_of, run_facts}
 use Rattle.pbs_server.proofs.Causes.{caused, save_told}
 use Rattle.pbs_server.proofs.Leaving.{leaves_none, leaves_served, memory_asks, opening_asks, unopened, unturned}
 use Rattle.pbs_server.proofs.Remotes.{rose_by}
@@ -68,9 +68,11 @@ returns-in-Ok-serve_all-clause-leaves g c =
     let lanes = c.push_all.new.lanes.items in
     let given : lanes ≡ reports = c.push_all.ensures ∙ ap (λ xs. xs ++ c.as_slice.result.now) c.in-Ok.ensures.items ∙ c.as_slice.ensures.value in
     let told : ((left.report).lanes).items ≡ reports = ap (λ v. v.items) back.lanes ∙ given in
-    let ended : left.status ≡ status_by (left.order).items (endings_of lanes) not_saved =
-    status_is left.status (left.order).items (saved.journal).entries.items (endings_of lanes) not_saved c.save-not_saved.result back.status order_as back.not_saved in
-    let status : left.status ≡ status_by (left.order).items (endings_of reports) not_saved = subst (λ xs. left.status ≡ status_by (left.order).items (endings_of xs) not_saved) given ended in
+    let failed = (left.report).journal_failed in
+    let ended : left.status ≡ first_of (run_facts (left.order).items (endings_of lanes) not_saved failed) =
+    status_is left.status (left.order).items (saved.journal).entries.items (endings_of lanes) not_saved c.save-not_saved.result false failed back.status order_as back.not_saved back.journal in
+    let status : left.status ≡ first_of (run_facts (left.order).items (endings_of reports) not_saved failed) =
+    subst (λ xs. left.status ≡ first_of (run_facts (left.order).items (endings_of xs) not_saved failed)) given ended in
     let both = has_both d e s k readings c.args.clock disk c.args.remote first core saved old new (left.order).items ((left.report).calls).items not_saved reports on.runs on.events left.disk
     (g.met.D.Disk g.world.𝓛 g.world.𝓜 g.world.𝓡 ((λ s x. x), (λ x. x), (λ x. x), λ x. x)).told (opened.handed).0 opened.opened opened.touches opened.recovers (opened.begun).last opened.book opened.cleaned
     now on.lanes on.each ends order_as calls_as back.disk in
@@ -92,7 +94,7 @@ returns-in-Ok-serve_all-clause-leaves g c =
       plain = both.plain;
       stops = both.stops;
       status = status;
-      why = caused s k left.status (left.order).items not_saved old new reports (both.told).runs (both.told).events status (both.told).each _ _ _ _ order.faults save.faults
+      why = caused s k left.status (left.order).items not_saved failed old new reports (both.told).runs (both.told).events status (both.told).each _ _ _ _ order.faults save.faults
           (rose_by (left.order).items (faults_of e c.args.remote) (faults_of e left.remote) order.reads)
           (λ is. ap (has_kind 2) (order_as ∙ ap (λ x. (x.journal).entries.items) ends.rest ∙ (now.records).entries) ∙ wants is);
       stays = subst (λ r. RemoteStays e c.args.remote r) (sym (back.remote ∙ ap (λ x. x.remote) ends.rest)) (subst (λ r. RemoteStays e r core.remote) (opened.handed).0 (now.remote).stays);
@@ -105,7 +107,7 @@ returns-in-Ok-serve_all-clause-leaves g c =
 
 pub returns-in-Ok-serve_all-clause-status : goal.returns-in-Ok-serve_all-clause-status
 returns-in-Ok-serve_all-clause-status g c =
-    λ asks. served_asks (c.save-not_saved.new.core.journal).entries.items (endings_of c.push_all.new.lanes.items) c.save-not_saved.result (subst AsksNone c.handed_back.ensures.status asks)
+    λ asks. served_asks (c.save-not_saved.new.core.journal).entries.items (endings_of c.push_all.new.lanes.items) c.save-not_saved.result false (subst AsksNone c.handed_back.ensures.status asks)
 
 -- there was no memory for a turn
 pub returns-in-Err-serve_all-clause-leaves : goal.returns-in-Err-serve_all-clause-leaves
