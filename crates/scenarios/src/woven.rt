@@ -3,7 +3,7 @@
 use crate::bytes::shown;
 use crate::differs::Differs;
 use crate::plan::Plan;
-use crate::rules::keeps_rules;
+use crate::rules::reread;
 use crate::session::{Disks, Left, copy_of, serve_plan};
 use disk_trait::MemoryDisk;
 use lane::{Ending, LaneReport};
@@ -11,7 +11,7 @@ use plain_store::Plain;
 use std::alloc::{AllocError, Global};
 use std::sync::Wait;
 use std::thread::Threads;
-use store_types::{Bytes, Rows};
+use store_types::{Bytes, LANES, Rows};
 
 /// The plain copies of the datastore and the remote, before a run.
 #[derive(Drop)]
@@ -130,13 +130,15 @@ impl Plains {
         let lanes = left.report.lanes.as_slice();
         let inputs = inputs_of(alloc, plan, lanes)?;
         let endings = endings_of(alloc, lanes)?;
-        let order = left.order.as_slice();
-        if endings.len() != inputs.len() || !keeps_rules(order, inputs.len()) {
+        if inputs.len() > LANES || endings.len() != inputs.len() {
+            return Err(Differs::Unread);
+        }
+        let Some(order) = reread(alloc, left.order.as_slice(), inputs.len() as u32)? else {
             let text = String::from_str(alloc, "an order that breaks a rule")?;
             return Err(Differs::Found(text));
-        }
+        };
         let there = self.there.as_ref();
-        match self.here.weave(alloc, there, order, &inputs, &endings)? {
+        match self.here.weave(alloc, there, &order, &inputs, &endings)? {
             Ok(woven) => compare_all(alloc, plan, left, &woven.replies),
             Err(misfit) => Err(Differs::Misfit(misfit.entry)),
         }
