@@ -1,0 +1,6 @@
+pub mod OnlyReading
+pub mod Carried
+pub mod Cutting
+pub mod Filled
+pub mod Opened
+pub mod Standing

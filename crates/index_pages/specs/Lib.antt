@@ -1,0 +1,3 @@
+pub mod Paged
+pub mod Gives
+pub mod Opening

@@ -1,0 +1,11 @@
+//! The tests of indexes that are read page by page.
+#![tactic(auto)]
+
+#[cfg(test)]
+mod asserts;
+#[cfg(test)]
+mod dynamic;
+#[cfg(test)]
+mod fixed;
+#[cfg(test)]
+mod fixtures;

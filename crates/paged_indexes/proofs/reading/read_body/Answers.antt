@@ -1,0 +1,69 @@
+use Rattle.std.proofs.Common.{◌≡◌, ◌*◌, ◌<◌, Some, length, drop, inl, inr, refl, ap, ◌∙◌, rules, arith}
+use Rattle.std.proofs.lemmas.List.{length-drop}
+use Rattle.std.specs.FinMap.{get}
+use Rattle.index_pages.specs.Paged.{page_count}
+use Rattle.index_pages.proofs.Carried.{by_err}
+use Rattle.index_pages.proofs.OnlyReading.{reads_none, reads_then}
+use Rattle.paged_indexes.specs.declared.reading.DynamicBody.{DynamicBody}
+use Rattle.paged_indexes.specs.Reading.{BodyIs}
+use Rattle.paged_indexes.proofs.Stepping.{begins, body_stopped, none_rise, progress_ends, progress_fails, progress_more}
+use Rattle.paged_indexes.proofs.reading.read_body.Goals as goal
+
+pub loop-i-init : goal.loop-i-init
+loop-i-init g c =
+    let made = c.in_ok-reading.ensures in
+    record {
+      reads = reads_none g.D.Disk c.args.disk.now ⊥ (λ n. n);
+      sums = made.len;
+      ends = ap length made.ends;
+      rises = none_rise c.in_ok-reading.reading made.ends;
+      pages = c.pages_in-pages.ensures;
+      progress = λ h text there len. begins (drop 4096 text) c.in_ok-reading.reading made.begins made.ends made.start;
+    }
+
+pub returns-in_err-take-clause-reads : goal.returns-in_err-take-clause-reads
+returns-in_err-take-clause-reads g c = reads_then g.D.Disk _ _ _ ⊥ _ _ c.loop-i.invariant.reads c.take.ensures.reads (λ f. inr (search rules))
+
+pub returns-in_err-take-clause-exact : goal.returns-in_err-take-clause-exact
+returns-in_err-take-clause-exact g c = let d = g.D.Disk in λ h text there len.
+    let count = c.args.count in
+    let i = c.loop-i.i in
+    let body = drop 4096 text in
+    let size : length body ≡ count * 40 = omega (arith, len, length-drop 4096 text) in
+    let below : i < page_count count = omega (arith, c.loop-i-test.true, c.loop-i.invariant.pages) in
+    let reads = c.loop-i.invariant.reads in
+    let now : get (d.content c.loop-i.disk) c.args.name.now ≡ Some text = ap (λ m. get m c.args.name.now) (reads.same h) ∙ there in
+    by_err c.from_residual-in_err-take.result c.in_err-take.field-0.0 (λ r. BodyIs body count r) c.from_residual-in_err-take.ensures.1
+    (body_stopped body count i c.loop-i.reading c.take.new.self c.in_err-take.field-0.0
+    (c.in_err-take.ensures.takes (reads.serves.kept.0 h) text now len)
+    (progress_fails body count i c.loop-i.reading size below (c.loop-i.invariant.progress h text there len)))
+
+pub loop-i-preserved : goal.loop-i-preserved
+loop-i-preserved g c = let d = g.D.Disk in
+    let reads = c.loop-i.invariant.reads in
+    record {
+      reads = reads_then d _ _ _ ⊥ _ ⊥ reads c.take.ensures.reads inl;
+      sums = omega (arith, c.in_ok-take.ensures.len, c.loop-i.invariant.sums);
+      ends = omega (arith, c.in_ok-take.ensures.ends, c.loop-i.invariant.ends);
+      rises = c.in_ok-take.ensures.rises c.loop-i.invariant.rises;
+      pages = c.loop-i.invariant.pages;
+      progress = λ h text there len.
+          let count = c.args.count in
+          let i = c.loop-i.i in
+          let body = drop 4096 text in
+          let size : length body ≡ count * 40 = omega (arith, len, length-drop 4096 text) in
+          let below : i < page_count count = omega (arith, c.loop-i-test.true, c.loop-i.invariant.pages) in
+          let now : get (d.content c.loop-i.disk) c.args.name.now ≡ Some text = ap (λ m. get m c.args.name.now) (reads.same h) ∙ there in
+          progress_more body count i c.loop-i.reading c.take.new.self size below
+          (c.loop-i.invariant.progress h text there len) (c.in_ok-take.ensures.takes (reads.serves.kept.0 h) text now len);
+    }
+
+pub returns-clause-exact : goal.returns-clause-exact
+returns-clause-exact g c = λ h text there len.
+    let count = c.args.count in
+    let i = c.loop-i.i in
+    let body = drop 4096 text in
+    let size : length body ≡ count * 40 = omega (arith, len, length-drop 4096 text) in
+    let past : i ≡ page_count count = omega (arith, c.loop-i-test.false, c.loop-i.auto.i-end, c.loop-i.invariant.pages) in
+    let b : DynamicBody = record { body = c.close.result; ends = c.loop-i.reading.ends } in
+    progress_ends body count i c.loop-i.reading b size past (c.loop-i.invariant.progress h text there len) c.close.ensures.closes refl

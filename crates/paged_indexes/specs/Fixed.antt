@@ -1,0 +1,47 @@
+-- A fixed index as it is kept for its pages to be read.
+use Rattle.std.specs.Prelude.{◌≡◌, ℕ, ◌/◌, ◌≤◌, ◌==◌, ◌&&◌, Bool, IsTrue, List, nat_lt, if◌then◌else◌, Option, Some, None, Result}
+use Rattle.std.specs.FinMap.{get}
+use Rattle.disk_trait.specs.Files.{Files}
+use Rattle.disk_trait.specs.declared.disk.Disk.{Ghosts}
+use Rattle.store_files.specs.Cells.{entry_limit}
+use Rattle.store_files.specs.FixedIndex.{fixed_of, fields_of, is_chunk_size, piece_count}
+use Rattle.index_pages.specs.declared.fault.PageFault.{PageFault}
+use Rattle.index_pages.specs.Gives.{Gives}
+use Rattle.index_pages.specs.Opening.{opened_by}
+use Rattle.index_pages.specs.Paged.{Paged, paged}
+
+-- its pages, the archive's size, and the length of each piece but the last
+pub record FixedPaged : Type 0 where
+  pub pages : Paged
+  pub size : ℕ
+  pub chunk_size : ℕ
+
+-- of a file's text that is an index
+abbrev pub fixed_paged : List ℕ → List ℕ → FixedPaged
+fixed_paged name text = record {
+  pages = paged 32 name text;
+  size = (fields_of text).size;
+  chunk_size = (fields_of text).chunk_size;
+}
+
+-- of the file that stands there, where its text reads as an index; else why it does not
+unfoldable pub opened : Files → List ℕ → Result FixedPaged PageFault
+opened m name = opened_by fixed_of (fixed_paged name) (get m name)
+
+-- on an honest disk it is opened so
+abbrev pub OpensFixed : {D : Type 0} → Ghosts D → D → List ℕ → Result FixedPaged PageFault → Type 0
+OpensFixed d disk name result = d.honest disk → Gives (λ pages. pages) result (opened (d.content disk) name)
+
+-- the piece that has the byte at an offset; none from the size on
+abbrev pub chunk_in : FixedPaged → ℕ → Option ℕ
+chunk_in p offset = if nat_lt offset p.size then Some (offset / p.chunk_size) else None
+
+-- the chunk size is allowed, and the size makes so many pieces
+abbrev pub sizes_agree : ℕ → ℕ → ℕ → Bool
+sizes_agree size chunk_size count = is_chunk_size chunk_size && (count == piece_count size chunk_size)
+
+-- so many entries are those of the size
+pub record HasSizes (count size chunk_size : ℕ) : Type 0 where
+  pub limit : count ≤ entry_limit
+  pub allowed : IsTrue (is_chunk_size chunk_size)
+  pub pieces : count ≡ piece_count size chunk_size

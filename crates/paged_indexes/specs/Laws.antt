@@ -1,0 +1,71 @@
+-- What holds of indexes that are read page by page.
+use Rattle.std.specs.Prelude.{◌≡◌, ◌↔◌, ◌<◌, ◌≤◌, ◌*◌, ℕ, List, length, take, drop, Some, Ok, MatchResult, IsNone, IfSome}
+use Rattle.std.specs.FinMap.{get}
+use Rattle.disk_trait.specs.Files.{Files}
+use Rattle.store_files.specs.Cells.{cells}
+use Rattle.store_files.specs.DynamicIndex.{DynamicIndex, dynamic_of}
+use Rattle.store_files.specs.FixedIndex.{FixedIndex, fixed_of}
+use Rattle.dynamic_index.specs.Pieces.{HoldsOffset, size_of}
+use Rattle.fixed_index.specs.Viewing.{start_of, stop_of}
+use Rattle.index_pages.specs.Paged.{page_at, page_count, page_text, paged}
+use Rattle.paged_indexes.specs.Dynamic.{chunk_in, dynamic_paged, size_by}
+use Rattle.paged_indexes.specs.Fixed.{chunk_in as fixed_chunk_in, fixed_paged}
+use Rattle.paged_indexes.specs.Steps.{entries_of}
+
+-- the bytes of page i of a text of entries of a width
+abbrev pub page : ℕ → List ℕ → List ℕ → ℕ → List ℕ
+page width name text i = page_text (paged width name text) i text
+
+-- ---- pages are of the views' entries: as many, and page i has those from 1,024 i on
+
+pub record DynamicPagesAreTheViews (name text : List ℕ) (x : DynamicIndex) : Type 0 where
+  pub count : (paged 40 name text).count ≡ length x.entries
+  pub entries : (i : ℕ) → i < page_count (length x.entries) → entries_of (page 40 name text i) ≡ take 1024 (drop (i * 1024) x.entries)
+
+pub record FixedPagesAreTheViews (name text : List ℕ) (x : FixedIndex) : Type 0 where
+  pub count : (paged 32 name text).count ≡ length x.digests
+  pub entries : (i : ℕ) → i < page_count (length x.digests) → cells 32 (page 32 name text i) ≡ take 1024 (drop (i * 1024) x.digests)
+
+abbrev pub DynamicPagesAreOfTheView : Type 0
+DynamicPagesAreOfTheView = (name text : List ℕ) (x : DynamicIndex) → dynamic_of text ≡ Ok x → DynamicPagesAreTheViews name text x
+
+abbrev pub FixedPagesAreOfTheView : Type 0
+FixedPagesAreOfTheView = (name text : List ℕ) (x : FixedIndex) → fixed_of text ≡ Ok x → FixedPagesAreTheViews name text x
+
+-- ---- a file that is as it was opened gives each of its pages
+
+abbrev pub WhatStaysIsGiven : ℕ → List ℕ → Type 0
+WhatStaysIsGiven width text =
+    (m : Files) (name : List ℕ) (i : ℕ) → get m name ≡ Some text → i < page_count (paged width name text).count
+    → page_at m (paged width name text) i ≡ Ok (page width name text i)
+
+abbrev pub DynamicStays : Type 0
+DynamicStays = (text : List ℕ) (x : DynamicIndex) → dynamic_of text ≡ Ok x → WhatStaysIsGiven 40 text
+
+abbrev pub FixedStays : Type 0
+FixedStays = (text : List ℕ) (x : FixedIndex) → fixed_of text ≡ Ok x → WhatStaysIsGiven 32 text
+
+-- ---- the piece at an offset is the view's: none from the archive's size on, else the one that has the byte there
+
+pub record FindsTheChunk (m : Files) (name text : List ℕ) (x : DynamicIndex) (offset : ℕ) : Type 0 where
+  pub size : size_by (dynamic_paged name text).ends ≡ size_of x
+  pub found : MatchResult (chunk_in m (dynamic_paged name text) offset)
+      (λ found. (IsNone found ↔ (size_of x ≤ offset)) × IfSome found (HoldsOffset x offset)) (λ fault. ⊥)
+
+abbrev pub DynamicChunksAreFound : Type 0
+DynamicChunksAreFound = (m : Files) (name text : List ℕ) (x : DynamicIndex) (offset : ℕ) → dynamic_of text ≡ Ok x → get m name ≡ Some text
+    → FindsTheChunk m name text x offset
+
+-- a piece of a fixed index has the byte at the offset
+pub record HoldsByte (x : FixedIndex) (offset i : ℕ) : Type 0 where
+  pub place : i < length x.digests
+  pub starts : start_of x i ≤ offset
+  pub stops : offset < stop_of x i
+
+pub record FindsTheFixedChunk (name text : List ℕ) (x : FixedIndex) (offset : ℕ) : Type 0 where
+  pub size : (fixed_paged name text).size ≡ x.size
+  pub none : IsNone (fixed_chunk_in (fixed_paged name text) offset) ↔ (x.size ≤ offset)
+  pub held : IfSome (fixed_chunk_in (fixed_paged name text) offset) (HoldsByte x offset)
+
+abbrev pub FixedChunksAreFound : Type 0
+FixedChunksAreFound = (name text : List ℕ) (x : FixedIndex) (offset : ℕ) → fixed_of text ≡ Ok x → FindsTheFixedChunk name text x offset

@@ -1,0 +1,5 @@
+pub mod Steps
+pub mod Dynamic
+pub mod Fixed
+pub mod Reading
+pub mod Laws

@@ -1,0 +1,84 @@
+-- The pages of an index as its opening reads them in turn.
+use Rattle.std.specs.Prelude.{◌≡◌, ℕ, ◌+◌, ◌-◌, ◌*◌, ◌<◌, ◌≤◌, true, false, List, [], ◌++◌, ◌∷◌, length, drop, slice_index_or, Some, None, Result, Ok, Err}
+use Rattle.std.specs.FinMap.{get}
+use Rattle.std.specs.List.Sorted.{IsNonDecreasingBy}
+use Rattle.disk_trait.specs.declared.disk.Disk.{Ghosts}
+use Rattle.store_files.specs.Cells.{header_len}
+use Rattle.store_files.specs.declared.causes.IndexFault.TheVariants.{Sizes}
+use Rattle.store_files.specs.DynamicIndex.{steps_fit}
+use Rattle.index_pages.specs.declared.fault.PageFault.{PageFault}
+use Rattle.index_pages.specs.declared.fault.PageFault.TheVariants.{BadIndex, Failed, NoMemory}
+use Rattle.index_pages.specs.Opening.{HasPages, IsBody, page_of}
+use Rattle.index_pages.specs.declared.opening.Body.{Body}
+use Rattle.index_pages.specs.Paged.{page_count}
+use Rattle.paged_indexes.specs.declared.reading.Reading.{Reading}
+use Rattle.paged_indexes.specs.declared.reading.DynamicBody.{DynamicBody}
+use Rattle.paged_indexes.specs.Steps.{entries_of, page_ends, stepped}
+
+-- how many pages were noted
+abbrev pub sums_of : Reading → ℕ
+sums_of r = length r.opening.sums.items
+
+-- ---- a page
+
+-- page i was noted, and its last piece ends there
+pub record Takes (count i : ℕ) (body : List ℕ) (old new : Reading) : Type 0 where
+  pub noted : HasPages 40 i body old.opening → HasPages 40 (i + 1) body new.opening
+  pub steps : stepped old.end (entries_of (page_of 40 count i body)) ≡ Some new.end
+  pub ends : new.ends.items ≡ old.ends.items ++ new.end ∷ []
+
+-- its pieces are not as long as pieces may be
+pub record Fails (count i : ℕ) (body : List ℕ) (old : Reading) (fault : PageFault) : Type 0 where
+  pub cause : fault ≡ BadIndex Sizes
+  pub steps : stepped old.end (entries_of (page_of 40 count i body)) ≡ None
+
+abbrev pub TakesThe : ℕ → ℕ → List ℕ → Reading → Reading → Result (Unit {0}) PageFault → Type 0
+TakesThe count i body old new (Ok x) = Takes count i body old new
+TakesThe count i body old new (Err Failed) = Unit {0}
+TakesThe count i body old new (Err NoMemory) = Unit {0}
+TakesThe count i body old new (Err fault) = Fails count i body old fault
+
+-- of the file that stands there, whose size is that of so many entries
+abbrev pub TakesPage : {D : Type 0} → Ghosts D → D → List ℕ → ℕ → ℕ → Reading → Reading → Result (Unit {0}) PageFault → Type 0
+TakesPage d disk name count i old new result =
+    d.honest disk → (text : List ℕ) → get (d.content disk) name ≡ Some text → length text ≡ header_len + count * 40
+    → TakesThe count i (drop header_len text) old new result
+
+-- no page ends before the one in front of it, nor behind the last piece so far
+pub record EndsRise (r : Reading) : Type 0 where
+  pub rises : IsNonDecreasingBy (λ (n : ℕ). n) r.ends.items
+  pub last : (d : ℕ) → 0 < length r.ends.items → slice_index_or r.ends.items (length r.ends.items - 1) d ≤ r.end
+
+-- ---- all pages
+
+pub record IsDynamicBody (body : List ℕ) (count : ℕ) (b : DynamicBody) : Type 0 where
+  pub read : IsBody 40 count body b.body
+  pub ends : b.ends.items ≡ page_ends (page_count count) (entries_of body)
+  pub steps : steps_fit 0 (entries_of body) ≡ true
+
+pub record HasBadSteps (body : List ℕ) (fault : PageFault) : Type 0 where
+  pub cause : fault ≡ BadIndex Sizes
+  pub steps : steps_fit 0 (entries_of body) ≡ false
+
+abbrev pub BodyIs : List ℕ → ℕ → Result DynamicBody PageFault → Type 0
+BodyIs body count (Ok b) = IsDynamicBody body count b
+BodyIs body count (Err Failed) = Unit {0}
+BodyIs body count (Err NoMemory) = Unit {0}
+BodyIs body count (Err fault) = HasBadSteps body fault
+
+abbrev pub ReadsBody : {D : Type 0} → Ghosts D → D → List ℕ → ℕ → Result DynamicBody PageFault → Type 0
+ReadsBody d disk name count result =
+    d.honest disk → (text : List ℕ) → get (d.content disk) name ≡ Some text → length text ≡ header_len + count * 40
+    → BodyIs (drop header_len text) count result
+
+-- of a fixed one, in which no page tells a fault
+abbrev pub FixedBodyIs : List ℕ → ℕ → Result Body PageFault → Type 0
+FixedBodyIs body count (Ok b) = IsBody 32 count body b
+FixedBodyIs body count (Err Failed) = Unit {0}
+FixedBodyIs body count (Err NoMemory) = Unit {0}
+FixedBodyIs body count (Err fault) = ⊥
+
+abbrev pub ReadsFixedBody : {D : Type 0} → Ghosts D → D → List ℕ → ℕ → Result Body PageFault → Type 0
+ReadsFixedBody d disk name count result =
+    d.honest disk → (text : List ℕ) → get (d.content disk) name ≡ Some text → length text ≡ header_len + count * 32
+    → FixedBodyIs (drop header_len text) count result

@@ -1,0 +1,126 @@
+//! The pages of a dynamic index.
+
+ghost use Rattle.std.specs.Prelude.{◌≡◌, ◌<◌, ◌≤◌, [], length, IfOk, IsErrOf, IsTrue, OnErr, OnOk};
+ghost use Rattle.disk_trait.specs.Disk.{TicksOnce};
+ghost use Rattle.disk_trait.specs.Effects.{OnlyReads};
+ghost use Rattle.index_pages.specs.declared.fault.PageFault.TheVariants.{Failed as ReadFailed, NoMemory as NoRoom};
+ghost use Rattle.index_pages.specs.Paged.{ReadsPage, is_kept, page_count};
+ghost use Rattle.paged_indexes.specs.Dynamic.{CallsOnceAtMost, FindsChunk, OpensDynamic, size_by};
+
+use crate::reading::read_body;
+use crate::steps::{ended_in, page_with};
+use disk_trait::Disk;
+use index_pages::{Page, PageFault, Pages, count_in, read_head};
+use std::alloc::Global;
+use std::marker::Model;
+use store_files::IndexFault;
+
+// The bytes of an entry.
+pub const ENTRY_SIZE: usize = 40;
+
+const MAGIC: [u8; 8] = [28, 145, 78, 165, 25, 186, 179, 205];
+
+/// A dynamic index as contracts see it: where it stands and how many entries it has; of each page the SHA-256 that its
+/// opening read, and where its last piece ends.
+#[derive(Drop)]
+pub struct DynamicPages {
+    pages: Pages,
+    ends: Vec<u64>,
+}
+
+impl Model for DynamicPages {
+    ghost use Rattle.paged_indexes.specs.Dynamic.{DynamicPaged, HasEnds};
+
+    ghost Value = { DynamicPaged };
+
+    ghost view = { λ p. record { pages = p.pages; ends = p.ends.items } };
+
+    ghost invariant = { λ p. HasEnds (p.pages).count p.ends.items };
+}
+
+impl DynamicPages {
+    /// Reads the file at the name page by page. It is an index exactly where `DynamicView::open_on` takes its bytes as
+    /// one, and else the fault has that call's cause.
+    pub fn open_on<D: Disk>(
+        disk: &mut D,
+        alloc: Global,
+        name: &str,
+    ) -> Result<DynamicPages, PageFault>
+        ensures reads { OnlyReads D.Disk disk.old disk.new (IsErrOf result ReadFailed) }
+        ensures exact { OpensDynamic D.Disk disk.old name.now result }
+    {
+        let mut room = Page::new(alloc)?;
+        let head = read_head(disk, name, &mut room)?;
+        let count = count_in(&head, &MAGIC, ENTRY_SIZE)?;
+        let read = read_body(disk, alloc, name, count, &mut room)?;
+        if !head.has_csum(&read.body.csum) {
+            return Err(PageFault::BadIndex {
+                cause: IndexFault::Csum,
+            });
+        }
+        let pages = Pages::of(alloc, name, ENTRY_SIZE, count, read.body.sums)?;
+        Ok(DynamicPages {
+            pages,
+            ends: read.ends,
+        })
+    }
+
+    /// How many entries there are.
+    pub fn len(&self) -> u32
+        ensures { result ≡ self.now.pages.count }
+    {
+        self.pages.len()
+    }
+
+    /// How many pages there are.
+    pub fn page_count(&self) -> u32
+        ensures { result ≡ page_count self.now.pages.count }
+    {
+        self.pages.page_count()
+    }
+
+    /// The archive's size in bytes.
+    pub fn size(&self) -> u64
+        ensures { result ≡ size_by self.now.ends }
+    {
+        match self.ends.last() {
+            Some(end) => *end,
+            None => 0,
+        }
+    }
+
+    /// Reads a page. Its bytes are the file's at this moment, and have the SHA-256 that the opening kept. It takes no
+    /// memory.
+    pub fn page<D: Disk>(&self, disk: &mut D, i: u32, into: &mut Page) -> Result<(), PageFault>
+        requires { i < page_count self.now.pages.count }
+        ensures reads { OnlyReads D.Disk disk.old disk.new (IsErrOf result ReadFailed) }
+        ensures calls { TicksOnce D.honest D.calls disk.old disk.new }
+        ensures exact { ReadsPage D.Disk disk.old self.now.pages i into.new result }
+        // on any disk
+        ensures kept { OnOk result (IsTrue (is_kept self.now.pages i into.new)) }
+        ensures err { OnErr result (into.new ≡ []) }
+        ensures memory { IsErrOf result NoRoom → ⊥ }
+    {
+        self.pages.read(disk, i, into)
+    }
+
+    /// The piece that has the byte at an offset, or `None` where the archive ends at the offset or before it. Where each
+    /// page ends is in memory, so one page is read, into the room that is handed in. It takes no memory.
+    pub fn chunk_at<D: Disk>(
+        &self,
+        disk: &mut D,
+        room: &mut Page,
+        offset: u64,
+    ) -> Result<Option<u32>, PageFault>
+        ensures reads { OnlyReads D.Disk disk.old disk.new (IsErrOf result ReadFailed) }
+        ensures calls { CallsOnceAtMost D.Disk disk.old disk.new }
+        ensures exact { FindsChunk D.Disk disk.old self.now offset result }
+        ensures memory { IsErrOf result NoRoom → ⊥ }
+    {
+        let Some(i) = page_with(&self.ends, offset) else {
+            return Ok(None);
+        };
+        self.pages.read(disk, i as u32, room)?;
+        Ok(Some(i as u32 * 1024 + ended_in(room.as_slice(), offset)))
+    }
+}

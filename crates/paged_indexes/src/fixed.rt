@@ -1,0 +1,159 @@
+//! The pages of a fixed index.
+
+ghost use Rattle.std.specs.Prelude.{◌≡◌, ◌<◌, ◌≤◌, [], length, IfOk, IsErrOf, IsTrue, OnErr, OnOk};
+ghost use Rattle.disk_trait.specs.Disk.{TicksOnce};
+ghost use Rattle.disk_trait.specs.Effects.{OnlyReads};
+ghost use Rattle.index_pages.specs.declared.fault.PageFault.TheVariants.{Failed as ReadFailed, NoMemory as NoRoom};
+ghost use Rattle.index_pages.specs.Paged.{ReadsPage, is_kept, page_count};
+ghost use Rattle.paged_indexes.specs.Fixed.{OpensFixed, chunk_in, sizes_agree};
+ghost use Rattle.paged_indexes.specs.Reading.{ReadsFixedBody};
+
+use disk_trait::Disk;
+use fixed_index::{is_chunk_size, piece_count};
+use index_pages::{Body, Opening, Page, PageFault, Pages, count_in, pages_in, read_head};
+use std::alloc::Global;
+use std::marker::Model;
+use store_files::IndexFault;
+
+// The bytes of an entry.
+const ENTRY_SIZE: usize = 32;
+
+const MAGIC: [u8; 8] = [47, 127, 65, 237, 145, 253, 15, 205];
+
+/// A fixed index as contracts see it: where it stands and how many entries it has, the archive's size and the length of
+/// each piece but the last; of each page the SHA-256 that its opening read.
+#[derive(Drop)]
+pub struct FixedPages {
+    pages: Pages,
+    size: u64,
+    chunk_size: u64,
+}
+
+impl Model for FixedPages {
+    ghost use Rattle.paged_indexes.specs.Fixed.{FixedPaged, HasSizes};
+
+    ghost Value = { FixedPaged };
+
+    ghost view = { λ p. record { pages = p.pages; size = p.size; chunk_size = p.chunk_size } };
+
+    ghost invariant = { λ p. HasSizes (p.pages).count p.size p.chunk_size };
+}
+
+impl FixedPages {
+    /// Reads the file at the name page by page. It is an index exactly where `FixedView::open_on` takes its bytes as one,
+    /// and else the fault has that call's cause.
+    pub fn open_on<D: Disk>(
+        disk: &mut D,
+        alloc: Global,
+        name: &str,
+    ) -> Result<FixedPages, PageFault>
+        ensures reads { OnlyReads D.Disk disk.old disk.new (IsErrOf result ReadFailed) }
+        ensures exact { OpensFixed D.Disk disk.old name.now result }
+    {
+        let mut room = Page::new(alloc)?;
+        let head = read_head(disk, name, &mut room)?;
+        let count = count_in(&head, &MAGIC, ENTRY_SIZE)?;
+        let size = head.number_at(64);
+        let chunk_size = head.number_at(72);
+        if !has_sizes(size, chunk_size, count) {
+            return Err(PageFault::BadIndex {
+                cause: IndexFault::Sizes,
+            });
+        }
+        let body = read_body(disk, alloc, name, count, &mut room)?;
+        if !head.has_csum(&body.csum) {
+            return Err(PageFault::BadIndex {
+                cause: IndexFault::Csum,
+            });
+        }
+        let pages = Pages::of(alloc, name, ENTRY_SIZE, count, body.sums)?;
+        Ok(FixedPages {
+            pages,
+            size,
+            chunk_size,
+        })
+    }
+
+    /// How many entries there are.
+    pub fn len(&self) -> u32
+        ensures { result ≡ self.now.pages.count }
+    {
+        self.pages.len()
+    }
+
+    /// How many pages there are.
+    pub fn page_count(&self) -> u32
+        ensures { result ≡ page_count self.now.pages.count }
+    {
+        self.pages.page_count()
+    }
+
+    /// The archive's size in bytes.
+    pub fn size(&self) -> u64
+        ensures { result ≡ self.now.size }
+    {
+        self.size
+    }
+
+    /// The bytes of each piece but the last.
+    pub fn chunk_size(&self) -> u64
+        ensures { result ≡ self.now.chunk_size }
+    {
+        self.chunk_size
+    }
+
+    /// Reads a page. Its bytes are the file's at this moment, and have the SHA-256 that the opening kept. It takes no
+    /// memory.
+    pub fn page<D: Disk>(&self, disk: &mut D, i: u32, into: &mut Page) -> Result<(), PageFault>
+        requires { i < page_count self.now.pages.count }
+        ensures reads { OnlyReads D.Disk disk.old disk.new (IsErrOf result ReadFailed) }
+        ensures calls { TicksOnce D.honest D.calls disk.old disk.new }
+        ensures exact { ReadsPage D.Disk disk.old self.now.pages i into.new result }
+        // on any disk
+        ensures kept { OnOk result (IsTrue (is_kept self.now.pages i into.new)) }
+        ensures err { OnErr result (into.new ≡ []) }
+        ensures memory { IsErrOf result NoRoom → ⊥ }
+    {
+        self.pages.read(disk, i, into)
+    }
+
+    /// The piece that has the byte at an offset, or `None` where the archive ends at the offset or before it. No page is
+    /// read for it.
+    pub fn chunk_at(&self, offset: u64) -> Option<u32>
+        ensures { result ≡ chunk_in self.now offset }
+    {
+        if self.size <= offset {
+            return None;
+        }
+        Some((offset / self.chunk_size) as u32)
+    }
+}
+
+/// Whether the chunk size is allowed, and the size makes so many pieces.
+fn has_sizes(size: u64, chunk_size: u64, count: u32) -> bool
+    ensures { result ≡ sizes_agree size chunk_size count }
+{
+    is_chunk_size(chunk_size) && u64::from(count) == piece_count(size, chunk_size)
+}
+
+/// Reads all pages.
+fn read_body<D: Disk>(
+    disk: &mut D,
+    alloc: Global,
+    name: &str,
+    count: u32,
+    room: &mut Page,
+) -> Result<Body, PageFault>
+    requires { count ≤ 1_048_576 }
+    ensures reads { OnlyReads D.Disk disk.old disk.new (IsErrOf result ReadFailed) }
+    ensures exact { ReadsFixedBody D.Disk disk.old name.now count result }
+    // on any disk
+    ensures sums { IfOk result (λ b. length b.sums.items ≡ page_count count) }
+{
+    let pages = pages_in(count);
+    let mut opening = Opening::begin(alloc, pages)?;
+    for i in 0..pages {
+        opening.take(disk, name, ENTRY_SIZE, count, i, room)?;
+    }
+    Ok(opening.close())
+}

@@ -1,0 +1,21 @@
+//! What holds of indexes that are read page by page.
+
+ghost use Rattle.paged_indexes.specs.Laws.{DynamicChunksAreFound, DynamicPagesAreOfTheView, DynamicStays, FixedChunksAreFound, FixedPagesAreOfTheView, FixedStays};
+
+/// There are as many entries as in the view, and a page's entries are the view's at its place.
+pub fn a_page_is_of_the_view()
+    ensures dynamic { DynamicPagesAreOfTheView }
+    ensures fixed { FixedPagesAreOfTheView }
+{}
+
+/// A file that is as it was opened gives each of its pages.
+pub fn what_stays_is_given()
+    ensures dynamic { DynamicStays }
+    ensures fixed { FixedStays }
+{}
+
+/// The chunk at an offset is the one that has the byte there, and there is none exactly from the archive's size on.
+pub fn a_chunk_is_found_by_its_bytes()
+    ensures dynamic { DynamicChunksAreFound }
+    ensures fixed { FixedChunksAreFound }
+{}
