@@ -2,6 +2,8 @@
 from session import *
 
 ARCHIVE = "root.didx"
+# The reading of the clock, which stands.
+STILL = 1_600_000_000
 
 
 def after(number):
@@ -56,6 +58,36 @@ def commands(lane):
 def generated(lane):
     """The input of a lane."""
     return frames(*commands(lane))
+
+
+def index_of(lane, place):
+    return dynamic_index(snapshot_of(lane, place), ARCHIVE, STILL, pieces_of(lane, place))
+
+
+def replies_to(lane):
+    """What a lane but lane 0 is told on an empty datastore."""
+    told = []
+    for place in range(4):
+        told += [base(snapshot_of(lane, place - 1)), part(index_of(lane, place - 1))] if place else [base()]
+        told += [number(0)] + [done()] * (36 if place else 68)
+    told += [verified(2, 64, sum(map(len, pieces_of(lane, 3)))), done()]
+    return frames(*told, marks(*((snapshot_of(lane, place), place > 1) for place in (3, 2, 1))), done())
+
+
+def later_replies_to(lane):
+    """What it is told where the same sessions were served before: no snapshot is newer."""
+    told = [
+        not_newer(snapshot_of(lane, 3)) if command == open_writer(snapshot_of(lane, place)) else wrong_state(0)
+        for place in range(4)
+        for command in backup(lane, place)
+    ]
+    told += [verified(2, 64, sum(map(len, pieces_of(lane, 3)))), no_snapshot()]
+    return frames(*told, marks(*((snapshot_of(lane, place), 1) for place in (3, 2))), done())
+
+
+def kept(lanes):
+    """The snapshots that are there then, with the numbers of their files."""
+    return [(snapshot_of(lane, place), 2) for lane in range(1, lanes + 1) for place in (2, 3)]
 
 
 def lane_line(lane, replies):

@@ -1,6 +1,7 @@
 """Sessions that want memory or whose ports fail, and long and large ones, by `serve`, and sessions on lanes, alone and at once: commands, and
 the replies that each must get."""
 from session import *
+from tables import generated
 from tables.common import *
 
 # The blob of 4 MiB, and one of a byte more.
@@ -84,6 +85,10 @@ def conf_backed_up(snapshot):
 B_SENT, B_TOLD = talk((open_writer(B), base()), (put("a.conf.blob", b"123456789"), done()))
 
 TABLES = {
+    "server_tests/src/serving/generated.rt": {
+        "SUMMARY": [generated.summary([b"", *map(generated.replies_to, range(1, 5))], generated.kept(4))],
+        "SUMMARIES": [generated.summary([b"", told(1)], generated.kept(1)) for told in (generated.replies_to, generated.later_replies_to)],
+    },
     "server_tests/src/at_once.rt": {
         "UPLOAD": [SENT],
         "UPLOADED": [TOLD],

@@ -1,6 +1,7 @@
 pub mod Tests
 pub mod Remotes
 pub mod Lanes
+pub mod Rows
 pub mod Woven
 pub mod Statuses
 pub mod Endings
@@ -13,5 +14,10 @@ pub mod Broken
 pub mod Changes
 pub mod Orderly
 pub mod Acknowledged
+pub mod Counted
 pub mod Words
 pub mod Journal
+pub mod Unserved
+pub mod Generated
+pub mod Remembered
+pub mod Summed

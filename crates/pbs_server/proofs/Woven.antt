@@ -1,7 +1,7 @@
 -- Sessions that were served are answered as by the plain store.
 use Rattle.disk_trait.specs.declared.disk.Disk.{Ghosts}
 use Rattle.disk_trait.specs.declared.disk.DiskError.{DiskError}
-use Rattle.std.proofs.Common.{◌≡◌, ◌≤◌, ◌↔◌, ℕ, zero, suc, true, false, ◌==◌, ◌⊎◌, inl, inr, List, [], ◌∷◌, ◌++◌, map, length, Option, Some, None, is_some, IfSome, IsSome, IsTrue, Ok, OnOk, refl, sym, ap, subst, ◌∙◌, arith}
+use Rattle.std.proofs.Common.{◌≡◌, ◌≤◌, ◌↔◌, ℕ, zero, suc, true, false, ◌==◌, ◌⊎◌, inl, inr, List, [], ◌∷◌, ◌++◌, map, length, Option, Some, None, is_some, IfSome, IsSome, IsTrue, Result, Ok, OnOk, refl, sym, ap, subst, ◌∙◌, arith}
 use Rattle.std.specs.FinMap.{get}
 use Rattle.port_traits.specs.declared.sink.Sink as sinks
 use Rattle.port_traits.specs.declared.source.Source as sources
@@ -16,7 +16,9 @@ use Rattle.store_files.specs.Folder.{IsDigest, chunk_name}
 use Rattle.store_model.specs.Clash.{NoClash, chunk_pieces}
 use Rattle.store_model.specs.Load.{load}
 use Rattle.store_model.specs.Stands.{StandsFor as Stands}
-use Rattle.store_model.specs.Weave.{weave}
+use Rattle.store_model.specs.AdminSteps.{list_row}
+use Rattle.store_model.specs.Store.{Store}
+use Rattle.store_model.specs.Weave.{Woven, weave}
 use Rattle.store_history.specs.declared.act.Event.{Event}
 use Rattle.store_history.specs.History.{Opening, World, opened, after, after_all, moved, entries, sent, kind, kind_of, EntryKind, step_kind, pass_kind, short_kind, start_kind, close_kind, fault_kind, end_kind, remote_kind, no_kind}
 use Rattle.store_history.specs.LaneRun.{plain_text}
@@ -28,6 +30,7 @@ use Rattle.store_history.specs.Sweeping.{swept}
 use Rattle.store_history.specs.Woven.{AreLanes}
 use Rattle.store_files.specs.Order.{keeps_rules}
 use Rattle.snapshot_files.proofs.Loading.{loaded}
+use Rattle.core_state.specs.declared.kept.Listed.{Listed}
 use Rattle.core_state.specs.declared.state.Core.{Core}
 use Rattle.core_state.specs.History.{History, StandsFor, began, world}
 use Rattle.core_state.specs.KeepsTouches.{KeepsTouches, touches_of_history}
@@ -44,12 +47,14 @@ use Rattle.lane.specs.declared.port.Port.{Port}
 use Rattle.lane.specs.Entries.{has_kind}
 use Rattle.lane_threads.specs.Served.{EachRan, RanAs, Run}
 use Rattle.pbs_server.specs.Causes.{NoDiskFault}
+use Rattle.pbs_server.specs.Ended.{rows_of}
 use Rattle.pbs_server.specs.Headline.{HasTold, IsBeside, IsPlain, StopsLeave, inputs_of, told_by}
 use Rattle.pbs_server.specs.Saving.{EndsSaved, saving_of}
 use Rattle.pbs_server.specs.Statuses.{endings_of}
 use Rattle.pbs_server.proofs.Acknowledged.{found_after}
 use Rattle.pbs_server.proofs.Lanes.{are_served, inputs_count, run_at}
 use Rattle.pbs_server.proofs.Remotes.{beside_first, beside_list, beside_there, list_keys}
+use Rattle.pbs_server.proofs.Rows.{rows_shown}
 use Rattle.pbs_server.proofs.Rules.{kept_rules}
 use Rattle.pbs_server.proofs.Tests.{neither}
 use Rattle.pbs_server.proofs.BookSaved.{five_fails, halted_by, saving_failed}
@@ -142,9 +147,22 @@ began_at d readings core o R clock s = s.last
 le_more : (a b c : ℕ) → a ≤ b → b ≤ c → a ≤ c
 le_more a b c first then = omega (arith, first, then)
 
--- what the sessions did on any disk, and on an honest one, which was opened at a moment
+-- ---- the last store
+
+woven_is : {E : Type 0} (r : Result Woven E) (v w : Woven) → r ≡ Ok v → r ≡ Ok w → v ≡ w
+woven_is r v w a b = let both : Ok v ≡ Ok w = sym a ∙ b in cc
+
+-- the plain store's answers give one
+same_store : (o : Opening) (R : Option (List Snapshot)) (since now : ℕ) (is_honest : Type 0) (runs : List Run) (events : List Event) (order : List Entry) (not_saved : Option DiskError) (reports : List LaneReport) (before files : Files)
+    (p : IsPlain o R since now is_honest runs events order not_saved reports before files) (s : Store)
+    → weave (load before) R order (inputs_of runs) (endings_of reports) ≡ Ok (record { store = s; replies = map plain_text (told_by runs) }) → s ≡ p.store
+same_store o R since now is_honest runs events order not_saved reports before files p s is =
+    ap (λ (w : Woven). w.store) (woven_is (weave (load before) R order (inputs_of runs) (endings_of reports)) (record { store = s; replies = map plain_text (told_by runs) })
+    (record { store = p.store; replies = map plain_text (told_by runs) }) is p.woven)
+
+-- what the sessions did on any disk, and on an honest one, which was opened at a moment; and the snapshots that the core then keeps
 pub record HasBoth {D E S K : Type 0} (d : Ghosts D) (e : Ghosts E) (source : sources.Ghosts S) (sink : sinks.Ghosts K) (clock : Option Readings) (remote remote' : Option E) (start : ℕ) (disk opened last : D)
-    (old new : List (Port S K)) (order : List Entry) (calls : List ℕ) (not_saved : Option DiskError) (reports : List LaneReport) : Type 0 where
+    (old new : List (Port S K)) (order : List Entry) (calls : List ℕ) (not_saved : Option DiskError) (reports : List LaneReport) (listed : List Listed) : Type 0 where
   pub told : HasTold clock source sink old new order calls reports
   pub since_is : d.honest disk → told.since ≡ (saved_book (d.content opened)).moment
   pub halted : has_kind 5 order ≡ true → not_saved ≡ None
@@ -153,6 +171,9 @@ pub record HasBoth {D E S K : Type 0} (d : Ghosts D) (e : Ghosts E) (source : so
   pub stops : (L : List Snapshot) (R : Option (List Snapshot)) → IsBeside e remote R told.events → d.honest disk → Stands (d.content disk) L → NoClash (chunk_pieces (d.content disk) ++ sent told.events)
       → StopsLeave d start last R (opening_of d disk opened L) told.events
   pub unread : ReadNoRemote told.events → remote' ≡ remote
+  pub rows : (L : List Snapshot) (R : Option (List Snapshot)) → IsBeside e remote R told.events → d.honest disk → Stands (d.content disk) L → NoClash (chunk_pieces (d.content disk) ++ sent told.events)
+      → (p : IsPlain (opening_of d disk opened L) R told.since (d.calls last) (d.honest last) told.runs told.events order not_saved reports (d.content disk) (d.content last))
+      → rows_of listed ≡ map list_row (p.store).snapshots
 
 pub has_both : {D E C S K : Type 0} (d : Ghosts D) (e : Ghosts E) (source : sources.Ghosts S) (sink : sinks.Ghosts K) (readings : C → Option Readings) (clock : C) (disk : D) (remote : Option E) (first core saved : Core D E C)
     (old new : List (Port S K)) (order : List Entry) (calls : List ℕ) (not_saved : Option DiskError) (reports : List LaneReport) (runs : List Run) (events : List Event) (last : D)
@@ -163,7 +184,7 @@ pub has_both : {D E C S K : Type 0} (d : Ghosts D) (e : Ghosts E) (source : sour
     → AreLanes (length old) events → EachRan (RanAs source sink) 0 old new reports runs events
     → EndsSaved d core saved not_saved
     → order ≡ (saved.journal).entries.items → calls ≡ (saved.journal).calls.items → last ≡ (saved.parts).disk
-    → HasBoth d e source sink (readings clock) remote core.remote (recovers.opens).start disk (first.parts).disk last old new order calls not_saved reports
+    → HasBoth d e source sink (readings clock) remote core.remote (recovers.opens).start disk (first.parts).disk last old new order calls not_saved reports (saved.parts).catalogue.listed
 has_both d e source sink readings clock disk remote first core saved old new order calls not_saved reports runs events last moments handed opens touches recovers last_is booked cleaned reaches lanes each ends order_as calls_as disk_as = record {
   told = record {
     runs = runs;
@@ -204,6 +225,16 @@ has_both d e source sink readings clock disk remote first core saved old new ord
       let found = after.each t c from (subst (λ x. d.images x t c) disk_as image) in
       (found.0, found.1, found_after R (opening L) events t found.0 stands.order ended.legal found.2));
   unread = λ none. reaches.alone (subst ReadNoRemote reaches.behind none) ∙ handed;
+  rows = λ L R beside honest stands clear p.
+      let there = ap is_some handed ∙ beside_there e remote R events beside in
+      let at = last_at L R there honest stands in
+      let shows = beside_first e remote first.remote R events reaches.since handed reaches.behind beside in
+      let s = reaches.stands L R (begins L R at there honest stands) shows clear in
+      let is = woven L R (beside_list e remote R events beside) (list_keys (d.content disk) L stands) (loaded (d.content disk) L stands) s in
+      ap (λ x. rows_of (x.parts).catalogue.listed) ends.rest
+      ∙ rows_shown (core.parts).catalogue.listed (world (history L R)).store (s.shows).catalogue ((s.shows).sound).each
+      ∙ ap (λ (t : Store). map list_row t.snapshots)
+      (same_store (opening_of d disk (first.parts).disk L) R first.last (d.calls last) (d.honest last) runs events order not_saved reports (d.content disk) (d.content last) p (world (history L R)).store is);
 }
   where
     opening : List Snapshot → Opening
@@ -255,18 +286,25 @@ has_both d e source sink readings clock disk remote first core saved old new ord
         → KeepsTouches d saved (history L R)
     minded_later L R s m unfailed = (ends.history).touches readings (λ is. unfailed.saving (saving_failed not_saved is)) (history L R) s m
 
+    -- the plain store's answers
+    woven : (L : List Snapshot) (R : Option (List Snapshot)) → IsRemote R → All (λ x. IsKey x.key) L → load (d.content disk) ≡ L → StandsFor d readings core (history L R)
+        → weave (load (d.content disk)) R order (inputs_of runs) (endings_of reports) ≡ Ok (record { store = (world (history L R)).store; replies = map plain_text (told_by runs) })
+    woven L R beside keys loads s =
+        let w = (world (history L R)).store in
+        let served = are_served source sink old new reports runs events each (opening L) R beside keys s.legal lanes in
+        subst (λ xs. weave xs R order (inputs_of runs) (endings_of reports) ≡ Ok (record { store = w; replies = map plain_text (told_by runs) })) (sym loads)
+        (subst (λ es. weave L R es (inputs_of runs) (endings_of reports) ≡ Ok (record { store = w; replies = map plain_text (told_by runs) })) (sym order_is)
+        (served_woven (opening L) R events (inputs_of runs) (endings_of reports) (told_by runs) served))
+
     plain : (L : List Snapshot) (R : Option (List Snapshot)) → first.last ≡ (saved_book (d.content disk)).moment → IsRemote R → All (λ x. IsKey x.key) L → load (d.content disk) ≡ L
         → StandsFor d readings core (history L R) → KeepsTouches d core (history L R)
         → (core.fault ≡ None → (q : List ℕ) → IsForeign q → get (d.content (core.parts).disk) q ≡ get (d.content disk) q)
         → IsPlain (opening L) R first.last (d.calls last) (d.honest last) runs events order not_saved reports (d.content disk) (d.content last)
     plain L R at beside keys loads s m foreign =
         let h = history L R in
-        let served = are_served source sink old new reports runs events each (opening L) R beside keys s.legal lanes in
         record {
           store = (world h).store;
-          woven = subst (λ xs. weave xs R order (inputs_of runs) (endings_of reports) ≡ Ok (record { store = (world h).store; replies = map plain_text (told_by runs) })) (sym loads)
-              (subst (λ es. weave L R es (inputs_of runs) (endings_of reports) ≡ Ok (record { store = (world h).store; replies = map plain_text (told_by runs) })) (sym order_is)
-              (served_woven (opening L) R events (inputs_of runs) (endings_of reports) (told_by runs) served));
+          woven = woven L R beside keys loads s;
           legal = s.legal;
           collected = record {
             is_swept = m.is_swept;

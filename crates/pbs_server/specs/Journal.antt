@@ -4,15 +4,14 @@ use Rattle.std.specs.declared.alloc.Global.{Global}
 use Rattle.port_traits.specs.declared.sink.Sink as sinks
 use Rattle.port_traits.specs.Bytes.{Writes}
 use Rattle.port_traits.specs.Faults.{Rose}
-use Rattle.store_types.specs.declared.order.Entry.{Entry}
 use Rattle.store_files.specs.Order.{order_text}
 use Rattle.pbs_server.specs.declared.served.Served.{Served}
 use Rattle.pbs_server.specs.Statuses.{beside_sink}
 use Rattle.pbs_server.specs.Words.{AsksOrder, IsUnread}
 
--- the order's text, whole unless the journal failed, which is said only where its count of faults rose
-pub record TakesOrder {J : Type 0} (sink : sinks.Ghosts J) (old new : J) (order : List Entry) (failed : Bool) : Type 0 where
-  pub text : Writes (sink.taken old) (sink.taken new) (order_text order) (not failed)
+-- a text, whole unless the journal failed, which is said only where its count of faults rose
+pub record TakesText {J : Type 0} (sink : sinks.Ghosts J) (old new : J) (text : List ℕ) (failed : Bool) : Type 0 where
+  pub bytes : Writes (sink.taken old) (sink.taken new) text (not failed)
   pub cause : failed ≡ true → Rose (sink.faults old) (sink.faults new)
   pub later : sink.faults old ≤ sink.faults new
 
@@ -24,5 +23,5 @@ told_with true served = record served { status = beside_sink served.status; repo
 -- It takes the order's text where the words ask for it, unless memory was wanting to read them, and else it is as it was.
 abbrev pub TellsOrder : {D E J : Type 0} → sinks.Ghosts J → List (String Global) → ℕ → J → J → Served D E → Type 0
 TellsOrder sink words ports old new result =
-    (AsksOrder words ports × TakesOrder sink old new (result.order).items (result.report).journal_failed)
+    (AsksOrder words ports × TakesText sink old new (order_text (result.order).items) (result.report).journal_failed)
     ⊎ ((AsksOrder words ports → IsUnread result) × (new ≡ old) × ((result.report).journal_failed ≡ false))

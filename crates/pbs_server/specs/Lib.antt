@@ -5,4 +5,7 @@ pub mod Causes
 pub mod Collections
 pub mod Headline
 pub mod Journal
+pub mod Ended
+pub mod Generating
+pub mod Asking
 pub mod Acknowledged

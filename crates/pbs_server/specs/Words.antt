@@ -1,8 +1,10 @@
 -- What the words ask for.
 use Rattle.std.specs.Prelude.{◌≡◌, ◌<◌, ◌≤◌, ◌⊎◌, ℕ, Bool, true, List, [], length, Option, Some, None, is_some, Result, Ok, Err, String}
 use Rattle.std.specs.declared.alloc.Global.{Global}
-use Rattle.command_line.specs.Reading.{reading, run, texts}
+use Rattle.command_line.specs.Reading.{generate, reading, run, texts}
 use Rattle.store_model.specs.Store.{lane_count}
+use Rattle.pbs_server.specs.declared.asking.Asked.{Asked}
+use Rattle.pbs_server.specs.declared.asking.Asked.TheVariants.{Run, Gen}
 use Rattle.pbs_server.specs.declared.served.Served.{Served}
 use Rattle.pbs_server.specs.declared.status.Status.{Status}
 use Rattle.pbs_server.specs.declared.status.Status.TheVariants as statuses
@@ -20,19 +22,34 @@ pub record AsksRun (words : List (List ℕ)) (ports : ℕ) (with_order : Bool) :
 abbrev pub IsAsked : List (List ℕ) → ℕ → Type 0
 IsAsked words ports = (with_order : Bool) × AsksRun words ports with_order
 
--- whether the order is asked for, of a run that there are lanes for; or why no session is served
-abbrev pub Answers : List (List ℕ) → ℕ → Result Bool Status → Type 0
-Answers words ports (Ok with_order) = AsksRun words ports with_order × (ports ≤ lane_count)
-Answers words ports (Err statuses.Usage) = IsAsked words ports → ⊥
+-- they are those that ask for made sessions, those of lanes 0 to n, and there are no ports
+pub record AsksMade (words : List (List ℕ)) (ports n : ℕ) : Type 0 where
+  pub root : List ℕ
+  pub says : reading words ≡ Some (generate root n)
+  pub fits : 0 ≡ ports
+
+abbrev pub IsMade : List (List ℕ) → ℕ → Type 0
+IsMade words ports = (n : ℕ) × AsksMade words ports n
+
+-- from 1 to 63
+abbrev pub IsCount : ℕ → Type 0
+IsCount n = (1 ≤ n) × (n ≤ 63)
+
+-- what is asked for: a run that there are lanes for, with its order or without, or made sessions; or why no session is served
+abbrev pub Answers : List (List ℕ) → ℕ → Result Asked Status → Type 0
+Answers words ports (Ok (Run with_order)) = AsksRun words ports with_order × (ports ≤ lane_count)
+Answers words ports (Ok (Gen n)) = AsksMade words ports n × IsCount n
+Answers words ports (Err statuses.Usage) = IsAsked words ports ⊎ IsMade words ports → ⊥
 Answers words ports (Err statuses.TooManyLanes) = IsAsked words ports × (lane_count < ports)
 Answers words ports (Err statuses.NoMemory) = Unit {0}
 Answers words ports (Err other) = ⊥
 
 -- ---- of a call
 
--- they ask for no run of as many sessions as there are ports: also where they have no reading, or ask for another command
+-- they ask neither for a run of as many sessions as there are ports, nor, where there are none, for made sessions: also where they have no
+-- reading, or ask for another command
 abbrev pub IsMisused : List (String Global) → ℕ → Type 0
-IsMisused words ports = IsAsked (texts words) ports → ⊥
+IsMisused words ports = IsAsked (texts words) ports ⊎ IsMade (texts words) ports → ⊥
 
 -- they ask for one, of more sessions than there are lanes
 abbrev pub AsksTooMany : List (String Global) → ℕ → Type 0

@@ -2,12 +2,15 @@
 #![tactic(auto)]
 
 mod asking;
+mod ended;
+mod generating;
 pub mod laws;
 mod run;
 mod saving;
 mod served;
 mod serving;
 mod status;
+mod summing;
 mod telling;
 
 pub use command_line::{Plan, WordFault, plan_words};

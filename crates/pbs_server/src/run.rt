@@ -1,15 +1,16 @@
 //! A run of the sessions that were handed in.
 
-ghost use Rattle.std.specs.Prelude.{◌≡◌, ◌≤◌, ◌+◌, ◌++◌, [], None, Some, false, length, vec_capacity, vec_len};
+ghost use Rattle.std.specs.Prelude.{◌≡◌, ◌≤◌, ◌+◌, ◌++◌, [], None, Some, false, length, vec_capacity, vec_len, IfOk, IfErr};
+ghost use Rattle.pbs_server.specs.Ended.{HasEnded, NoneServed};
 ghost use Rattle.pbs_server.specs.Headline.{AsksNone, Leaves};
-ghost use Rattle.pbs_server.specs.Statuses.{endings_of, first_of, run_facts};
 
+use crate::ended::Ended;
 use crate::saving::save;
 use crate::served::{RunReport, Served};
-use crate::status::{Status, by_opening, status_of};
+use crate::status::{Status, by_opening};
 use core_opening::{NotOpened, OpenFault, open_on};
 use core_state::{Core, CoreParts};
-use disk_trait::{Disk, DiskError};
+use disk_trait::Disk;
 use lane::{LaneReport, Port};
 use lane_threads::serve_all;
 use port_traits::{Clock, Gate, Sink, Source};
@@ -53,49 +54,6 @@ pub fn not_served<D, E>(
     }
 }
 
-/// What the core was made of, with its order.
-fn handed_back<D, E, C: Drop>(
-    core: Core<D, E, C>,
-    lanes: Vec<LaneReport>,
-    not_saved: Option<DiskError>,
-) -> Served<D, E>
-    ensures status { result.status
-        ≡ first_of (run_facts core.journal.entries.items (endings_of lanes.items) not_saved false) }
-    ensures order { result.order ≡ core.journal.entries }
-    ensures lanes { result.report.lanes ≡ lanes }
-    ensures calls { result.report.calls ≡ core.journal.calls }
-    ensures not_opened { result.report.not_opened ≡ None }
-    ensures not_saved { result.report.not_saved ≡ not_saved }
-    ensures journal { result.report.journal_failed ≡ false }
-    ensures unequal { result.report.unequal ≡ None }
-    ensures disk { result.disk ≡ core.parts.disk }
-    ensures remote { result.remote ≡ core.remote }
-{
-    let parts = core.parts();
-    let status = status_of(&parts.order, &lanes, not_saved);
-    let CoreParts {
-        disk,
-        remote,
-        order,
-        calls,
-        ..
-    } = parts;
-    Served {
-        status,
-        order,
-        report: RunReport {
-            lanes,
-            calls,
-            not_opened: None,
-            not_saved,
-            journal_failed: false,
-            unequal: None,
-        },
-        disk,
-        remote,
-    }
-}
-
 /// No lane was served, since there was no memory for a turn.
 fn not_turned<D, E, C: Drop>(alloc: Global, core: Core<D, E, C>) -> Served<D, E>
     ensures status { result.status ≡ Status.NoMemory }
@@ -124,8 +82,61 @@ fn push_all(lanes: &mut Vec<LaneReport>, reports: &[LaneReport])
     };
 }
 
-/// Opens the datastore, serves the sessions on it, all at once, and saves the book of touches.
-pub fn serve_sessions<
+/// Opens the datastore, serves the sessions of the ports on it, all at once, and saves the book of touches. Else no session was
+/// served.
+pub fn run_ports<
+    R: Threads + Wait + Sync,
+    D: Disk + Send,
+    E: Disk + Send,
+    C: Clock + Drop + Send,
+    S: Source + Send,
+    K: Sink + Send,
+    G: Gate + Sync,
+>(
+    rt: &R,
+    alloc: Global,
+    ports: &mut [Port<S, K>],
+    disk: D,
+    remote: Option<E>,
+    clock: C,
+    gate: &G,
+) -> Result<Ended<D, E, C>, Served<D, E>>
+    requires some { 1 ≤ length ports.old }
+    requires few { length ports.old ≤ 64 }
+    ensures ended { IfOk result
+        (HasEnded D.Disk E.Disk S.Source K.Sink (C.readings clock) disk remote ports.old ports.new) }
+    ensures none { IfErr result (NoneServed D.Disk disk remote ports.old ports.new) }
+{
+    let Ok(mut lanes) = Vec::with_capacity(alloc, ports.len()) else {
+        return Err(not_served(alloc, Status::NoMemory, None, disk, remote));
+    };
+    match open_on(alloc, disk, remote, clock) {
+        Ok(core) => match serve_all::<R, D, E, C, S, K, G, Brand>(rt, alloc, core, ports, gate) {
+            Ok((mut core, reports)) => {
+                push_all(&mut lanes, reports.as_slice());
+                let not_saved = save(&mut core, alloc);
+                Ok(Ended {
+                    core,
+                    lanes,
+                    not_saved,
+                })
+            }
+            Err(core) => Err(not_turned(alloc, core)),
+        },
+        Err(not_opened) => {
+            let NotOpened {
+                cause,
+                disk,
+                remote,
+                ..
+            } = not_opened;
+            Err(not_served(alloc, by_opening(cause), Some(cause), disk, remote))
+        }
+    }
+}
+
+/// Serves the sessions of the ports, and hands back what was handed in.
+pub fn serve_ports<
     R: Threads + Wait + Sync,
     D: Disk + Send,
     E: Disk + Send,
@@ -150,26 +161,8 @@ pub fn serve_sessions<
     ensures journal { result.report.journal_failed ≡ false }
     ensures unequal { result.report.unequal ≡ None }
 {
-    let Ok(mut lanes) = Vec::with_capacity(alloc, ports.len()) else {
-        return not_served(alloc, Status::NoMemory, None, disk, remote);
-    };
-    match open_on(alloc, disk, remote, clock) {
-        Ok(core) => match serve_all::<R, D, E, C, S, K, G, Brand>(rt, alloc, core, ports, gate) {
-            Ok((mut core, reports)) => {
-                push_all(&mut lanes, reports.as_slice());
-                let not_saved = save(&mut core, alloc);
-                handed_back(core, lanes, not_saved)
-            }
-            Err(core) => not_turned(alloc, core),
-        },
-        Err(not_opened) => {
-            let NotOpened {
-                cause,
-                disk,
-                remote,
-                ..
-            } = not_opened;
-            not_served(alloc, by_opening(cause), Some(cause), disk, remote)
-        }
+    match run_ports(rt, alloc, ports, disk, remote, clock, gate) {
+        Ok(ended) => ended.handed_back(),
+        Err(served) => served,
     }
 }

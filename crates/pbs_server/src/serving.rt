@@ -1,12 +1,12 @@
 //! The program's call.
 
 ghost use Rattle.std.specs.Prelude.{◌≡◌, None, length};
-ghost use Rattle.pbs_server.specs.Headline.{Leaves};
-ghost use Rattle.pbs_server.specs.Journal.{TellsOrder};
+ghost use Rattle.pbs_server.specs.Asking.{LeavesBy};
 ghost use Rattle.pbs_server.specs.Words.{AsksTooMany, IsMisused, TellsJust};
 
-use crate::asking::asks_order;
-use crate::run::{not_served, serve_sessions};
+use crate::asking::{Asked, read_words};
+use crate::generating::serve_generated;
+use crate::run::{not_served, serve_ports};
 use crate::served::Served;
 use crate::status::Status;
 use crate::telling::tell_order;
@@ -21,8 +21,13 @@ use std::thread::Threads;
 /// each on a lane and a thread of its own, beside the remote, if one is handed in: the words do not say whether there is one. A
 /// port is a session's source, and the sink of its replies; there is one for each session, in the words' order. As the sessions
 /// that were served have ended, the book of touches is saved, unless the disk failed. With `--order` the order's text is then
-/// written to the journal; without it nothing is. The disk and the remote are handed back in every case. Other words, also those
-/// that `plan_words` reads, are [`Usage`](Status::Usage). `rt` has the threads of the lanes, and of those that hash a VERIFY's
+/// written to the journal; without it nothing is.
+///
+/// `gen ROOT N` takes no ports: the program makes the sessions of lanes 0 to N, and serves them so with a clock that stands at
+/// 1,600,000,000. Where all is well the journal takes their summary. A sink of its own that cannot grow is want of memory.
+///
+/// The disk and the remote are handed back in every case. Other words, also those that `plan_words` reads, are
+/// [`Usage`](Status::Usage). `rt` has the threads of the lanes, and of those that hash a VERIFY's
 /// chunks, and the leave to wait for the turn.
 pub fn serve<
     R: Threads + Wait + Sync,
@@ -44,18 +49,21 @@ pub fn serve<
     journal: &mut J,
     gate: &G,
 ) -> Served<D, E>
-    ensures leaves { Leaves D.Disk E.Disk S.Source K.Sink (C.readings clock)
-        disk remote result lanes.old lanes.new result.report.lanes.items }
+    ensures leaves { LeavesBy D.Disk E.Disk S.Source K.Sink J.Sink (C.readings clock)
+        words.now disk remote lanes.old lanes.new journal.old journal.new result }
     ensures usage { TellsJust result Status.Usage (IsMisused words.now (length lanes.old)) }
     ensures many { TellsJust result Status.TooManyLanes (AsksTooMany words.now (length lanes.old)) }
     ensures unequal { result.report.unequal ≡ None }
-    ensures journal { TellsOrder J.Sink words.now (length lanes.old) journal.old journal.new result }
 {
-    let with_order = match asks_order(alloc, words, lanes.len()) {
-        Ok(with_order) => with_order,
+    let asked = match read_words(alloc, words, lanes.len()) {
+        Ok(asked) => asked,
         Err(status) => return not_served(alloc, status, None, disk, remote),
     };
-    let served = serve_sessions(rt, alloc, lanes, disk, remote, clock, gate);
+    let with_order = match asked {
+        Asked::Run { with_order } => with_order,
+        Asked::Gen { n } => return serve_generated(rt, alloc, n, disk, remote, journal, gate),
+    };
+    let served = serve_ports(rt, alloc, lanes, disk, remote, clock, gate);
     if with_order {
         tell_order(served, journal)
     } else {

@@ -1,6 +1,6 @@
 //! The program `pbstore`: serves the sessions that its words name, all at once, on a datastore folder, beside another that snapshots
 //! may be pulled from. The replies to the session in a file go to the file of its name with `.out` behind it, and the order of all
-//! acts to the file that the words name for it.
+//! acts to the file that the words name for it. Or it makes sessions itself, serves them so, and prints their summary.
 #![tactic(auto)]
 
 use file_disk::{AtOnce, FileDisk};
@@ -90,7 +90,7 @@ fn text_of(text: &Option<String>) -> Option<&str> {
     }
 }
 
-/// Other words than a run's name none: `serve` opens nothing then.
+/// Made sessions have a root alone. Other words name none: `serve` opens nothing then.
 fn paths_of(plan: &Result<Plan, WordFault>) -> Paths<'_> {
     match plan {
         Ok(
@@ -105,6 +105,12 @@ fn paths_of(plan: &Result<Plan, WordFault>) -> Paths<'_> {
             remote: text_of(remote),
             order: text_of(order),
             sessions: sessions.as_slice(),
+        },
+        Ok(Plan::Gen { root, .. }) => Paths {
+            root: root.as_str(),
+            remote: None,
+            order: None,
+            sessions: &[],
         },
         _ => Paths {
             root: "",

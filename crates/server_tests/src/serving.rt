@@ -2,6 +2,7 @@
 
 mod disk_faults;
 pub(crate) mod gated;
+mod generated;
 mod journal;
 pub(crate) mod long;
 mod memory;

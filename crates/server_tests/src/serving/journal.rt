@@ -38,8 +38,8 @@ type Row = (
 );
 
 /// The order is asked for, or not, where the datastore is opened, and where it is not. It is asked for by words that ask for another number of
-/// sessions than there are ports, or for none. Two commands that are read, and not done.
-static TAKEN: [Row; 8] = [
+/// sessions than there are ports, or for none. A command that is read, and not done.
+static TAKEN: [Row; 7] = [
     (&["run", "root", "one"], 1, &[], 0, b""),
     (
         &["run", "--order", "file", "root", "one"],
@@ -58,7 +58,6 @@ static TAKEN: [Row; 8] = [
     ),
     (&["run", "--order", "file", "root", "one"], 2, &[], 2, b""),
     (&["run", "--order", "file", "root"], 0, &[], 2, b""),
-    (&["gen", "root", "1"], 0, &[], 2, b""),
     (&["check", "root", "file", "one"], 3, &[], 2, b""),
 ];
 

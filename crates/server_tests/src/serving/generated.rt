@@ -1,0 +1,121 @@
+//! Sessions that the program makes itself.
+
+use super::*;
+
+/// Serves those that the words ask for, with these ports. The clock is not read.
+fn generate_into(
+    rt: &(impl Abort + Threads + Wait + Sync),
+    alloc: Global,
+    words: &[&str],
+    ports: usize,
+    disk: MemoryDisk,
+    journal: &mut MemSink,
+) -> Run {
+    let words = must(rt, words::words_of(alloc, words));
+    let mut ports = words::empty_ports(rt, alloc, ports);
+    serve(
+        rt,
+        alloc,
+        &words,
+        &mut ports,
+        disk,
+        None::<MemoryDisk>,
+        SetClock::new(Vec::new(alloc), 5),
+        journal,
+        &FreeGate,
+    )
+}
+
+/// Of four lanes beside lane 0, on an empty datastore.
+const SUMMARY: &[u8] =
+    b"lane 1 21149 96c01f407d7be05f429c1a94238e2f05497b081f5bffe03b1c14c12cbc235629\n\
+lane 2 21149 aa8b66d15757e0967eff74ac1148c22c7a270b12ba67ac332cb4ebeec80c064d\n\
+lane 3 21149 7f3538bc70a8d555acace299805a8459235c8e0b8b9e1493f03e87c8d92b8784\n\
+lane 4 21149 f7b53823679ad0f401a5adcfcd183d8cb56729d1e2f4a6eb157654875ae19aac\n\
+host/g1/2020-01-03T00:00:00Z 2\n\
+host/g1/2020-01-04T00:00:00Z 2\n\
+host/g2/2020-01-03T00:00:00Z 2\n\
+host/g2/2020-01-04T00:00:00Z 2\n\
+host/g3/2020-01-03T00:00:00Z 2\n\
+host/g3/2020-01-04T00:00:00Z 2\n\
+host/g4/2020-01-03T00:00:00Z 2\n\
+host/g4/2020-01-04T00:00:00Z 2\n\
+status 0\n";
+
+/// The status, how many reports there are, and whether the journal failed.
+fn assert_told(rt: &impl Abort, served: &Run, want: &[u64]) {
+    let found = [
+        u64::from(served.status.number()),
+        served.report.lanes.len() as u64,
+        u64::from(served.report.journal_failed),
+    ];
+    same_numbers(rt, &found, want);
+}
+
+/// However the lanes' acts come between each other.
+#[test]
+fn four_lanes_have_one_summary(rt: HostRuntime) {
+    let alloc = rt.alloc();
+    for _ in 0..2 {
+        let mut journal = empty_sink(alloc);
+        let disk = MemoryDisk::new(alloc);
+        let served = generate_into(&rt, alloc, &["gen", "root", "4"], 0, disk, &mut journal);
+        same(&rt, journal.as_bytes(), SUMMARY);
+        assert_told(&rt, &served, &[0, 5, 0]);
+    }
+}
+
+/// Of one lane on an empty datastore, and where it was served before: then no snapshot is newer.
+static SUMMARIES: [&[u8]; 2] = [
+    b"lane 1 21149 96c01f407d7be05f429c1a94238e2f05497b081f5bffe03b1c14c12cbc235629\n\
+host/g1/2020-01-03T00:00:00Z 2\n\
+host/g1/2020-01-04T00:00:00Z 2\n\
+status 0\n",
+    b"lane 1 1250 883757fbf3596a69acf8b571a4cf03b113018f2a11682d85b348a32a5c01bc5a\n\
+host/g1/2020-01-03T00:00:00Z 2\n\
+host/g1/2020-01-04T00:00:00Z 2\n\
+status 0\n",
+];
+
+#[test]
+fn one_lane_is_served_again(rt: HostRuntime) {
+    let alloc = rt.alloc();
+    let mut disk = MemoryDisk::new(alloc);
+    for summary in &SUMMARIES {
+        let mut journal = empty_sink(alloc);
+        let served = generate_into(&rt, alloc, &["gen", "root", "1"], 0, disk, &mut journal);
+        same(&rt, journal.as_bytes(), summary);
+        assert_told(&rt, &served, &[0, 2, 0]);
+        disk = served.disk;
+    }
+}
+
+/// The journal's write with this number fails, of 100 bytes at most: so many bytes are written.
+static FAILING: [(u64, u64); 3] = [(0, 0), (1, 100), (2, 149)];
+
+#[test]
+fn the_summary_is_cut_off(rt: HostRuntime) {
+    let alloc = rt.alloc();
+    for (call, size) in &FAILING {
+        let mut journal = MemSink::new(alloc, must(&rt, [*call].to_vec(alloc))).at_most(100);
+        let disk = MemoryDisk::new(alloc);
+        let served = generate_into(&rt, alloc, &["gen", "root", "1"], 0, disk, &mut journal);
+        same(&rt, journal.as_bytes(), front(SUMMARIES[0], *size));
+        assert_told(
+            &rt,
+            &served,
+            if *size < 149 { &[5, 2, 1] } else { &[0, 2, 0] },
+        );
+    }
+}
+
+/// They take no ports.
+#[test]
+fn a_port_is_too_many(rt: HostRuntime) {
+    let alloc = rt.alloc();
+    let mut journal = empty_sink(alloc);
+    let disk = MemoryDisk::new(alloc);
+    let served = generate_into(&rt, alloc, &["gen", "root", "1"], 1, disk, &mut journal);
+    same(&rt, journal.as_bytes(), b"");
+    assert_told(&rt, &served, &[2, 0, 0]);
+}
