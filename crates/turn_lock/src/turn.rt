@@ -139,6 +139,14 @@ impl<T: Replays> Turn<T> {
         self.table.shared.load::<Front>(&mut seat.inner, SERVING)
     }
 
+    /// Lets a thread run that waits for this processor, where one has the turn or waits for it.
+    pub fn give_way(&self) {
+        let shared = &self.table.shared;
+        if shared.peek(SERVING) != shared.peek(TICKET) {
+            thread::yield_now();
+        }
+    }
+
     /// Makes two seats of one. The second has seen as much, and has entered nothing.
     pub fn split(&self, seat: Seat<T>) -> (Seat<T>, Seat<T>)
         requires own { seat.turn ≡ self.now.id }
