@@ -1,5 +1,5 @@
 -- What the answer of an act tells.
-use Rattle.std.proofs.Common.{◌≡◌, ◌+◌, ◌⊎◌, inl, inr, ℕ, zero, suc, Bool, true, false, ◌==◌, List, [], ◌∷◌, ◌++◌, length, if◌then◌else◌, Option, Some, None, IsSome, IsTrue, refl, sym, ap, subst, ◌∙◌, arith, append_assoc}
+use Rattle.std.proofs.Common.{◌≡◌, ◌+◌, ◌⊎◌, inl, inr, ℕ, zero, suc, Bool, true, false, ◌==◌, List, [], ◌∷◌, ◌++◌, length, if◌then◌else◌, Option, Some, None, IsSome, IfSome, IsTrue, refl, sym, ap, subst, ◌∙◌, arith, append_assoc}
 use Rattle.std.proofs.lemmas.Bool.{eqb-true, eqb-false}
 use Rattle.turn_lock.specs.Places.{RisesWithin}
 use Rattle.turn_lock.specs.State.{SeatState}
@@ -13,6 +13,7 @@ use Rattle.store_types.specs.declared.refusal.Refusal.{Refusal}
 use Rattle.store_types.specs.declared.refusal.Refusal.TheVariants.{NoMemory}
 use Rattle.wire_commands.specs.declared.reply.Reply.{Reply}
 use Rattle.wire_commands.specs.declared.reply.Reply.TheVariants.{Refused}
+use Rattle.wire_commands.specs.HasText.{ReplyHasText}
 use Rattle.store_model.specs.declared.step.Step.{Step}
 use Rattle.store_model.specs.declared.step.Step.TheVariants as steps
 use Rattle.store_history.specs.declared.act.Act.{Act}
@@ -25,10 +26,11 @@ use Rattle.store_model.specs.Weave.{first_fault}
 use Rattle.store_model.specs.declared.ending.Ending.{Ending}
 use Rattle.store_model.specs.declared.ending.Ending.TheVariants as endings
 use Rattle.core_state.specs.Answers.{IsTold, fault_after}
+use Rattle.core_state.specs.History.{History, then_event}
 use Rattle.core_state.specs.Replies.{may_answer, may_give}
 use Rattle.core_state.specs.Records.{AreKept, FitsKind, FitsReply, GivesReply, IsKept}
 use Rattle.lane.specs.declared.acts.Told.{Told}
-use Rattle.lane.specs.Acting.{HasReply, IsRefused, IsWant, MayTell, SeatDid, short_ending}
+use Rattle.lane.specs.Acting.{Has, HasReply, IsRefused, IsWant, Did, MayTell, short_ending}
 
 -- ---- acts that have a reply
 
@@ -159,47 +161,61 @@ no_sweep acts.Step h is = absurd h
 no_sweep acts.End h is = absurd h
 no_sweep a h is = cc
 
-pub start_sweep : class_of acts.Start ≡ sweeping → ⊥
-start_sweep is = cc
-
 -- ---- an act by a seat
 
-pub did_by : (old new : SeatState Event) (k : ℕ) (act : Act) (x : Answer) (told : Told) → (class_of act ≡ sweeping → ⊥) → HasEntered act x old new → AreAnswered new.seen
-    → RisesWithin 0 (length new.seen) new.mine → (x.entry).lane ≡ k → x.reply ≡ Some told.reply → x.last ≡ told.last → SeatDid old new k act told
-did_by old new k act x told apart e answered rises is tells last = λ start.
-    let v : Event = event_at act x e.calls in
-    let at : HasPlace v = placed_last e.before v (subst AreAnswered (ap (λ s. s.seen) e.now) answered) in record {
-      event = v;
-      asks = refl;
-      lane_is = is;
-      tells = tells;
-      last = last;
-      kind_is = want_kind v told at last;
-      gave = gave_by v told.reply at tells;
-      other = other_by v told.reply apart at tells;
-      history = λ h g. grown_more start old new h.events act x e rises g;
-    }
+-- An act of the lane was entered, and this is its answer.
+pub record Acted (before after : History → Type 0) (k : ℕ) (act : Act) (a : Answer) : Type 0 where
+  pub calls : ℕ
+  pub lane_is : (a.entry).lane ≡ k
+  pub at : HasPlace (event_at act a calls)
+  pub told : IsTold act a
+  pub text : IfSome a.reply ReplyHasText
+  pub history : (h : History) → before h → after (then_event h (event_at act a calls))
 
--- an act's own place
-pub placed_kept : (old new : SeatState Event) (act : Act) (x : Answer) (e : HasEntered act x old new) → AreAnswered new.seen → HasPlace (event_at act x e.calls)
-placed_kept old new act x e answered = placed_last e.before (event_at act x e.calls) (subst AreAnswered (ap (λ s. s.seen) e.now) answered)
+pub acted_by : (old new : SeatState Event) (k : ℕ) (act : Act) (a : Answer) → HasEntered act a old new → AreAnswered new.seen → RisesWithin 0 (length new.seen) new.mine
+    → (a.entry).lane ≡ k → IsTold act a → IfSome a.reply ReplyHasText → (start : SeatState Event) → Acted (Has start old) (Has start new) k act a
+acted_by old new k act a e answered rises is told text start = record {
+  calls = e.calls;
+  lane_is = is;
+  at = placed_last e.before (event_at act a e.calls) (subst AreAnswered (ap (λ s. s.seen) e.now) answered);
+  told = told;
+  text = text;
+  history = λ h g. grown_more start old new h.events act a e rises g;
+}
 
-pub may_tell_by : (old new : SeatState Event) (act : Act) (x : Answer) (told : Told) → (class_of act ≡ sweeping → ⊥) → HasEntered act x old new → AreAnswered new.seen
-    → x.reply ≡ Some told.reply → x.last ≡ told.last → MayTell act told
-may_tell_by old new act x told apart e answered tells last =
-    let v : Event = event_at act x e.calls in
-    let at : HasPlace v = placed_last e.before v (subst AreAnswered (ap (λ s. s.seen) e.now) answered) in record {
-      reply_is = by_kind at (kind v == 1) refl;
-      want = λ wants. want_reply v told.reply at tells (want_kind v told at last wants);
-    }
+-- ---- one that has a reply
+
+pub did_of : (before after : History → Type 0) (k : ℕ) (act : Act) (a : Answer) (r : Reply) → HasReply act → Acted before after k act a → a.reply ≡ Some r
+    → Did before after k act (record { reply = r; last = a.last })
+did_of before after k act a r replied x tells = let v = event_at act a x.calls in record {
+  event = v;
+  asks = refl;
+  lane_is = x.lane_is;
+  tells = tells;
+  last = refl;
+  kind_is = want_kind v (record { reply = r; last = a.last }) x.at refl;
+  gave = gave_by v r x.at tells;
+  other = other_by v r (no_sweep act replied) x.at tells;
+  history = x.history;
+}
+
+pub tells_of : (before after : History → Type 0) (k : ℕ) (act : Act) (a : Answer) (r : Reply) → HasReply act → Acted before after k act a → a.reply ≡ Some r
+    → MayTell act (record { reply = r; last = a.last })
+tells_of before after k act a r replied x tells = record {
+  reply_is = by_kind (kind v == 1) refl;
+  want = λ wants. want_reply v r x.at tells (want_kind v (record { reply = r; last = a.last }) x.at refl wants);
+}
   where
-    by_kind : HasPlace (event_at act x e.calls) → (b : Bool) → ((x.entry).kind == 1) ≡ b → IsTrue (may_answer act told.reply) ⊎ (IsTrue (may_give act told.reply) ⊎ IsRefused told.reply)
-    by_kind at true is = inr (inl (gave_by (event_at act x e.calls) told.reply at tells (eqb-true (x.entry).kind 1 is)))
-    by_kind at false is = of_other (other_by (event_at act x e.calls) told.reply apart at tells (eqb-false (x.entry).kind 1 is))
-      where
-        of_other : IsTrue (may_answer act told.reply) ⊎ IsRefused told.reply → IsTrue (may_answer act told.reply) ⊎ (IsTrue (may_give act told.reply) ⊎ IsRefused told.reply)
-        of_other (inl may) = inl may
-        of_other (inr refused) = inr (inr refused)
+    v : Event
+    v = event_at act a x.calls
+
+    of_other : IsTrue (may_answer act r) ⊎ IsRefused r → IsTrue (may_answer act r) ⊎ (IsTrue (may_give act r) ⊎ IsRefused r)
+    of_other (inl may) = inl may
+    of_other (inr refused) = inr (inr refused)
+
+    by_kind : (b : Bool) → ((a.entry).kind == 1) ≡ b → IsTrue (may_answer act r) ⊎ (IsTrue (may_give act r) ⊎ IsRefused r)
+    by_kind true is = inr (inl (gave_by v r x.at tells (eqb-true (a.entry).kind 1 is)))
+    by_kind false is = of_other (other_by v r (no_sweep act replied) x.at tells (eqb-false (a.entry).kind 1 is))
 
 -- ---- an end that met a fault
 

@@ -1,29 +1,26 @@
--- GC on a lane: its collector's acts, and where they lead.
-use Rattle.std.proofs.Common.{◌≡◌, inl, inr, ℕ, Bool, true, false, ◌||◌, ◌==◌, List, [], ◌∷◌, ◌++◌, Option, Some, None, IsSome, refl, sym, ap, subst, ◌∙◌, arith, append-nil, append_assoc}
+-- GC on a lane: what its collector's acts do, and where they lead.
+use Rattle.std.proofs.Common.{◌≡◌, inl, inr, ℕ, Bool, true, false, ◌||◌, ◌==◌, List, [], ◌∷◌, if◌then◌else◌, Option, Some, None, refl, sym, ap, subst, ◌∙◌}
 use Rattle.std.proofs.lemmas.Bool.{eqb-true}
 use Rattle.store_types.specs.declared.order.TheConstants.{MEMORY_KIND, START_KIND}
-use Rattle.wire_commands.specs.declared.command.Command.TheVariants as commands
 use Rattle.wire_commands.specs.declared.reply.Reply.{Reply}
-use Rattle.store_model.specs.Lanes.{collect, collecting, command_next}
+use Rattle.store_model.specs.Lanes.{collect, collecting}
+use Rattle.store_history.specs.declared.act.Act.{Act}
 use Rattle.store_history.specs.declared.act.Act.TheVariants as acts
 use Rattle.store_history.specs.declared.act.Answer.{Answer}
 use Rattle.store_history.specs.declared.act.Event.{Event}
-use Rattle.store_history.specs.History.{kind, lane, reply}
 use Rattle.store_history.specs.LaneRun.{Position, wants, heard_at, heard}
 use Rattle.store_history.specs.SoFar.{Leads}
 use Rattle.store_history.proofs.Collecting.{flag, follows_step, leads_start, leads_gc, leads_close}
 use Rattle.store_history.proofs.Ending.{next_shut, next_collecting}
 use Rattle.store_history.proofs.Growing.{leads_more}
 use Rattle.store_history.proofs.Idling.{heard_idle}
-use Rattle.store_history.proofs.Longer.{of_more}
+use Rattle.seat_history.specs.Entered.{event_at}
 use Rattle.core_state.specs.Answers.{IsToldBut}
-use Rattle.core_state.specs.History.{History, then_event}
-use Rattle.shared_store.specs.Comes.{with_events}
-use Rattle.lane.specs.declared.acts.Told.{Told}
-use Rattle.lane.specs.Acting.{Did}
-use Rattle.lane.specs.Collecting.{TellsEnd, HasPassed, sweeping_at, HasSwept, Sweeps}
-use Rattle.lane.specs.Doing.{answered, Does}
-use Rattle.lane.proofs.Doing.{leads_then, or_false, read_on}
+use Rattle.core_state.specs.History.{History}
+use Rattle.lane.specs.Doing.{IsNext, answered}
+use Rattle.lane.specs.Tasks.{Stage, done, starts, sweeps, taken, taken_by, sweeping_at, IsAt, StepsOn}
+use Rattle.lane.proofs.Acting.{Acted, none_some}
+use Rattle.lane.proofs.Doing.{read_on}
 
 -- ---- what an answer leaves of an open collector
 
@@ -48,125 +45,117 @@ heard_want p b a r idle on says two =
     ∙ ap (λ (o : Option Bool). flag a o (a.entry).kind (heard_at p (a.entry).kind (Some r) (collecting b))) on
     ∙ ap (λ n. flag a (Some b) n (heard_at p n (Some r) (collecting b))) two
 
--- ---- its acts so far
+-- whether memory was wanting stays, or becomes true
+wants_one : (n : ℕ) (b : Bool) → n ≡ 1 → wants n (Some b) ≡ b
+wants_one n true is = refl
+wants_one n false is = ap (λ n. n == 2) is
 
-false_true : false ≡ true → ⊥
-false_true e = cc
+wants_two : (b : Bool) → wants 2 (Some b) ≡ true
+wants_two true = refl
+wants_two false = refl
 
-pub swept_none : (before : History → Type 0) (k : ℕ) → HasSwept before before k false
-swept_none before k = record {
-  events = [];
-  is_cut = false;
-  is_out_of_memory = false;
-  history = λ h at. subst (λ es. before (with_events h es)) (sym (append-nil h.events)) at;
-  lanes = tt;
-  leads = λ p left idle. refl;
-}
+-- ---- one act
 
-some_reply : (o : Option Reply) → IsSome o → (r : Reply) × (o ≡ Some r)
-some_reply None some = cc
-some_reply (Some r) some = (r, refl)
+step_by : (before after : History → Type 0) (k : ℕ) (act : Act) (a : Answer) (old new : Stage) (was now : Bool) (wanted : Bool → Bool) (x : Acted before after k act a)
+    → ((p q : Position) (left : List ℕ) (s : Bool) → IsAt p left old s was q → (r : Position) × (Leads q (event_at act a x.calls ∷ []) r × IsAt p left new (wanted s) now r))
+    → StepsOn before after k old new was now
+step_by before after k act a old new was now wanted x led =
+    record { events = event_at act a x.calls ∷ []; wants = wanted; history = x.history; lanes = (x.lane_is, tt); leads = led }
 
-swept_by : (before between after : History → Type 0) (k : ℕ) (is_last now_last cut short : Bool) → (s : HasSwept before between k is_last) → (x : HasPassed between after k is_last now_last None)
-    → ((p : Position) (left : List ℕ) → p.pull ≡ None → Leads (sweeping_at p left false false false) (s.events ++ x.event ∷ []) (sweeping_at p left cut short (((x.event).answer).last || is_last))) → HasSwept before after k now_last
-swept_by before between after k is_last now_last cut short s x led = record {
-  events = s.events ++ x.event ∷ [];
-  is_cut = cut;
-  is_out_of_memory = short;
-  history = λ h at. subst (λ es. after (with_events h es)) (append_assoc h.events s.events (x.event ∷ [])) (x.history (with_events h (h.events ++ s.events)) (s.history h at));
-  lanes = of_more k s.events x.event s.lanes x.lane_is;
-  leads = λ p left idle. subst (λ b. Leads (sweeping_at p left false false false) (s.events ++ x.event ∷ []) (sweeping_at p left cut short b)) (sym x.last) (led p left idle);
-}
-
--- one more, behind which the collector is still open
-pub swept_more : (before between after : History → Type 0) (k : ℕ) (is_last now_last : Bool) → HasSwept before between k is_last → HasPassed between after k is_last now_last None
-    → HasSwept before after k now_last
-swept_more before between after k is_last now_last s x = by_reply x.tells
+-- the collector opens, or its start was told something
+pub starts_once : (before after : History → Type 0) (k : ℕ) (was : Bool) (a : Answer) → Acted before after k acts.Start a → StepsOn before after k starts (taken starts a) was (a.last || was)
+starts_once before after k was a x = by_reply a.reply refl
   where
-    at : Position → List ℕ → Position
-    at p left = sweeping_at p left s.is_cut s.is_out_of_memory is_last
+    v : Event
+    v = event_at acts.Start a x.calls
 
-    heard_led : (p : Position) (left : List ℕ) → p.pull ≡ None → Leads (sweeping_at p left false false false) (s.events ++ x.event ∷ []) (heard (at p left) ((x.event).answer))
-    heard_led p left idle = leads_more s.events (sweeping_at p left false false false) (at p left) x.event (s.leads p left idle) (follows_step (at p left) s.is_cut x.event idle refl x.asks)
+    is_three : IsToldBut 3 a → a.reply ≡ None → (a.entry).kind ≡ START_KIND
+    is_three (inl opened) none = opened.0
+    is_three (inr told) none = absurd (none_some a.reply none told.1)
 
-    by_reply : TellsEnd x.event None → HasSwept before after k now_last
-    by_reply (inl pass) = swept_by before between after k is_last now_last s.is_cut (wants (kind x.event) (Some s.is_cut)) s x
-        (λ p left idle. subst (λ q. Leads (sweeping_at p left false false false) (s.events ++ x.event ∷ []) q) (heard_pass (at p left) s.is_cut ((x.event).answer) idle refl pass.1) (heard_led p left idle))
-    by_reply (inr want) = let r = some_reply (reply x.event) want.1 in
-        swept_by before between after k is_last now_last true (wants 2 (Some s.is_cut)) s x
-        (λ p left idle. subst (λ q. Leads (sweeping_at p left false false false) (s.events ++ x.event ∷ []) q) (heard_want (at p left) s.is_cut ((x.event).answer) r.0 idle refl r.1 want.0) (heard_led p left idle))
+    flag_is : (p : Position) (left : List ℕ) → IsNext (collect left) p → was ≡ false → a.last || p.is_spent ≡ a.last || was
+    flag_is p left next none = ap (λ b. a.last || b) (read_on p (collect left) next.idle next.next refl next.on ∙ sym none)
 
--- its end
-pub swept_ends : (before between after : History → Type 0) (k : ℕ) (is_last : Bool) (told : Told) → HasSwept before between k is_last → HasPassed between after k is_last told.last (Some told.reply)
-    → Sweeps before after k told
-swept_ends before between after k is_last told s x = record {
-  events = s.events ++ x.event ∷ [];
-  is_out_of_memory = s.is_cut;
-  history = λ h at. subst (λ es. after (with_events h es)) (append_assoc h.events s.events (x.event ∷ [])) (x.history (with_events h (h.events ++ s.events)) (s.history h at));
-  lanes = of_more k s.events x.event s.lanes x.lane_is;
-  leads = λ p left shut idle. let start = sweeping_at p left false false false in
-      let q = sweeping_at p left s.is_cut s.is_out_of_memory is_last in
-      subst (λ o. Leads start (s.events ++ x.event ∷ []) (record p { left = left; job = None; pull = None; collecting = o; is_out_of_memory = s.is_cut; is_spent = told.last; told = p.told ++ told.reply ∷ [] })) (sym shut)
-      (subst (λ b. Leads start (s.events ++ x.event ∷ []) (record p { left = left; job = None; pull = None; collecting = None; is_out_of_memory = s.is_cut; is_spent = b; told = p.told ++ told.reply ∷ [] })) (sym x.last)
-      (leads_close s.events start q s.is_cut x.event told.reply (s.leads p left idle) idle refl x.asks (x.tells).1 (x.tells).0));
-}
+    on : (p : Position) (left : List ℕ) → IsNext (collect left) p → p.is_spent ≡ false
+    on p left next = read_on p (collect left) next.idle next.next refl next.on
 
--- ---- by what was told
+    by_reply : (o : Option Reply) → a.reply ≡ o → StepsOn before after k starts (taken_by starts (a.entry).kind o) was (a.last || was)
+    by_reply None none = step_by before after k acts.Start a starts sweeps was (a.last || was) (λ s. false) x (λ p q left s at. let next = at.2 in (
+      sweeping_at p left false false (a.last || was),
+      (
+        subst (λ y. Leads y (v ∷ []) (sweeping_at p left false false (a.last || was))) (sym at.0)
+            (subst (λ b. Leads p (v ∷ []) (sweeping_at p left false false b)) (flag_is p left next at.1)
+            (leads_start [] p p left v refl next.idle (on p left next) next.next refl none (is_three x.told none))),
+        (refl, next),
+      ),
+    ))
+    by_reply (Some r) says = step_by before after k acts.Start a starts (done r) was (a.last || was) (λ s. (a.entry).kind == MEMORY_KIND) x (λ p q left s at. let next = at.2 in (
+      answered p left r ((a.entry).kind == MEMORY_KIND) (a.last || was),
+      (
+        subst (λ y. Leads y (v ∷ []) (answered p left r ((a.entry).kind == MEMORY_KIND) (a.last || was))) (sym at.0)
+            (subst (λ b. Leads p (v ∷ []) (answered p left r ((a.entry).kind == MEMORY_KIND) b)) (flag_is p left next at.1)
+            (leads_gc [] p p left v r refl next.idle (on p left next) next.next refl says)),
+        refl,
+      ),
+    ))
 
--- memory was wanting, which the end tells
-pub want_told : (v : Event) → IsToldBut 1 v.answer → kind v ≡ MEMORY_KIND → TellsEnd v None
-want_told v (inl pass) two = let one = pass.0 in absurd (omega (arith, one, two))
-want_told v (inr end) two = inr (two, end.1)
-
--- or the end's reply, where there is one
-pub end_told : (v : Event) → (kind v ≡ MEMORY_KIND → ⊥) → TellsEnd v (reply v)
-end_told v other = by_reply (reply v) refl
+-- a mark or a visit, want of memory, or the end
+pub sweeps_once : (before after : History → Type 0) (k : ℕ) (was : Bool) (a : Answer) → Acted before after k acts.Step a → StepsOn before after k sweeps (taken sweeps a) was (a.last || was)
+sweeps_once before after k was a x = by_reply a.reply refl
   where
-    by_kind : (b : Bool) → (kind v == MEMORY_KIND) ≡ b → (kind v == MEMORY_KIND) ≡ false
-    by_kind false is = is
-    by_kind true is = absurd (other (eqb-true (kind v) 2 is))
+    v : Event
+    v = event_at acts.Step a x.calls
 
-    by_reply : (o : Option Reply) → reply v ≡ o → TellsEnd v o
-    by_reply None is = inl (other, is)
-    by_reply (Some r) is = (by_kind (kind v == MEMORY_KIND) refl, is)
+    is_one : IsToldBut 1 a → a.reply ≡ None → (a.entry).kind ≡ 1
+    is_one (inl pass) none = pass.0
+    is_one (inr told) none = absurd (none_some a.reply none told.1)
 
--- ---- from its GC
+    -- from where it is open
+    opened : Position → List ℕ → Bool → Position
+    opened p left s = sweeping_at p left s s was
 
--- the lane's collector has opened
-pub record HasOpened (before after : History → Type 0) (k : ℕ) : Type 0 where
-  pub event : Event
-  pub asks : event.act ≡ acts.Start
-  pub lane_is : lane event ≡ k
-  pub none : reply event ≡ None
-  pub kind_is : kind event ≡ START_KIND
-  pub last : (event.answer).last ≡ false
-  pub history : (h : History) → before h → after (then_event h event)
+    heard_led : (p : Position) (left : List ℕ) (s : Bool) → p.pull ≡ None → Leads (opened p left s) (v ∷ []) (heard (opened p left s) a)
+    heard_led p left s idle = leads_more [] (opened p left s) (opened p left s) v refl (follows_step (opened p left s) s v idle refl refl)
 
-pub does_opened : (before between after : History → Type 0) (k : ℕ) (told : Told) → HasOpened before between k → Sweeps between after k told → Does before after k (command_next commands.Gc) told
-unfolding command_next
-does_opened before between after k told o s = let v = o.event in record {
-  events = v ∷ s.events;
-  is_out_of_memory = s.is_out_of_memory;
-  history = λ h at. subst (λ es. after (with_events h es)) (append_assoc h.events (v ∷ []) s.events) (s.history (then_event h v) (o.history h at));
-  lanes = (o.lane_is, s.lanes);
-  leads = λ p left is.
-      let on = read_on p (collect left) is.idle is.next refl is.on in
-      leads_then (v ∷ []) s.events p (sweeping_at p left false false false) (answered p left told.reply s.is_out_of_memory told.last)
-      (subst (λ b. Leads p (v ∷ []) (sweeping_at p left false false b)) (or_false p (v.answer).last on ∙ o.last)
-      (leads_start [] p p left v refl is.idle on is.next o.asks o.none o.kind_is))
-      (s.leads p left (next_shut p (collect left) is.next refl) is.idle);
-}
+    -- still open, with this of memory
+    open_still : (p q : Position) (left : List ℕ) (s : Bool) (b : Bool) → q ≡ opened p left s → IsNext (collect left) p
+        → heard (opened p left s) a ≡ sweeping_at p left b b (a.last || was) → (r : Position) × (Leads q (v ∷ []) r × IsAt p left sweeps b (a.last || was) r)
+    open_still p q left s b at next is = (
+      sweeping_at p left b b (a.last || was),
+      (
+        subst (λ y. Leads y (v ∷ []) (sweeping_at p left b b (a.last || was))) (sym at) (subst (λ y. Leads (opened p left s) (v ∷ []) y) is (heard_led p left s next.idle)),
+        (refl, next),
+      ),
+    )
 
--- or its start was told something
-pub does_told : (before after : History → Type 0) (k : ℕ) (told : Told) → Did before after k acts.Start told → Does before after k (command_next commands.Gc) told
-unfolding command_next
-does_told before after k told d = let v = d.event in record {
-  events = v ∷ [];
-  is_out_of_memory = kind v == MEMORY_KIND;
-  history = d.history;
-  lanes = (d.lane_is, tt);
-  leads = λ p left is.
-      let on = read_on p (collect left) is.idle is.next refl is.on in
-      subst (λ b. Leads p (v ∷ []) (answered p left told.reply (kind v == MEMORY_KIND) b)) (or_false p (v.answer).last on ∙ d.last)
-      (leads_gc [] p p left v told.reply refl is.idle on is.next d.asks d.tells);
-}
+    passed : (p : Position) (left : List ℕ) (s : Bool) → p.pull ≡ None → a.reply ≡ None → heard (opened p left s) a ≡ sweeping_at p left s s (a.last || was)
+    passed p left s idle none = heard_pass (opened p left s) s a idle refl none
+        ∙ ap (λ b. sweeping_at p left s b (a.last || was)) (wants_one (a.entry).kind s (is_one x.told none))
+
+    wanted : (p : Position) (left : List ℕ) (s : Bool) (r : Reply) → p.pull ≡ None → a.reply ≡ Some r → (a.entry).kind ≡ MEMORY_KIND
+        → heard (opened p left s) a ≡ sweeping_at p left true true (a.last || was)
+    wanted p left s r idle says two = heard_want (opened p left s) s a r idle refl says two
+        ∙ ap (λ b. sweeping_at p left true b (a.last || was)) (wants_two s)
+
+    -- its end
+    closed : (p q : Position) (left : List ℕ) (s : Bool) (r : Reply) → q ≡ opened p left s → IsNext (collect left) p → a.reply ≡ Some r → ((a.entry).kind == MEMORY_KIND) ≡ false
+        → (t : Position) × (Leads q (v ∷ []) t × IsAt p left (done r) s (a.last || was) t)
+    closed p q left s r at next says other = (
+      answered p left r s (a.last || was),
+      (
+        subst (λ y. Leads y (v ∷ []) (answered p left r s (a.last || was))) (sym at)
+            (subst (λ o. Leads (opened p left s) (v ∷ []) (record (answered p left r s (a.last || was)) { collecting = o })) (sym (next_shut p (collect left) next.next refl))
+            (leads_close [] (opened p left s) (opened p left s) s v r refl next.idle refl refl says other)),
+        refl,
+      ),
+    )
+
+    by_reply : (o : Option Reply) → a.reply ≡ o → StepsOn before after k sweeps (taken_by sweeps (a.entry).kind o) was (a.last || was)
+    by_reply None none = step_by before after k acts.Step a sweeps sweeps was (a.last || was) (λ s. s) x
+        (λ p q left s at. open_still p q left s s at.0 at.1 (passed p left s (at.1).idle none))
+    by_reply (Some r) says = by_kind ((a.entry).kind == MEMORY_KIND) refl
+      where
+        by_kind : (b : Bool) → ((a.entry).kind == MEMORY_KIND) ≡ b → StepsOn before after k sweeps (if b then sweeps else done r) was (a.last || was)
+        by_kind true two = step_by before after k acts.Step a sweeps sweeps was (a.last || was) (λ s. true) x
+            (λ p q left s at. open_still p q left s true at.0 at.1 (wanted p left s r (at.1).idle says (eqb-true (a.entry).kind 2 two)))
+        by_kind false other = step_by before after k acts.Step a sweeps (done r) was (a.last || was) (λ s. s) x (λ p q left s at. closed p q left s r at.0 at.1 says other)

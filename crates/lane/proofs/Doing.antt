@@ -4,7 +4,7 @@ use Rattle.store_types.specs.declared.order.TheConstants.{MEMORY_KIND}
 use Rattle.wire_commands.specs.declared.command.Command.{Command}
 use Rattle.wire_commands.specs.declared.command.Command.TheVariants as commands
 use Rattle.store_model.specs.Job.{Asking}
-use Rattle.store_model.specs.Jobs.{job_of, IsJob}
+use Rattle.store_model.specs.Jobs.{IsJob}
 use Rattle.wire_commands.specs.Inputs.{front}
 use Rattle.store_model.specs.Lanes.{Next, job_step, plain, collecting, command_next, front_next, lane_next}
 use Rattle.store_history.specs.declared.act.Act.{Act}
@@ -19,8 +19,8 @@ use Rattle.store_history.proofs.Ending.{IsCommand, command_is, leads_command}
 use Rattle.core_state.specs.History.{History}
 use Rattle.lane.specs.declared.acts.Told.{Told}
 use Rattle.lane.specs.Acting.{Did}
-use Rattle.lane.specs.Doing.{IsStep, IsNext, answered, Does}
-use Rattle.lane.specs.Fronts.{is_job, is_gc, IsAlone, IsJobs}
+use Rattle.lane.specs.Doing.{IsStep, answered, Does}
+use Rattle.lane.specs.Fronts.{is_job, is_gc, IsJobs}
 
 -- ---- events behind others
 
@@ -33,18 +33,6 @@ leads_then [] vs p q r first second = subst (λ x. Leads x vs r) (sym first) sec
 leads_then (u ∷ us) vs p q r first second = (first.0, leads_then us vs (heard p u.answer) q r first.1 second)
 
 -- ---- what is next by a command
-
-next_job : (c : Command) (j : Asking) (left : List ℕ) → job_of c ≡ Some j → command_next c left ≡ job_step j left
-unfolding command_next
-next_job (commands.Prune group keep dry) j left some = inner some
-  where
-    inner : job_of (commands.Prune group keep dry) ≡ Some j → command_next (commands.Prune group keep dry) left ≡ job_step j left
-    inner is = cc
-next_job (commands.Verify snapshot) j left some = inner some
-  where
-    inner : job_of (commands.Verify snapshot) ≡ Some j → command_next (commands.Verify snapshot) left ≡ job_step j left
-    inner is = cc
-next_job c j left some = cc
 
 pub step_is_job : (c : Command) (left : List ℕ) → IsStep (command_next c left) → IsJobs c
 unfolding command_next
@@ -113,31 +101,15 @@ does_plain before after k c act told d is_act alone = let v = d.event in record 
       (leads_command [] p p c left v told.reply refl is.idle on (is.next ∙ command_is c left alone) (d.asks ∙ is_act) d.tells);
 }
 
-pub does_job : (before after : History → Type 0) (k : ℕ) (c : Command) (j : Asking) (told : Told) → job_of c ≡ Some j → Does before after k (job_step j) told → Does before after k (command_next c) told
-does_job before after k c j told some d = record {
-  events = d.events;
-  is_out_of_memory = d.is_out_of_memory;
-  history = d.history;
-  lanes = d.lanes;
-  leads = λ p left is. d.leads p left (subst (λ n. IsNext n p) (next_job c j left some) is);
-}
-
 -- ---- the commands of one act
 
-pub command_alone : (c : Command) → c ≢ commands.Bye → is_job c ≡ false → is_gc c ≡ false → IsAlone c
-command_alone commands.Bye ne job gc = absurd (ne refl)
-command_alone (commands.Prune group keep dry) ne job gc = cc
-command_alone commands.Gc ne job gc = cc
-command_alone (commands.Verify snapshot) ne job gc = cc
-command_alone c ne job gc = tt
-
-pub plain_alone : (c : Command) → IsAlone c → ((group : List ℕ) → c ≡ commands.Sync group → ⊥) → IsCommand c
-plain_alone (commands.Sync group) alone other = absurd (other group refl)
-plain_alone (commands.Prune group keep dry) alone other = absurd alone
-plain_alone commands.Gc alone other = absurd alone
-plain_alone (commands.Verify snapshot) alone other = absurd alone
-plain_alone commands.Bye alone other = absurd alone
-plain_alone c alone other = tt
+pub command_alone : (c : Command) → c ≢ commands.Bye → is_job c ≡ false → is_gc c ≡ false → ((group : List ℕ) → c ≡ commands.Sync group → ⊥) → IsCommand c
+command_alone commands.Bye ne job gc sync = absurd (ne refl)
+command_alone (commands.Prune group keep dry) ne job gc sync = cc
+command_alone commands.Gc ne job gc sync = cc
+command_alone (commands.Verify snapshot) ne job gc sync = cc
+command_alone (commands.Sync group) ne job gc sync = absurd (sync group refl)
+command_alone c ne job gc sync = tt
 
 pub job_by : (c : Command) → is_job c ≡ true → IsJob c
 job_by (commands.Prune group keep dry) is = tt

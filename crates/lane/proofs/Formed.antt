@@ -26,7 +26,8 @@ use Rattle.store_history.specs.Pulling.{Pulling, seeking, comparing, starting, r
 use Rattle.core_state.specs.Replies.{may_answer, may_give}
 use Rattle.lane.specs.declared.acts.Told.{Told}
 use Rattle.lane.specs.Acting.{IsRefused, MayTell}
-use Rattle.lane.specs.Pulling.{HasKeys, IsActOf, IsFew, IsFormed, IsSound}
+use Rattle.lane.specs.Pulling.{HasKeys, IsFew, IsFormed}
+use Rattle.lane.specs.Tasks.{pulls, pull_stage, IsActOf, IsSound}
 
 false_true : false ≡ true → ⊥
 false_true e = cc
@@ -40,7 +41,7 @@ IsOn (asks (seeking group)) = ⊥
 IsOn (asks (comparing group remote)) = ⊥
 IsOn (asks x) = IsFormed x
 
-pub on_sound : (job : SyncJob) → IsOn job → IsSound job
+pub on_sound : (job : SyncJob) → IsOn job → IsSound (pull_stage job)
 on_sound (reports report) on = tt
 on_sound (asks (seeking group)) on = absurd on
 on_sound (asks (comparing group remote)) on = absurd on
@@ -294,11 +295,11 @@ module _ (a act : Act) (told : Told) (of : (act ≡ a) ⊎ (act ≡ acts.Short))
       by (inr is) (inr (inl may)) = absurd (short_gives (subst (λ b. IsTrue (may_give b r)) is may))
       by h (inr (inr refused)) = absurd (ok refused)
 
-pub of_either : (x : Pulling) (act : Act) → IsActOf (asks x) act → (act ≡ act_of x) ⊎ (act ≡ acts.Short)
+pub of_either : (x : Pulling) (act : Act) → IsActOf (pulls x) act → (act ≡ act_of x) ⊎ (act ≡ acts.Short)
 of_either x act (inl is) = inl is
 of_either x act (inr is) = inr is.0
 
-sought_sound : (group : List ℕ) (act : Act) (told : Told) → IsActOf (asks (seeking group)) act → MayTell act told → (r : Reply) → told.reply ≡ r → IsSound (sought group r)
+sought_sound : (group : List ℕ) (act : Act) (told : Told) → IsActOf (pulls (seeking group)) act → MayTell act told → (r : Reply) → told.reply ≡ r → IsSound (pull_stage (sought group r))
 unfolding sought AreKeys
 sought_sound group act told of tells (replies.Keys remote) says =
     let may = given (acts.RemoteList (commands.Sync group)) act told (of_either (seeking group) act of) tells (replies.Keys remote) says (λ h. false_true h) (λ h. h) in
@@ -307,7 +308,7 @@ sought_sound group act told of tells (replies.Keys remote) says =
     (omega (arith, few, less), keys_kept remote)
 sought_sound group act told of tells r says = tt
 
-pub take_sound : (x : Pulling) (act : Act) (told : Told) → IsActOf (asks x) act → MayTell act told → IsFormed x → IsSound (take x told.reply)
+pub take_sound : (x : Pulling) (act : Act) (told : Told) → IsActOf (pulls x) act → MayTell act told → IsFormed x → IsSound (pull_stage (take x told.reply))
 unfolding take
 take_sound (seeking group) act told of tells formed = sought_sound group act told of tells told.reply refl
 take_sound x act told of tells formed = on_sound (take x told.reply) (take_on x told.reply tt formed)

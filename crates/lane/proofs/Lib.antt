@@ -10,7 +10,8 @@ pub mod Pulls
 pub mod Drops
 pub mod Stepping
 pub mod Collections
-pub mod Sweeping
+pub mod Stages
+pub mod Tasks
 pub mod Caused
 pub mod Entries
 pub mod AtOnce

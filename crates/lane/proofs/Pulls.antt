@@ -1,22 +1,19 @@
--- What the acts of a SYNC do, one after another.
-use Rattle.std.proofs.Common.{◌≡◌, ◌⊎◌, inl, inr, ℕ, Bool, true, false, not, ◌||◌, ◌==◌, List, [], ◌∷◌, ◌++◌, Option, Some, None, IsTrue, if◌then◌else◌, refl, sym, ap, subst, ◌∙◌, append-nil, append_assoc}
+-- What an act of a SYNC does, and where it leads.
+use Rattle.std.proofs.Common.{◌≡◌, ◌⊎◌, inl, inr, ℕ, Bool, true, false, not, ◌||◌, ◌==◌, List, [], ◌∷◌, ◌++◌, Option, Some, None, IsTrue, if◌then◌else◌, refl, sym, ap, subst, ◌∙◌}
 use Rattle.std.proofs.lemmas.Bool.{eqb-true, eqb-false}
-use Rattle.store_types.specs.declared.refusal.Refusal.TheVariants.{NoMemory}
 use Rattle.store_types.specs.declared.order.TheConstants.{PART_KIND, MEMORY_KIND}
 use Rattle.store_files.specs.Archive.{Layout, dynamic, fixed}
-use Rattle.wire_commands.specs.declared.command.Command.TheVariants as commands
 use Rattle.wire_commands.specs.declared.reply.Reply.{Reply}
 use Rattle.wire_commands.specs.declared.reply.Reply.TheVariants as replies
-use Rattle.store_model.specs.Lanes.{sync, command_next, lane_next}
+use Rattle.store_model.specs.Lanes.{sync, lane_next}
 use Rattle.store_model.specs.SyncJob.{new_index}
 use Rattle.store_history.specs.declared.act.Act.{Act}
-use Rattle.store_history.specs.declared.act.Act.TheVariants as acts
 use Rattle.store_history.specs.declared.act.Answer.{Answer}
 use Rattle.store_history.specs.declared.act.Event.{Event}
 use Rattle.store_history.specs.Acts.{stepping, reaching, act_of_command, class_of}
 use Rattle.store_history.specs.History.{kind, reply}
 use Rattle.store_history.specs.LaneRun.{Position, next_at, tells, pulls_on, heard_at, heard_by, heard, behind, is_behind, wants, Asks, may_want_at}
-use Rattle.store_history.specs.Pulling.{Pulling, seeking, comparing, starting, reading_manifest, reading_file, opening, reading_chunk, sending_chunk, appending, closing_index, sending_blob, sending_manifest, finishing, rejecting, aborting, SyncJob, reports, asks, act_of, sought, take, take_more, is_ending}
+use Rattle.store_history.specs.Pulling.{Pulling, seeking, comparing, starting, reading_manifest, reading_file, opening, reading_chunk, sending_chunk, appending, closing_index, sending_blob, sending_manifest, finishing, rejecting, aborting, SyncJob, reports, asks, act_of, sought, take, is_ending}
 use Rattle.store_history.specs.SoFar.{goes_further, Follows, Leads}
 use Rattle.store_history.proofs.Ending.{next_shut}
 use Rattle.store_history.proofs.Growing.{leads_more, pulls_on_spent}
@@ -24,12 +21,11 @@ use Rattle.store_history.proofs.Idling.{flagged, heard_idle, asks_idle, further_
 use Rattle.store_history.proofs.Wanting.{wants_pulling}
 use Rattle.core_state.specs.Replies.{may_answer, may_give}
 use Rattle.core_state.specs.History.{History}
-use Rattle.shared_store.specs.Comes.{with_events}
 use Rattle.lane.specs.declared.acts.Told.{Told}
-use Rattle.lane.specs.Acting.{Did, IsRefused, MayTell}
-use Rattle.lane.specs.Doing.{IsNext, answered, Does}
-use Rattle.lane.specs.Pulling.{IsActOf, IsAt, IsFormed, IsSound, IsStopped, HasPulled, PullsOn, left_at}
-use Rattle.lane.proofs.Doing.{leads_then, of_both, read_on}
+use Rattle.lane.specs.Acting.{Did, IsRefused}
+use Rattle.lane.specs.Doing.{IsNext, answered}
+use Rattle.lane.specs.Tasks.{pulls, pull_stage, IsActOf, IsAt, IsSyncNext, MayGoOn, StepsOn, pulling_at}
+use Rattle.lane.proofs.Doing.{read_on}
 use Rattle.lane.proofs.Formed.{IsOn, IsOpen, take_on}
 
 false_true : false ≡ true → ⊥
@@ -72,9 +68,6 @@ heard_open p x a r begun shut says =
     ∙ ap (λ (o : Option Bool). let q = pulls_on p (behind p x (next_at p)) (take x r) in record q { is_out_of_memory = wants (a.entry).kind o; is_spent = a.last || q.is_spent }) shut
     ∙ ap (λ b. record (pulls_on p (behind p x (next_at p)) (take x r)) { is_out_of_memory = (a.entry).kind == MEMORY_KIND; is_spent = a.last || b }) (pulls_on_spent p (behind p x (next_at p)) (take x r))
 
-abbrev pulling_at : Position → List ℕ → Pulling → Bool → Bool → Position
-pulling_at p left x s b = record p { left = left_at p left x; pull = Some x; is_out_of_memory = s; is_spent = b }
-
 -- the input behind it, and that its command is next where it is behind this
 same_next : (p : Position) (left group : List ℕ) (remote : List (List ℕ)) (s b : Bool) → next_at (pulling_at p left (comparing group remote) s b) ≡ next_at p
 unfolding next_at lane_next
@@ -94,13 +87,13 @@ stays_behind p left name (comparing group remote) s b begun is =
 stays_behind p left name x s b begun is = refl
 
 -- where it goes on from there
-open_at : (p : Position) (left : List ℕ) (x : Pulling) (s b t c : Bool) (job : SyncJob) → IsOn job
-    → IsAt p left job t c (record (pulls_on (pulling_at p left x s b) left job) { is_out_of_memory = t; is_spent = c })
+open_at : (p : Position) (left : List ℕ) (x : Pulling) (s b t c : Bool) (job : SyncJob) → IsOn job → IsSyncNext p left
+    → IsAt p left (pull_stage job) t c (record (pulls_on (pulling_at p left x s b) left job) { is_out_of_memory = t; is_spent = c })
 unfolding pulls_on
-open_at p left x s b t c (reports report) on = refl
-open_at p left x s b t c (asks (seeking group)) on = absurd on
-open_at p left x s b t c (asks (comparing group remote)) on = absurd on
-open_at p left x s b t c (asks y) on = refl
+open_at p left x s b t c (reports report) on next = refl
+open_at p left x s b t c (asks (seeking group)) on next = absurd on
+open_at p left x s b t c (asks (comparing group remote)) on next = absurd on
+open_at p left x s b t c (asks y) on next = (refl, next)
 
 index_steps : (l : Layout) (name : List ℕ) → class_of (act_of_command (new_index l name)) ≡ stepping
 index_steps dynamic name = refl
@@ -133,7 +126,7 @@ may_on false e stops = refl
 may_on true e stops = stops refl
 
 open_follows : (p : Position) (left name : List ℕ) (x : Pulling) (s was : Bool) (v : Event) (act : Act) → IsOpen x → p.collecting ≡ None → next_at p ≡ sync name left
-    → (was ≡ true → is_ending x ≡ true) → IsActOf (asks x) act → v.act ≡ act → Follows (class_of v.act) (pulling_at p left x s was) v
+    → (was ≡ true → is_ending x ≡ true) → IsActOf (pulls x) act → v.act ≡ act → Follows (class_of v.act) (pulling_at p left x s was) v
 open_follows p left name x s was v act begun shut is stops (inl of) asks_is = by_class (class_by x)
   where
     asked : v.act ≡ act_of x
@@ -157,50 +150,47 @@ open_led p left name x s was v r begun shut is follows says =
     ∙ ap (λ l. record (pulls_on (pulling_at p left x s was) l (take x r)) { is_out_of_memory = kind v == MEMORY_KIND; is_spent = (v.answer).last || was }) (behind_left p left name x s was begun is))
     (leads_more [] (pulling_at p left x s was) (pulling_at p left x s was) v refl follows)
 
-open_is : (p q : Position) (left : List ℕ) (x : Pulling) (s was : Bool) → IsOpen x → IsAt p left (asks x) s was q → q ≡ pulling_at p left x s was
+open_is : (p q : Position) (left : List ℕ) (x : Pulling) (s was : Bool) → IsOpen x → IsAt p left (pulls x) s was q → (q ≡ pulling_at p left x s was) × IsSyncNext p left
 open_is p q left (seeking group) s was begun at = absurd begun
 open_is p q left x s was begun at = at
 
 -- one act of it
-open_once : (before after : History → Type 0) (k : ℕ) (x : Pulling) (was now : Bool) (act : Act) (told : Told) → IsOpen x → IsActOf (asks x) act → Did before after k act told
-    → now ≡ (told.last || was) → (was ≡ true → IsStopped (asks x)) → IsOn (take x told.reply) → PullsOn before after k (asks x) (take x told.reply) was now
-open_once before after k x was now act told begun of d also stops on = record {
+open_once : (before after : History → Type 0) (k : ℕ) (x : Pulling) (was : Bool) (act : Act) (told : Told) → IsOpen x → IsActOf (pulls x) act → Did before after k act told
+    → (was ≡ true → is_ending x ≡ true) → IsOn (take x told.reply) → StepsOn before after k (pulls x) (pull_stage (take x told.reply)) was (told.last || was)
+open_once before after k x was act told begun of d stops on = record {
   events = d.event ∷ [];
-  is_out_of_memory = kind d.event == 2;
+  wants = λ _. kind d.event == 2;
   history = d.history;
   lanes = (d.lane_is, tt);
-  leads = λ p q group left s next at. led p q group left s next (open_is p q left x s was begun at);
+  leads = λ p q left s at. let o = open_is p q left x s was begun at in led p q left s o.0 o.1;
 }
   where
-    flag : ((d.event).answer).last || was ≡ now
-    flag = ap (λ b. b || was) d.last ∙ sym also
-
-    led : (p q : Position) (group left : List ℕ) (s : Bool) → IsNext (sync group left) p → q ≡ pulling_at p left x s was
-        → (r : Position) × (Leads q (d.event ∷ []) r × IsAt p left (take x told.reply) (kind d.event == 2) now r)
-    led p q group left s next at =
-        let shut = next_shut p (sync group left) next.next refl in
-        let follows = open_follows p left group x s was d.event act begun shut next.next stops of d.asks in
-        let r = record (pulls_on (pulling_at p left x s was) left (take x told.reply)) { is_out_of_memory = kind d.event == 2; is_spent = now } in (
-          r,
+    led : (p q : Position) (left : List ℕ) (s : Bool) → q ≡ pulling_at p left x s was → IsSyncNext p left
+        → (r : Position) × (Leads q (d.event ∷ []) r × IsAt p left (pull_stage (take x told.reply)) (kind d.event == 2) (told.last || was) r)
+    led p q left s at next =
+        let group = next.0 in
+        let shut = next_shut p (sync group left) (next.1).next refl in
+        let follows = open_follows p left group x s was d.event act begun shut (next.1).next stops of d.asks in
+        let r : Bool → Position = λ b. record (pulls_on (pulling_at p left x s was) left (take x told.reply)) { is_out_of_memory = kind d.event == 2; is_spent = b } in (
+          r (told.last || was),
           (
-            subst (λ b. Leads q (d.event ∷ []) (record (pulls_on (pulling_at p left x s was) left (take x told.reply)) { is_out_of_memory = kind d.event == 2; is_spent = b })) flag
-                (subst (λ y. Leads y (d.event ∷ []) (record (pulls_on (pulling_at p left x s was) left (take x told.reply)) { is_out_of_memory = kind d.event == 2; is_spent = ((d.event).answer).last || was }))
-                (sym at) (open_led p left group x s was d.event told.reply begun shut next.next follows d.tells)),
-            open_at p left x s was (kind d.event == 2) now (take x told.reply) on,
+            subst (λ b. Leads q (d.event ∷ []) (r b)) (ap (λ b. b || was) d.last)
+                (subst (λ y. Leads y (d.event ∷ []) (r (((d.event).answer).last || was))) (sym at) (open_led p left group x s was d.event told.reply begun shut (next.1).next follows d.tells)),
+            open_at p left x s was (kind d.event == 2) (told.last || was) (take x told.reply) on next,
           ),
         )
 
 -- ---- its first act
 
 first_follows : (p : Position) (group left : List ℕ) (v : Event) (act : Act) → p.pull ≡ None → p.is_spent ≡ false → next_at p ≡ sync group left → may_want_at p ≡ true
-    → IsActOf (asks (seeking group)) act → v.act ≡ act → Follows (class_of v.act) p v
+    → IsActOf (pulls (seeking group)) act → v.act ≡ act → Follows (class_of v.act) p v
 first_follows p group left v act idle on is may (inl of) asks_is =
     subst (λ c. Follows c p v) (sym (ap class_of (asks_is ∙ of))) (on, asks_idle p (next_at p) v.act idle (subst (λ n. Asks n v.act) (sym is) (asks_is ∙ of)))
 first_follows p group left v act idle on is may (inr want) asks_is =
     subst (λ c. Follows c p v) (sym (ap class_of (asks_is ∙ want.0))) (on, may, further_idle p (next_at p) idle (ap goes_further is))
 
 -- what is no read's reply is refused
-first_refused : (group : List ℕ) (act : Act) (r : Reply) → IsActOf (asks (seeking group)) act → IsTrue (may_answer act r) ⊎ IsRefused r → IsRefused r
+first_refused : (group : List ℕ) (act : Act) (r : Reply) → IsActOf (pulls (seeking group)) act → IsTrue (may_answer act r) ⊎ IsRefused r → IsRefused r
 first_refused group act r of (inr refused) = refused
 first_refused group act (replies.Refused refusal) of (inl may) = tt
 first_refused group act r (inl is) (inl may) = absurd (false_true (subst (λ a. IsTrue (may_answer a r)) is may))
@@ -212,143 +202,70 @@ refused_reports group (replies.Refused refusal) refused = refl
 refused_reports group r refused = absurd refused
 
 -- what a read's reply is, is no refusal
-first_keys : (group : List ℕ) (act : Act) (r : Reply) → IsActOf (asks (seeking group)) act → IsTrue (may_give act r) → (remote : List (List ℕ)) × (r ≡ replies.Keys remote)
+first_keys : (group : List ℕ) (act : Act) (r : Reply) → IsActOf (pulls (seeking group)) act → IsTrue (may_give act r) → (remote : List (List ℕ)) × (r ≡ replies.Keys remote)
 first_keys group act (replies.Keys remote) of may = (remote, refl)
 first_keys group act r (inl is) may = absurd (false_true (subst (λ a. IsTrue (may_give a r)) is may))
 first_keys group act r (inr is) may = absurd (false_true (subst (λ a. IsTrue (may_give a r)) is.0 may))
 
-keys_at : (p : Position) (group left : List ℕ) (r : Reply) (t c : Bool) → (remote : List (List ℕ)) × (r ≡ replies.Keys remote)
-    → IsAt p left (sought group r) t c (record (pulls_on p p.left (sought group r)) { is_out_of_memory = t; is_spent = c })
+keys_at : (p : Position) (group left : List ℕ) (r : Reply) (t c : Bool) → IsNext (sync group left) p → (remote : List (List ℕ)) × (r ≡ replies.Keys remote)
+    → IsAt p left (pull_stage (sought group r)) t c (record (pulls_on p p.left (sought group r)) { is_out_of_memory = t; is_spent = c })
 unfolding sought pulls_on
-keys_at p group left r t c (remote, is) =
-    subst (λ x. IsAt p left (sought group x) t c (record (pulls_on p p.left (sought group x)) { is_out_of_memory = t; is_spent = c })) (sym is) refl
+keys_at p group left r t c next (remote, is) =
+    subst (λ x. IsAt p left (pull_stage (sought group x)) t c (record (pulls_on p p.left (sought group x)) { is_out_of_memory = t; is_spent = c })) (sym is) (refl, (group, next))
 
-first_once : (before after : History → Type 0) (k : ℕ) (group : List ℕ) (was now : Bool) (act : Act) (told : Told) → IsActOf (asks (seeking group)) act → Did before after k act told
-    → now ≡ (told.last || was) → PullsOn before after k (asks (seeking group)) (take (seeking group) told.reply) was now
+first_once : (before after : History → Type 0) (k : ℕ) (group : List ℕ) (was : Bool) (act : Act) (told : Told) → IsActOf (pulls (seeking group)) act → Did before after k act told
+    → StepsOn before after k (pulls (seeking group)) (pull_stage (take (seeking group) told.reply)) was (told.last || was)
 unfolding take
-first_once before after k group was now act told of d also = record {
+first_once before after k group was act told of d = record {
   events = d.event ∷ [];
-  is_out_of_memory = kind d.event == 2;
+  wants = λ _. kind d.event == 2;
   history = d.history;
   lanes = (d.lane_is, tt);
-  leads = λ p q name left s next at. led p q name left next at.0 at.1 at.2;
+  leads = λ p q left s at. led p q left at.0 at.1 at.2;
 }
   where
-    led : (p q : Position) (name left : List ℕ) → IsNext (sync name left) p → q ≡ p → was ≡ false → next_at p ≡ sync group left
-        → (r : Position) × (Leads q (d.event ∷ []) r × IsAt p left (sought group told.reply) (kind d.event == 2) now r)
-    led p q name left next same none is = by_kind (kind d.event == 1) refl
+    led : (p q : Position) (left : List ℕ) → q ≡ p → was ≡ false → IsNext (sync group left) p
+        → (r : Position) × (Leads q (d.event ∷ []) r × IsAt p left (pull_stage (sought group told.reply)) (kind d.event == 2) (told.last || was) r)
+    led p q left same none next = by_kind (kind d.event == 1) refl
       where
         on : p.is_spent ≡ false
-        on = read_on p (sync name left) next.idle next.next refl next.on
+        on = read_on p (sync group left) next.idle next.next refl next.on
 
         follows : Follows (class_of (d.event).act) p d.event
-        follows = first_follows p group left d.event act next.idle on is (next.wants tt refl) of d.asks
+        follows = first_follows p group left d.event act next.idle on next.next (next.wants tt refl) of d.asks
 
-        flag : ((d.event).answer).last || p.is_spent ≡ now
-        flag = ap (λ b. b || p.is_spent) d.last ∙ ap (λ b. told.last || b) (on ∙ sym none) ∙ sym also
+        flag : ((d.event).answer).last || p.is_spent ≡ told.last || was
+        flag = ap (λ b. b || p.is_spent) d.last ∙ ap (λ b. told.last || b) (on ∙ sym none)
 
         heard_led : Leads q (d.event ∷ []) (heard p (d.event).answer)
         heard_led = subst (λ y. Leads y (d.event ∷ []) (heard p (d.event).answer)) (sym same) (leads_more [] p p d.event refl follows)
 
-        by_kind : (b : Bool) → (kind d.event == 1) ≡ b → (r : Position) × (Leads q (d.event ∷ []) r × IsAt p left (sought group told.reply) (kind d.event == 2) now r)
+        by_kind : (b : Bool) → (kind d.event == 1) ≡ b
+            → (r : Position) × (Leads q (d.event ∷ []) r × IsAt p left (pull_stage (sought group told.reply)) (kind d.event == 2) (told.last || was) r)
         by_kind true one =
             let keys = first_keys group act told.reply of (d.gave (eqb-true (kind d.event) 1 one)) in
-            let r = record (pulls_on p p.left (sought group told.reply)) { is_out_of_memory = kind d.event == 2; is_spent = now } in (
-              r,
+            let r : Bool → Position = λ b. record (pulls_on p p.left (sought group told.reply)) { is_out_of_memory = kind d.event == 2; is_spent = b } in (
+              r (told.last || was),
               (
-                subst (λ b. Leads q (d.event ∷ []) (record (pulls_on p p.left (sought group told.reply)) { is_out_of_memory = kind d.event == 2; is_spent = b })) flag
-                    (subst (λ y. Leads q (d.event ∷ []) y) (heard_keys p group left (d.event).answer told.reply next.idle is d.tells one) heard_led),
-                keys_at p group left told.reply (kind d.event == 2) now keys,
+                subst (λ b. Leads q (d.event ∷ []) (r b)) flag
+                    (subst (λ y. Leads q (d.event ∷ []) y) (heard_keys p group left (d.event).answer told.reply next.idle next.next d.tells one) heard_led),
+                keys_at p group left told.reply (kind d.event == 2) (told.last || was) next keys,
               ),
             )
         by_kind false other =
             let refused = first_refused group act told.reply of (d.other (eqb-false (kind d.event) 1 other)) in (
-              answered p left told.reply (kind d.event == 2) now,
+              answered p left told.reply (kind d.event == 2) (told.last || was),
               (
                 subst (λ b. Leads q (d.event ∷ []) (answered p left told.reply (kind d.event == 2) b)) flag
-                    (subst (λ y. Leads q (d.event ∷ []) y) (heard_refused p group left (d.event).answer told.reply next.idle is d.tells other) heard_led),
-                subst (λ job. IsAt p left job (kind d.event == 2) now (answered p left told.reply (kind d.event == 2) now)) (sym (refused_reports group told.reply refused)) refl,
+                    (subst (λ y. Leads q (d.event ∷ []) y) (heard_refused p group left (d.event).answer told.reply next.idle next.next d.tells other) heard_led),
+                subst (λ job. IsAt p left (pull_stage job) (kind d.event == 2) (told.last || was) (answered p left told.reply (kind d.event == 2) (told.last || was)))
+                    (sym (refused_reports group told.reply refused)) refl,
               ),
             )
 
 -- ---- any of its acts
 
-pulls_by : (before after : History → Type 0) (k : ℕ) (x : Pulling) (was now : Bool) (act : Act) (told : Told) → IsActOf (asks x) act → Did before after k act told
-    → now ≡ (told.last || was) → (was ≡ true → IsStopped (asks x)) → IsFormed x → PullsOn before after k (asks x) (take x told.reply) was now
-pulls_by before after k (seeking name) was now act told of d also stops formed = first_once before after k name was now act told of d also
-pulls_by before after k x was now act told of d also stops formed =
-    open_once before after k x was now act told tt of d also stops (take_on x told.reply tt formed)
-
-pub pulls_once : (before after : History → Type 0) (k : ℕ) (job new : SyncJob) (was now : Bool) (act : Act) (told : Told) → IsActOf job act → Did before after k act told
-    → new ≡ take_more job told.reply → now ≡ (told.last || was) → (was ≡ true → IsStopped job) → IsSound job → PullsOn before after k job new was now
-pulls_once before after k (reports report) new was now act told of d is also stops sound = absurd of
-pulls_once before after k (asks x) new was now act told of d is also stops sound =
-    subst (λ job. PullsOn before after k (asks x) job was now) (sym is) (pulls_by before after k x was now act told of d also stops sound)
-
--- one behind another
-pub pulls_then : (before between after : History → Type 0) (k : ℕ) (a b c : SyncJob) (u v w : Bool) → PullsOn before between k a b u v → PullsOn between after k b c v w
-    → PullsOn before after k a c u w
-pulls_then before between after k a b c u v w x y = record {
-  events = x.events ++ y.events;
-  is_out_of_memory = y.is_out_of_memory;
-  history = λ h at. subst (λ es. after (with_events h es)) (append_assoc h.events x.events y.events) (y.history (with_events h (h.events ++ x.events)) (x.history h at));
-  lanes = of_both k x.events y.events x.lanes y.lanes;
-  leads = λ p q group left s next at.
-      let r = x.leads p q group left s next at in
-      let t = y.leads p r.0 group left x.is_out_of_memory next r.1.1 in
-      (t.0, (leads_then x.events y.events q r.0 t.0 r.1.0 t.1.0, t.1.1));
-}
-
-pub pulled_on : (before between after : History → Type 0) (k : ℕ) (group : List ℕ) (job new : SyncJob) (was now : Bool) → HasPulled before between k group job was
-    → PullsOn between after k job new was now → HasPulled before after k group new now
-pulled_on before between after k group job new was now s x = record {
-  events = s.events ++ x.events;
-  is_out_of_memory = x.is_out_of_memory;
-  history = λ h at. subst (λ es. after (with_events h es)) (append_assoc h.events s.events x.events) (x.history (with_events h (h.events ++ s.events)) (s.history h at));
-  lanes = of_both k s.events x.events s.lanes x.lanes;
-  leads = λ p left next.
-      let q = s.leads p left next in
-      let r = x.leads p q.0 group left s.is_out_of_memory next q.1.1 in
-      (r.0, (leads_then s.events x.events p q.0 r.0 q.1.0 r.1.0, r.1.1));
-}
-
--- ---- its beginning and its end
-
-pub pulled_none : (before : History → Type 0) (k : ℕ) (group : List ℕ) → HasPulled before before k group (asks (seeking group)) false
-pulled_none before k group = record {
-  events = [];
-  is_out_of_memory = false;
-  history = λ h at. subst (λ es. before (with_events h es)) (sym (append-nil h.events)) at;
-  lanes = tt;
-  leads = λ p left next. (p, (refl, (refl, refl, next.next)));
-}
-
--- one that is over was told
-pub pulled_told : (before after : History → Type 0) (k : ℕ) (group : List ℕ) (job : SyncJob) (told : Told) → HasPulled before after k group job told.last → job ≡ reports told.reply
-    → Does before after k (command_next (commands.Sync group)) told
-unfolding command_next
-pulled_told before after k group job told s is = record {
-  events = s.events;
-  is_out_of_memory = s.is_out_of_memory;
-  history = s.history;
-  lanes = s.lanes;
-  leads = λ p left next.
-      let q = s.leads p left next in
-      subst (λ y. Leads p s.events y) (subst (λ j. IsAt p left j s.is_out_of_memory told.last q.0) is q.1.1) q.1.0;
-}
-
--- memory was wanting for it from the beginning
-pub pulled_short : (before after : History → Type 0) (k : ℕ) (group : List ℕ) (told : Told) → Did before after k acts.Short told → MayTell acts.Short told
-    → Does before after k (command_next (commands.Sync group)) told
-unfolding take sought
-pulled_short before after k group told d may =
-    let want : told.reply ≡ replies.Refused NoMemory = may.want (inl refl) in
-    pulled_told before after k group (take_more (asks (seeking group)) told.reply) told
-    (pulled_on before before after k group (asks (seeking group)) (take_more (asks (seeking group)) told.reply) false told.last (pulled_none before k group)
-    (pulls_once before after k (asks (seeking group)) (take_more (asks (seeking group)) told.reply) false told.last acts.Short told (inr (refl, refl)) d refl (or_none told.last)
-    (λ last. absurd (false_true last)) tt))
-    (ap (λ r. take_more (asks (seeking group)) r) want ∙ ap (λ r. reports r) (sym want))
-  where
-    or_none : (b : Bool) → b ≡ (b || false)
-    or_none true = refl
-    or_none false = refl
+pub pulls_once : (before after : History → Type 0) (k : ℕ) (x : Pulling) (was : Bool) (act : Act) (told : Told) → IsActOf (pulls x) act → Did before after k act told
+    → MayGoOn (pulls x) was → StepsOn before after k (pulls x) (pull_stage (take x told.reply)) was (told.last || was)
+pulls_once before after k (seeking name) was act told of d on = first_once before after k name was act told of d
+pulls_once before after k x was act told of d on = open_once before after k x was act told tt of d on.stops (take_on x told.reply tt on.sound)

@@ -15,8 +15,10 @@ use Rattle.wire_commands.specs.Inputs as inputs
 use Rattle.wire_commands.specs.Inputs.{InputFront, front}
 use Rattle.store_model.specs.declared.ending.Ending.{Ending}
 use Rattle.store_model.specs.declared.ending.Ending.TheVariants as endings
-use Rattle.store_model.specs.Job.{grouping, opening, Job, over}
+use Rattle.store_model.specs.Job.{Job, over}
 use Rattle.store_model.specs.Jobs.{take}
+use Rattle.store_model.specs.PruneJob as prune
+use Rattle.store_model.specs.VerifyJob as verify
 use Rattle.store_model.specs.Lanes.{Next, job_step, plain, sync, collect, collecting, bye, broken, end, front_next, command_next}
 use Rattle.store_history.specs.declared.act.Answer.{Answer}
 use Rattle.store_history.specs.declared.act.Event.{Event}
@@ -47,7 +49,6 @@ use Rattle.lane.proofs.Pulls.{heard_refused}
 use Rattle.lane.proofs.AtOnce.{given_but_one, gave_but_one, leads_then_one, leads_to, wanted_after}
 use Rattle.lane.proofs.Entries.{first_true, second_true}
 use Rattle.lane.proofs.Fronts.{part_wants}
-use Rattle.lane.proofs.Stepping.{EndsByWant, want_first}
 use Rattle.lane.proofs.Turning.{nothing_taken, at_next, gave_more, taken_on, leads_further, no_words}
 
 -- ---- a command, or a job
@@ -204,13 +205,13 @@ told_short p q left r s b shut flag h = record {
 
 -- the job that a command begins ends by want of memory
 abbrev FirstNext : Next → Type 0
-FirstNext (job_step j left) = EndsByWant j
+FirstNext (job_step j left) = take j (Refused NoMemory) ≡ over (Refused NoMemory)
 FirstNext n = Unit {0}
 
 command_first : (c : Command) (left : List ℕ) → FirstNext (command_next c left)
-unfolding command_next
-command_first (commands.Prune group keep dry) left = want_first (commands.Prune group keep dry) (grouping (commands.Prune group keep dry) keep dry) refl
-command_first (commands.Verify snapshot) left = want_first (commands.Verify snapshot) (opening snapshot) refl
+unfolding command_next take prune.grouped verify.opened
+command_first (commands.Prune group keep dry) left = refl
+command_first (commands.Verify snapshot) left = refl
 command_first c left = tt
 
 front_first : (n : ℕ) (f : InputFront) → FirstNext (front_next n f)

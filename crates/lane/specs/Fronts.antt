@@ -27,14 +27,6 @@ abbrev pub is_gc : Command → Bool
 is_gc commands.Gc = true
 is_gc c = false
 
--- a command of one act, or a SYNC
-abbrev pub IsAlone : Command → Type 0
-IsAlone (commands.Prune group keep dry) = ⊥
-IsAlone (commands.Verify snapshot) = ⊥
-IsAlone commands.Gc = ⊥
-IsAlone commands.Bye = ⊥
-IsAlone c = Unit {0}
-
 -- a job's command
 abbrev pub IsJobs : Command → Type 0
 IsJobs (commands.Prune group keep dry) = Unit {0}

@@ -6,9 +6,9 @@ pub mod Acting
 pub mod AtOnce
 pub mod Ran
 pub mod Doing
-pub mod Stepping
-pub mod Collecting
 pub mod Pulling
+pub mod Tasks
+pub mod Sweeping
 pub mod Progress
 pub mod Closing
 pub mod Turns

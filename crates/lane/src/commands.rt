@@ -11,6 +11,7 @@ use blob_codec::decode;
 use core_state::Act;
 use std::alloc::Global;
 use store_types::{Bytes, Digest32, Refusal};
+use turn_lock::{Replays, Turn};
 use wire_commands::Command;
 use wire_frames::Cutter;
 
@@ -78,7 +79,7 @@ fn check(blob: Bytes) -> Result<Bytes, Refusal>
 }
 
 /// The first refusal of a chunk's upload: the bytes are no blob, the piece in them is empty, or it has another digest.
-fn test_chunk(digest: Digest32, blob: &[u8]) -> Result<(), Refusal>
+fn test_chunk<T: Replays>(turn: &Turn<T>, digest: Digest32, blob: &[u8]) -> Result<(), Refusal>
     ensures { TestsChunk digest blob.now result }
 {
     let piece = match decode(blob) {
@@ -88,7 +89,7 @@ fn test_chunk(digest: Digest32, blob: &[u8]) -> Result<(), Refusal>
     if piece.is_empty() {
         return Err(Refusal::WrongSize { place: 0, size: 0 });
     }
-    let found = hash_of(piece);
+    let found = hash_of(turn, piece);
     if found != digest {
         return Err(Refusal::WrongDigest { found });
     }
@@ -96,10 +97,10 @@ fn test_chunk(digest: Digest32, blob: &[u8]) -> Result<(), Refusal>
 }
 
 /// The bytes of a chunk's upload, where they are the blob of a piece with this digest, or the refusal of their check.
-fn check_chunk(digest: Digest32, blob: Bytes) -> Result<Bytes, Refusal>
+fn check_chunk<T: Replays>(turn: &Turn<T>, digest: Digest32, blob: Bytes) -> Result<Bytes, Refusal>
     ensures { result ≡ checked_by blob (piece_of digest blob) }
 {
-    match test_chunk(digest, blob.as_slice()) {
+    match test_chunk(turn, digest, blob.as_slice()) {
         Ok(()) => Ok(blob),
         Err(refusal) => Err(refusal),
     }
@@ -120,8 +121,8 @@ pub fn is_gc(command: &Command) -> bool
 }
 
 /// The act for a command, or for the first step of a job's. An upload is checked here, and not in the act. Its bytes are
-/// moved, not copied.
-pub fn act_of(command: Command) -> Act
+/// moved, not copied. While it is hashed, other lanes run.
+pub fn act_of<T: Replays>(turn: &Turn<T>, command: Command) -> Act
     ensures { result ≡ act_of_command command }
 {
     match command {
@@ -131,7 +132,7 @@ pub fn act_of(command: Command) -> Act
         },
         Command::Chunk { digest, blob } => Act::Chunk {
             digest,
-            checked: check_chunk(digest, blob),
+            checked: check_chunk(turn, digest, blob),
         },
         Command::Prune { group, keep, dry } => Act::JobGroup(Command::Prune { group, keep, dry }),
         command => Act::Plain(command),

@@ -11,6 +11,7 @@ mod jobs;
 mod port;
 mod pulling;
 mod run;
+mod task;
 
 pub use port::{LaneReport, Port};
 pub use run::{run_lane, run_with};

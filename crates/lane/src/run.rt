@@ -7,22 +7,23 @@ ghost use Rattle.shared_store.specs.Comes.{CanAct, HasCome};
 ghost use Rattle.lane.specs.Acting.{SeatAnswersShort};
 ghost use Rattle.lane.specs.Causes.{LaneHasCauses, SinkHasCauses};
 ghost use Rattle.lane.specs.Doing.{SeatDoes};
-ghost use Rattle.lane.specs.Fronts.{IsAlone, IsCommandAhead};
+ghost use Rattle.lane.specs.Fronts.{IsCommandAhead};
 ghost use Rattle.lane.specs.Ran.{SeatRan};
 ghost use Rattle.lane.specs.Turns.{HasEnded, IsFurther, SeatGoesOn, TurnHasCauses, broken_at};
 ghost use Rattle.wire_frames.specs.Frames.{short, cut};
 
 use crate::acts::{Told, ask};
-use crate::collecting::collect;
+use crate::collecting::Collection;
 use crate::commands::{Ahead, act_of, is_gc, is_job, read_front};
 use crate::ending::{Last, close};
 use crate::input::{Input, Taken};
-use crate::jobs::do_job;
 use crate::port::{LaneReport, Port};
-use crate::pulling::pull;
+use crate::task::do_task;
 use core_state::{Act, Core};
 use disk_trait::Disk;
+use job_steps::Job;
 use port_traits::{Clock, Gate, Sink, Source};
+use pull_steps::Pull;
 use shared_store::{Origin, Seat, Shared};
 use std::alloc::Global;
 use std::sync::Wait;
@@ -306,34 +307,25 @@ fn do_command<R: Threads + Wait + Sync, D: Disk, E: Disk, C: Clock, N: Origin<Co
     ensures can { CanAct shared.now.turn.id seat.new }
 {
     if is_job(&command) {
-        return do_job(rt, alloc, shared, seat, lane, &command);
+        let job = Job::start(alloc, &command);
+        return do_task(rt, alloc, shared, seat, lane, &command, job);
     }
     if is_gc(&command) {
-        return collect(rt, alloc, shared, seat, lane);
+        return do_task(
+            rt,
+            alloc,
+            shared,
+            seat,
+            lane,
+            &command,
+            Ok(Collection::new()),
+        );
     }
-    do_alone(rt, alloc, shared, seat, lane, command)
-}
-
-/// Does a SYNC, or a command of one act.
-fn do_alone<R: Wait, D: Disk, E: Disk, C: Clock, N: Origin<Core<D, E, C>>>(
-    rt: &R,
-    alloc: Global,
-    shared: &Shared<D, E, C, N>,
-    seat: &mut Seat<D, E, C, N>,
-    lane: u32,
-    command: Command,
-) -> Told
-    requires lane { lane < 64 }
-    requires can { CanAct shared.now.turn.id seat.old }
-    requires alone { IsAlone command }
-    ensures does { SeatDoes seat.old seat.new lane command result }
-    ensures text { ReplyHasText result.reply }
-    ensures can { CanAct shared.now.turn.id seat.new }
-{
-    match command {
-        Command::Sync { group } => pull(rt, alloc, shared, seat, lane, group),
-        command => ask(rt, alloc, shared, seat, lane, act_of(command)),
+    if let Command::Sync { group } = &command {
+        let pull = Pull::start(alloc, group.as_slice());
+        return do_task(rt, alloc, shared, seat, lane, &command, pull);
     }
+    ask(rt, alloc, shared, seat, lane, act_of(&shared.turn, command))
 }
 
 /// Answers want of memory, which ends the commands.

@@ -1,5 +1,0 @@
-use Rattle.lane.proofs.Stepping.{act_wants}
-use Rattle.lane.proofs.jobs.next_act.Goals as goal
-
-pub returns-in-Err : goal.returns-in-Err
-returns-in-Err c = act_wants c.args.job.now c.requires (c.in-Err.ensures.memory).0 (c.in-Err.ensures.memory).1
