@@ -1,11 +1,11 @@
 //! The opening of an index, page by page.
 
-ghost use Rattle.std.specs.Prelude.{◌≡◌, ◌<◌, ◌≤◌, ◌+◌, ℕ, [], length, IfOk, OnOk, IsErrOf};
+ghost use Rattle.std.specs.Prelude.{◌≡◌, ◌<◌, ◌≤◌, ◌+◌, ◌*◌, ℕ, [], length, IfOk, OnOk, IsErrOf};
 ghost use Rattle.disk_trait.specs.Disk.{TicksOnce};
 ghost use Rattle.disk_trait.specs.Effects.{OnlyReads};
 ghost use Rattle.index_pages.specs.declared.fault.PageFault.TheVariants.{Failed as ReadFailed};
 ghost use Rattle.index_pages.specs.Opening.{AreBytes, Begins, ClosesAt, NotesPage, TakesPage};
-ghost use Rattle.index_pages.specs.Paged.{IsWidth, page_count};
+ghost use Rattle.index_pages.specs.Paged.{IsWidth, entries_at, page_count};
 
 use crate::pages::entries_in;
 use crate::{HEADER_SIZE, PAGE_ENTRIES, Page, PageFault};
@@ -60,6 +60,7 @@ impl Opening {
         ensures takes { TakesPage D.Disk disk.old name.now width count i self.old self.new room.new result }
         // on any disk
         ensures len { OnOk result (length self.new.sums.items ≡ length self.old.sums.items + 1) }
+        ensures size { OnOk result (length room.new ≡ entries_at count i * width) }
     {
         let start = HEADER_SIZE + u64::from(i) * (PAGE_ENTRIES * width) as u64;
         let len = entries_in(count, i) * width;

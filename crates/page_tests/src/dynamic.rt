@@ -1,12 +1,15 @@
 //! Dynamic indexes.
 
 use crate::asserts::{must, same, same_at};
-use crate::fixtures::{NAME, changed, disk_with, failing_at, front, header, put, summed, zeros};
+use crate::fixtures::{
+    Counted, NAME, changed, disk_with, failing_at, front, header, put, summed, zeros,
+};
 use disk_trait::{Disk, MemoryDisk};
 use dynamic_index::DynamicView;
-use paged_indexes::{DynamicPages, IndexFault, Page, PageFault};
+use paged_indexes::{DynamicPages, IndexEntry, IndexFault, IndexKind, IndexPages, Page, PageFault};
 use std::alloc::Global;
 use std::process::Abort;
+use store_types::Digest32;
 
 const MAGIC: &[u8] = b"\x1c\x91\x4e\xa5\x19\xba\xb3\xcd";
 
@@ -82,6 +85,31 @@ fn no_entries_make_no_page(rt: HostRuntime) {
     );
     let mut room = must(&rt, Page::new(alloc));
     same(&rt, pages.chunk_at(&mut disk, &mut room, 0), Ok(None));
+}
+
+#[test]
+fn entries_are_handed_on(rt: HostRuntime) {
+    let alloc = rt.alloc();
+    let mut disk = disk_with(&rt, alloc, &index_of(&rt, alloc, 1025));
+    let mut taker = Counted {
+        count: 0,
+        last: None,
+    };
+    let kind = IndexKind::Dynamic;
+    let pages = must(
+        &rt,
+        IndexPages::open_into(&mut disk, alloc, NAME, kind, &mut taker),
+    );
+    same(
+        &rt,
+        (pages.len(), pages.page_count(), pages.size()),
+        (1025, 2, 3075),
+    );
+    let entry = IndexEntry {
+        digest: Digest32([9; 32]),
+        end: 3075,
+    };
+    same(&rt, (taker.count, taker.last), (1025, Some((3072, entry))));
 }
 
 /// What is told of both pages of an index of 1,025 entries once another text stands in its place.

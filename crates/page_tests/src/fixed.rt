@@ -1,12 +1,15 @@
 //! Fixed indexes.
 
 use crate::asserts::{must, same, same_at};
-use crate::fixtures::{NAME, changed, disk_with, failing_at, front, header, put, summed, zeros};
+use crate::fixtures::{
+    Counted, NAME, changed, disk_with, failing_at, front, header, put, summed, zeros,
+};
 use disk_trait::{Disk, MemoryDisk};
 use fixed_index::FixedView;
-use paged_indexes::{FixedPages, IndexFault, Page, PageFault};
+use paged_indexes::{FixedPages, IndexEntry, IndexFault, IndexKind, IndexPages, Page, PageFault};
 use std::alloc::Global;
 use std::process::Abort;
+use store_types::Digest32;
 
 const MAGIC: &[u8] = b"\x2f\x7f\x41\xed\x91\xfd\x0f\xcd";
 
@@ -75,6 +78,35 @@ fn pages_of_1024_and_the_rest(rt: HostRuntime) {
     );
     same(&rt, text.get(PAGE_ONE..), Some(room.as_slice()));
     same(&rt, told(&pages, &mut disk, &mut room, 2), None);
+}
+
+#[test]
+fn entries_are_handed_on(rt: HostRuntime) {
+    let alloc = rt.alloc();
+    let mut disk = disk_with(&rt, alloc, &whole_index(&rt, alloc));
+    let mut taker = Counted {
+        count: 0,
+        last: None,
+    };
+    let kind = IndexKind::Fixed;
+    let pages = must(
+        &rt,
+        IndexPages::open_into(&mut disk, alloc, NAME, kind, &mut taker),
+    );
+    same(
+        &rt,
+        (pages.len(), pages.page_count(), pages.size()),
+        (1025, 2, SIZE),
+    );
+    let entry = IndexEntry {
+        digest: Digest32([9; 32]),
+        end: SIZE,
+    };
+    same(
+        &rt,
+        (taker.count, taker.last),
+        (1025, Some((4_194_304, entry))),
+    );
 }
 
 #[test]

@@ -2,8 +2,9 @@
 
 use crate::asserts::must;
 use disk_trait::{Disk, FailingDisk, MemoryDisk};
+use paged_indexes::{IndexEntry, TakesEntries};
 use sha2::{Digest, Sha256};
-use std::alloc::Global;
+use std::alloc::{AllocError, Global};
 use std::process::Abort;
 
 /// Where the index stands.
@@ -63,4 +64,21 @@ pub(crate) fn failing_at(
 ) -> FailingDisk<MemoryDisk> {
     let plan = must(rt, Vec::from_slice(alloc, &[number]));
     FailingDisk::at_calls(disk_with(rt, alloc, text), plan)
+}
+
+/// What takes an index's entries and counts them: how many there were, where the last one's piece begins, and it.
+#[derive(Drop)]
+pub(crate) struct Counted {
+    pub(crate) count: u32,
+    pub(crate) last: Option<(u64, IndexEntry)>,
+}
+
+impl TakesEntries for Counted {
+    ghost taken = { λ _ _ _. Unit {0} };
+
+    fn take(&mut self, start: u64, entry: &IndexEntry) -> Result<(), AllocError> {
+        self.count = self.count.saturating_add(1);
+        self.last = Some((start, *entry));
+        Ok(())
+    }
 }

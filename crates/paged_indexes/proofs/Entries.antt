@@ -10,7 +10,7 @@ use Rattle.index_pages.specs.Opening.{page_of}
 use Rattle.index_pages.specs.Paged.{entries_at, page_count}
 use Rattle.index_pages.proofs.Cutting.{length-cells}
 use Rattle.paged_indexes.specs.Steps.{entries_of}
-use Rattle.paged_indexes.proofs.Cells.{page_cells}
+use Rattle.paged_indexes.proofs.Cells.{counted, page_cells}
 
 pub entries_more : (rest : List ℕ) → 40 ≤ length rest → entries_of rest ≡ entry_of (take 40 rest) ∷ entries_of (drop 40 rest)
 unfolding first_cells
@@ -75,6 +75,10 @@ page_entries_are count i body len below =
     ∙ ap (take 1024) (sym (drop-map entry_of (i * 1024) (cells 40 body)))
 
 -- how many there are
+pub entries_count : (count : ℕ) (bytes : List ℕ) → length bytes ≡ count * 40 → length (entries_of bytes) ≡ count
+entries_count count bytes len =
+    length-map (cells 40 bytes) entry_of ∙ length-cells 40 (length bytes / 40) bytes ∙ counted 40 count (length bytes) (inr refl) len
+
 pub count_is : (text : List ℕ) → (length text - 4096) / 40 ≡ length (fields_of text).entries
 count_is text =
     sym (length-map (cells 40 (drop 4096 text)) entry_of ∙ length-cells 40 (length (drop 4096 text) / 40) (drop 4096 text) ∙ ap (λ n. n / 40) (length-drop 4096 text))

@@ -1,8 +1,11 @@
 pub mod Cells
 pub mod Entries
 pub mod Stepping
+pub mod Handed
+pub mod Cutting
 pub mod Joined
 pub mod Opened
 pub mod Halving
 pub mod Standing
 pub mod Finding
+pub mod Indexing

@@ -38,12 +38,12 @@ stepped_none start (x ∷ xs) ys e = none_if (is_step start x.end) (stepped x.en
 some_is : (a b : ℕ) → Some a ≡ Some b → a ≡ b
 some_is a b e = cc
 
-stepped_some : (start end : ℕ) (xs ys : List Ended) → stepped start xs ≡ Some end → stepped start (xs ++ ys) ≡ stepped end ys
+pub stepped_some : (start end : ℕ) (xs ys : List Ended) → stepped start xs ≡ Some end → stepped start (xs ++ ys) ≡ stepped end ys
 stepped_some start end [] ys e = ap (λ n. stepped n ys) (some_is start end e)
 stepped_some start end (x ∷ xs) ys e =
     some_if (is_step start x.end) (stepped x.end xs) (stepped x.end (xs ++ ys)) (stepped end ys) end e (stepped_some x.end end xs ys)
 
-stepped_fits : (start : ℕ) (xs : List Ended) → steps_fit start xs ≡ is_some (stepped start xs)
+pub stepped_fits : (start : ℕ) (xs : List Ended) → steps_fit start xs ≡ is_some (stepped start xs)
 stepped_fits start [] = refl
 stepped_fits start (x ∷ xs) = fits_if (is_step start x.end) (steps_fit x.end xs) (stepped x.end xs) (stepped_fits x.end xs)
 
@@ -60,7 +60,7 @@ last_if : (b : Bool) (o : Option ℕ) (n end : ℕ) → cond b o None ≡ Some e
 last_if true o n end e f = f e
 last_if false o n end e f = cc
 
-stepped_last : (start end : ℕ) (xs : List Ended) → stepped start xs ≡ Some end → end ≡ last_end start xs
+pub stepped_last : (start end : ℕ) (xs : List Ended) → stepped start xs ≡ Some end → end ≡ last_end start xs
 stepped_last start end [] e = sym (some_is start end e)
 stepped_last start end (x ∷ xs) e = last_if (is_step start x.end) (stepped x.end xs) (last_end x.end xs) end e (stepped_last x.end end xs)
 
@@ -111,9 +111,9 @@ begins body r b e start = record {
   end_is = start;
 }
 
-pub progress_more : (body : List ℕ) (count i : ℕ) (old new : Reading) → length body ≡ count * 40 → i < page_count count
-    → Progress body i old → Takes count i body old new → Progress body (i + 1) new
-progress_more body count i old new len below is takes =
+pub progress_more : (body : List ℕ) (count i : ℕ) (old new : Reading) (bytes : List ℕ) → length body ≡ count * 40 → i < page_count count
+    → Progress body i old → Takes count i body old new bytes → Progress body (i + 1) new
+progress_more body count i old new bytes len below is takes =
     let page = page_of 40 count i body in
     let last = last_more (entries_of body) i old.end new.end is.end_is
     (stepped_last old.end new.end (entries_of page) takes.steps ∙ ap (last_end old.end) (page_entries_are count i body len below)) in
@@ -145,13 +145,13 @@ progress_ends body count i r b len past is closes same =
 
 -- ---- what a failed page tells of the body
 
-pub body_stopped : (body : List ℕ) (count i : ℕ) (old new : Reading) (fault : PageFault) → TakesThe count i body old new (Err fault)
+pub body_stopped : (body : List ℕ) (count i : ℕ) (old new : Reading) (page : List ℕ) (fault : PageFault) → TakesThe count i body old new page (Err fault)
     → (stepped old.end (entries_of (page_of 40 count i body)) ≡ None → steps_fit 0 (entries_of body) ≡ false) → BodyIs body count (Err fault)
-body_stopped body count i old new Missing h k = record { cause = h.cause; steps = k h.steps }
-body_stopped body count i old new (BadIndex cause) h k = record { cause = h.cause; steps = k h.steps }
-body_stopped body count i old new (Changed j) h k = record { cause = h.cause; steps = k h.steps }
-body_stopped body count i old new Failed h k = tt
-body_stopped body count i old new NoMemory h k = tt
+body_stopped body count i old new page Missing h k = record { cause = h.cause; steps = k h.steps }
+body_stopped body count i old new page (BadIndex cause) h k = record { cause = h.cause; steps = k h.steps }
+body_stopped body count i old new page (Changed j) h k = record { cause = h.cause; steps = k h.steps }
+body_stopped body count i old new page Failed h k = tt
+body_stopped body count i old new page NoMemory h k = tt
 
 -- ---- the ends rise
 

@@ -6,7 +6,7 @@ use Rattle.disk_trait.specs.Disk.{one_up}
 use Rattle.disk_trait.specs.Files.{Files}
 use Rattle.disk_trait.specs.declared.disk.Disk.{Ghosts}
 use Rattle.store_files.specs.Cells.{entry_limit}
-use Rattle.store_files.specs.DynamicIndex.{dynamic_of, fields_of}
+use Rattle.store_files.specs.DynamicIndex.{Ended, dynamic_of, fields_of}
 use Rattle.index_pages.specs.declared.fault.PageFault.{PageFault}
 use Rattle.index_pages.specs.Gives.{Gives}
 use Rattle.index_pages.specs.Opening.{opened_by}
@@ -24,6 +24,9 @@ dynamic_paged name text = record {
   pages = paged 40 name text;
   ends = page_ends (page_count (length (fields_of text).entries)) (fields_of text).entries;
 }
+
+abbrev pub dynamic_entries : List ℕ → List Ended
+dynamic_entries text = (fields_of text).entries
 
 -- of the file that stands there, where its text reads as an index; else why it does not
 unfoldable pub opened : Files → List ℕ → Result DynamicPaged PageFault

@@ -1,14 +1,43 @@
 -- A fixed index as it is kept for its pages to be read.
-use Rattle.std.specs.Prelude.{◌≡◌, ℕ, ◌/◌, ◌≤◌, ◌==◌, ◌&&◌, Bool, IsTrue, List, nat_lt, if◌then◌else◌, Option, Some, None, Result}
+use Rattle.std.specs.Prelude.{◌≡◌, ℕ, ◌+◌, ◌*◌, ◌/◌, ◌<◌, ◌≤◌, ◌==◌, ◌&&◌, Bool, IsTrue, List, [], ◌∷◌, nat_lt, if◌then◌else◌, Option, Some, None, Result}
 use Rattle.std.specs.FinMap.{get}
 use Rattle.disk_trait.specs.Files.{Files}
 use Rattle.disk_trait.specs.declared.disk.Disk.{Ghosts}
-use Rattle.store_files.specs.Cells.{entry_limit}
-use Rattle.store_files.specs.FixedIndex.{fixed_of, fields_of, is_chunk_size, piece_count}
+use Rattle.store_files.specs.Cells.{cells, entry_limit}
+use Rattle.store_files.specs.DynamicIndex.{Ended}
+use Rattle.store_files.specs.FixedIndex.{FixedIndex, fixed_of, fields_of, is_chunk_size, piece_count, piece_len}
 use Rattle.index_pages.specs.declared.fault.PageFault.{PageFault}
 use Rattle.index_pages.specs.Gives.{Gives}
 use Rattle.index_pages.specs.Opening.{opened_by}
 use Rattle.index_pages.specs.Paged.{Paged, paged}
+use Rattle.paged_indexes.specs.declared.pieces.Cut.{Cut}
+
+-- ---- where pieces end
+
+-- of pieces of one length, the first of which begins at the start: each begins where the one before it ends
+abbrev pub fixed_ends_from : ℕ → ℕ → ℕ → List (List ℕ) → List Ended
+fixed_ends_from size chunk_size start [] = []
+fixed_ends_from size chunk_size start (d ∷ ds) =
+    record { end = start + piece_len size chunk_size start; digest = d } ∷ fixed_ends_from size chunk_size (start + piece_len size chunk_size start) ds
+
+abbrev pub fixed_ends : FixedIndex → List Ended
+fixed_ends x = fixed_ends_from x.size x.chunk_size 0 x.digests
+
+-- of the digests that the bytes are
+abbrev pub ends_in : Cut → ℕ → List ℕ → List Ended
+ends_in c start bytes = fixed_ends_from c.size c.chunk_size start (cells 32 bytes)
+
+-- so many pieces more begin at the start or behind it, each within the archive
+pub record Cuts (c : Cut) (start count : ℕ) : Type 0 where
+  pub least : 1 ≤ c.chunk_size
+  pub most : c.chunk_size ≤ 16_777_216
+  pub within : start ≤ c.size
+  pub reach : start + count * c.chunk_size < c.size + c.chunk_size
+
+abbrev pub fixed_entries : List ℕ → List Ended
+fixed_entries text = fixed_ends (fields_of text)
+
+-- ---- what is kept
 
 -- its pages, the archive's size, and the length of each piece but the last
 pub record FixedPaged : Type 0 where

@@ -1,5 +1,7 @@
+pub mod Handing
 pub mod Steps
 pub mod Dynamic
 pub mod Fixed
 pub mod Reading
 pub mod Laws
+pub mod Index

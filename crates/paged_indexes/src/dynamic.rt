@@ -5,10 +5,12 @@ ghost use Rattle.disk_trait.specs.Disk.{TicksOnce};
 ghost use Rattle.disk_trait.specs.Effects.{OnlyReads};
 ghost use Rattle.index_pages.specs.declared.fault.PageFault.TheVariants.{Failed as ReadFailed, NoMemory as NoRoom};
 ghost use Rattle.index_pages.specs.Paged.{ReadsPage, is_kept, page_count};
-ghost use Rattle.paged_indexes.specs.Dynamic.{CallsOnceAtMost, FindsChunk, OpensDynamic, size_by};
+ghost use Rattle.paged_indexes.specs.Dynamic.{CallsOnceAtMost, FindsChunk, OpensDynamic, dynamic_entries, size_by};
+ghost use Rattle.paged_indexes.specs.Handing.{HandsSome, HandsThose};
 
 use crate::reading::read_body;
 use crate::steps::{ended_in, page_with};
+use crate::taking::{Nothing, TakesEntries};
 use disk_trait::Disk;
 use index_pages::{Page, PageFault, Pages, count_in, read_head};
 use std::alloc::Global;
@@ -49,10 +51,26 @@ impl DynamicPages {
         ensures reads { OnlyReads D.Disk disk.old disk.new (IsErrOf result ReadFailed) }
         ensures exact { OpensDynamic D.Disk disk.old name.now result }
     {
+        DynamicPages::open_into(disk, alloc, name, &mut Nothing)
+    }
+
+    /// The same, and each page's entries are handed on as it is read. After a fault some were.
+    pub fn open_into<D: Disk, T: TakesEntries>(
+        disk: &mut D,
+        alloc: Global,
+        name: &str,
+        taker: &mut T,
+    ) -> Result<DynamicPages, PageFault>
+        ensures reads { OnlyReads D.Disk disk.old disk.new (IsErrOf result ReadFailed) }
+        ensures exact { OpensDynamic D.Disk disk.old name.now result }
+        ensures those { IfOk result (λ _. HandsThose D.Disk disk.old name.now dynamic_entries T.taken taker.old taker.new) }
+        // on any disk
+        ensures some { IfOk result (λ _. HandsSome T.taken taker.old taker.new) }
+    {
         let mut room = Page::new(alloc)?;
         let head = read_head(disk, name, &mut room)?;
         let count = count_in(&head, &MAGIC, ENTRY_SIZE)?;
-        let read = read_body(disk, alloc, name, count, &mut room)?;
+        let read = read_body(disk, alloc, name, count, &mut room, taker)?;
         if !head.has_csum(&read.body.csum) {
             return Err(PageFault::BadIndex {
                 cause: IndexFault::Csum,

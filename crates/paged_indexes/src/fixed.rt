@@ -5,9 +5,12 @@ ghost use Rattle.disk_trait.specs.Disk.{TicksOnce};
 ghost use Rattle.disk_trait.specs.Effects.{OnlyReads};
 ghost use Rattle.index_pages.specs.declared.fault.PageFault.TheVariants.{Failed as ReadFailed, NoMemory as NoRoom};
 ghost use Rattle.index_pages.specs.Paged.{ReadsPage, is_kept, page_count};
-ghost use Rattle.paged_indexes.specs.Fixed.{OpensFixed, chunk_in, sizes_agree};
-ghost use Rattle.paged_indexes.specs.Reading.{ReadsFixedBody};
+ghost use Rattle.paged_indexes.specs.Fixed.{Cuts, OpensFixed, chunk_in, fixed_entries, sizes_agree};
+ghost use Rattle.paged_indexes.specs.Handing.{HandsSome, HandsThose};
+ghost use Rattle.paged_indexes.specs.Reading.{HandsFixedBody, ReadsFixedBody};
 
+use crate::pieces::{Cut, hand_on};
+use crate::taking::{Nothing, TakesEntries};
 use disk_trait::Disk;
 use fixed_index::{is_chunk_size, piece_count};
 use index_pages::{Body, Opening, Page, PageFault, Pages, count_in, pages_in, read_head};
@@ -50,6 +53,22 @@ impl FixedPages {
         ensures reads { OnlyReads D.Disk disk.old disk.new (IsErrOf result ReadFailed) }
         ensures exact { OpensFixed D.Disk disk.old name.now result }
     {
+        FixedPages::open_into(disk, alloc, name, &mut Nothing)
+    }
+
+    /// The same, and each page's entries are handed on as it is read. After a fault some were.
+    pub fn open_into<D: Disk, T: TakesEntries>(
+        disk: &mut D,
+        alloc: Global,
+        name: &str,
+        taker: &mut T,
+    ) -> Result<FixedPages, PageFault>
+        ensures reads { OnlyReads D.Disk disk.old disk.new (IsErrOf result ReadFailed) }
+        ensures exact { OpensFixed D.Disk disk.old name.now result }
+        ensures those { IfOk result (λ _. HandsThose D.Disk disk.old name.now fixed_entries T.taken taker.old taker.new) }
+        // on any disk
+        ensures some { IfOk result (λ _. HandsSome T.taken taker.old taker.new) }
+    {
         let mut room = Page::new(alloc)?;
         let head = read_head(disk, name, &mut room)?;
         let count = count_in(&head, &MAGIC, ENTRY_SIZE)?;
@@ -60,7 +79,8 @@ impl FixedPages {
                 cause: IndexFault::Sizes,
             });
         }
-        let body = read_body(disk, alloc, name, count, &mut room)?;
+        let cut = Cut { size, chunk_size };
+        let body = read_body(disk, alloc, name, count, cut, &mut room, taker)?;
         if !head.has_csum(&body.csum) {
             return Err(PageFault::BadIndex {
                 cause: IndexFault::Csum,
@@ -136,24 +156,31 @@ fn has_sizes(size: u64, chunk_size: u64, count: u32) -> bool
     is_chunk_size(chunk_size) && u64::from(count) == piece_count(size, chunk_size)
 }
 
-/// Reads all pages.
-fn read_body<D: Disk>(
+/// Reads all pages, and hands their entries on.
+fn read_body<D: Disk, T: TakesEntries>(
     disk: &mut D,
     alloc: Global,
     name: &str,
     count: u32,
+    cut: Cut,
     room: &mut Page,
+    taker: &mut T,
 ) -> Result<Body, PageFault>
-    requires { count ≤ 1_048_576 }
+    requires limit { count ≤ 1_048_576 }
+    requires cuts { Cuts cut 0 count }
     ensures reads { OnlyReads D.Disk disk.old disk.new (IsErrOf result ReadFailed) }
     ensures exact { ReadsFixedBody D.Disk disk.old name.now count result }
+    ensures those { IfOk result (λ _. HandsFixedBody D.Disk disk.old name.now count cut T.taken taker.old taker.new) }
     // on any disk
     ensures sums { IfOk result (λ b. length b.sums.items ≡ page_count count) }
+    ensures some { IfOk result (λ _. HandsSome T.taken taker.old taker.new) }
 {
     let pages = pages_in(count);
     let mut opening = Opening::begin(alloc, pages)?;
+    let mut start = 0;
     for i in 0..pages {
         opening.take(disk, name, ENTRY_SIZE, count, i, room)?;
+        start = hand_on(cut, start, room.as_slice(), taker)?;
     }
     Ok(opening.close())
 }

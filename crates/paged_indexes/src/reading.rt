@@ -6,10 +6,12 @@ ghost use Rattle.disk_trait.specs.Effects.{OnlyReads};
 ghost use Rattle.index_pages.specs.declared.fault.PageFault.TheVariants.{Failed as ReadFailed};
 ghost use Rattle.index_pages.specs.Opening.{Begins};
 ghost use Rattle.index_pages.specs.Paged.{page_count};
-ghost use Rattle.paged_indexes.specs.Reading.{EndsRise, ReadsBody, TakesPage, sums_of};
+ghost use Rattle.paged_indexes.specs.Handing.{HandsSome};
+ghost use Rattle.paged_indexes.specs.Reading.{EndsRise, HandsBody, HandsPage, ReadsBody, TakesPage, sums_of};
 
 use crate::dynamic::ENTRY_SIZE;
-use crate::steps::steps_in;
+use crate::steps::hand_on;
+use crate::taking::TakesEntries;
 use disk_trait::Disk;
 use index_pages::{Body, Opening, Page, PageFault, pages_in};
 use std::alloc::{AllocError, Global};
@@ -50,26 +52,28 @@ impl Reading {
         })
     }
 
-    /// Reads page i of an index of so many entries, and notes it.
-    fn take<D: Disk>(
+    /// Reads page i of an index of so many entries, notes it and hands its entries on.
+    fn take<D: Disk, T: TakesEntries>(
         &mut self,
         disk: &mut D,
         name: &str,
         count: u32,
         i: u32,
         room: &mut Page,
+        taker: &mut T,
     ) -> Result<(), PageFault>
         requires limit { count ≤ 1_048_576 }
         requires place { i < page_count count }
         ensures reads { OnlyReads D.Disk disk.old disk.new (IsErrOf result ReadFailed) }
-        ensures takes { TakesPage D.Disk disk.old name.now count i self.old self.new result }
+        ensures takes { TakesPage D.Disk disk.old name.now count i self.old self.new room.new result }
         // on any disk
         ensures len { OnOk result (sums_of self.new ≡ sums_of self.old + 1) }
         ensures ends { OnOk result (length self.new.ends.items ≡ length self.old.ends.items + 1) }
         ensures rises { OnOk result (EndsRise self.old → EndsRise self.new) }
+        ensures hands { OnOk result (HandsPage T.taken count i self.old self.new room.new taker.old taker.new) }
     {
         self.opening.take(disk, name, ENTRY_SIZE, count, i, room)?;
-        let Some(end) = steps_in(self.end, room.as_slice()) else {
+        let Some(end) = hand_on(self.end, room.as_slice(), taker)? else {
             return Err(PageFault::BadIndex {
                 cause: IndexFault::Sizes,
             });
@@ -80,13 +84,14 @@ impl Reading {
     }
 }
 
-/// Reads all pages.
-pub fn read_body<D: Disk>(
+/// Reads all pages, and hands their entries on.
+pub fn read_body<D: Disk, T: TakesEntries>(
     disk: &mut D,
     alloc: Global,
     name: &str,
     count: u32,
     room: &mut Page,
+    taker: &mut T,
 ) -> Result<DynamicBody, PageFault>
     requires { count ≤ 1_048_576 }
     ensures reads { OnlyReads D.Disk disk.old disk.new (IsErrOf result ReadFailed) }
@@ -95,11 +100,13 @@ pub fn read_body<D: Disk>(
     ensures sums { IfOk result (λ b. length b.body.sums.items ≡ page_count count) }
     ensures ends { IfOk result (λ b. length b.ends.items ≡ page_count count) }
     ensures rises { IfOk result (λ b. IsNonDecreasingBy (λ n. n) b.ends.items) }
+    ensures some { IfOk result (λ _. HandsSome T.taken taker.old taker.new) }
+    ensures those { IfOk result (λ _. HandsBody D.Disk disk.old name.now count T.taken taker.old taker.new) }
 {
     let pages = pages_in(count);
     let mut reading = Reading::begin(alloc, pages)?;
     for i in 0..pages {
-        reading.take(disk, name, count, i, room)?;
+        reading.take(disk, name, count, i, room, taker)?;
     }
     let Reading { opening, ends, .. } = reading;
     Ok(DynamicBody {

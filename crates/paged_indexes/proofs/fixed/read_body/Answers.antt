@@ -1,11 +1,16 @@
-use Rattle.std.proofs.Common.{◌≡◌, ◌*◌, Some, length, drop, inl, inr, refl, ap, ◌∙◌, rules, arith}
+use Rattle.std.proofs.Common.{◌≡◌, ◌+◌, ◌-◌, ◌*◌, ◌<◌, ◌≤◌, Some, length, drop, min, inl, inr, refl, sym, ap, subst, ◌∙◌, rules, arith}
 use Rattle.std.proofs.lemmas.List.{length-drop}
 use Rattle.std.specs.FinMap.{get}
+use Rattle.store_files.specs.Cells.{cells}
 use Rattle.index_pages.specs.Paged.{page_count}
-use Rattle.index_pages.proofs.Carried.{by_err}
+use Rattle.index_pages.proofs.Carried.{by_err, short_not_failed}
 use Rattle.index_pages.proofs.Cutting.{none_read, pages_end}
 use Rattle.index_pages.proofs.OnlyReading.{reads_none, reads_then}
 use Rattle.paged_indexes.specs.Reading.{FixedBodyIs}
+use Rattle.paged_indexes.specs.Fixed.{Cuts, ends_in, fixed_ends_from}
+use Rattle.paged_indexes.proofs.Cells.{page_cells}
+use Rattle.paged_indexes.proofs.Cutting.{cells_count, next_page, page_cuts, page_facts}
+use Rattle.paged_indexes.proofs.Handed.{no_rest, rest_less, rest_none, rest_whole, some_all, some_more, some_none}
 use Rattle.paged_indexes.proofs.Opened.{fixed_stopped}
 use Rattle.paged_indexes.proofs.fixed.read_body.Goals as goal
 
@@ -15,6 +20,9 @@ loop-i-init g c = record {
   sums = c.in_ok-opening.ensures.len;
   pages = c.pages_in-pages.ensures;
   progress = λ h text there len. none_read 32 (drop 4096 text) c.in_ok-opening.opening c.in_ok-opening.ensures.begins;
+  cuts = let all : c.args.count ≡ c.args.count - 0 = omega arith in subst (Cuts c.args.cut 0) all c.requires.cuts;
+  some = some_none g.T.TakesEntries.taken (min c.args.count 0) c.args.taker.now;
+  those = λ h text there len. rest_whole g.T.TakesEntries.taken 0 (ends_in c.args.cut 0 (drop 4096 text)) c.args.taker.now;
 }
 
 pub returns-in_err-take-clause-reads : goal.returns-in_err-take-clause-reads
@@ -33,6 +41,7 @@ returns-in_err-take-clause-exact g c = let d = g.D.Disk in λ h text there len.
 pub loop-i-preserved : goal.loop-i-preserved
 loop-i-preserved g c = let d = g.D.Disk in
     let reads = c.loop-i.invariant.reads in
+    let below : c.loop-i.i < page_count c.args.count = omega (arith, c.loop-i-test.true, c.loop-i.invariant.pages) in
     record {
       reads = reads_then d _ _ _ ⊥ _ ⊥ reads c.take.ensures.reads inl;
       sums = omega (arith, c.in_ok-take.ensures.len, c.loop-i.invariant.sums);
@@ -40,7 +49,55 @@ loop-i-preserved g c = let d = g.D.Disk in
       progress = λ h text there len.
           let now : get (d.content c.loop-i.disk) c.args.name.now ≡ Some text = ap (λ m. get m c.args.name.now) (reads.same h) ∙ there in
           (c.in_ok-take.ensures.takes (reads.serves.kept.0 h) text now len).noted (c.loop-i.invariant.progress h text there len);
+      cuts =
+          let p = page_facts c.args.cut c.loop-i.start c.in_ok-start.start c.args.count c.loop-i.i c.as_slice.result.now c.take.new.room below c.as_slice.ensures.value
+          c.in_ok-take.ensures.size c.loop-i.invariant.cuts c.in_ok-start.ensures.end in
+          p.next;
+      some =
+          let p = page_facts c.args.cut c.loop-i.start c.in_ok-start.start c.args.count c.loop-i.i c.as_slice.result.now c.take.new.room below c.as_slice.ensures.value
+          c.in_ok-take.ensures.size c.loop-i.invariant.cuts c.in_ok-start.ensures.end in
+          some_more g.T.TakesEntries.taken c.args.count c.loop-i.i c.loop-i.start c.in_ok-start.start (ends_in c.args.cut c.loop-i.start c.as_slice.result.now)
+          c.args.taker.now c.loop-i.taker c.hand_on.new.taker below p.few p.steps c.in_ok-start.ensures.hands c.loop-i.invariant.some;
+      those = λ h text there len.
+          let cut = c.args.cut in
+          let count = c.args.count in
+          let i = c.loop-i.i in
+          let body = drop 4096 text in
+          let all = cells 32 body in
+          let size : length body ≡ count * 32 = omega (arith, len, length-drop 4096 text) in
+          let now : get (d.content c.loop-i.disk) c.args.name.now ≡ Some text = ap (λ m. get m c.args.name.now) (reads.same h) ∙ there in
+          let page = ap (cells 32) (c.as_slice.ensures.value ∙ (c.in_ok-take.ensures.takes (reads.serves.kept.0 h) text now len).bytes) ∙ page_cells 32 count i body (inl refl) size below in
+          rest_less g.T.TakesEntries.taken 0 (ends_in cut 0 body) c.args.taker.now c.loop-i.start c.in_ok-start.start
+          (fixed_ends_from cut.size cut.chunk_size c.loop-i.start (drop (i * 1024) all)) (ends_in cut c.loop-i.start c.as_slice.result.now)
+          (fixed_ends_from cut.size cut.chunk_size c.in_ok-start.start (drop ((i + 1) * 1024) all)) c.loop-i.taker c.hand_on.new.taker
+          (next_page cut c.loop-i.start c.in_ok-start.start i all c.as_slice.result.now page c.in_ok-start.ensures.end) (sym c.in_ok-start.ensures.end)
+          (c.loop-i.invariant.those h text there len) c.in_ok-start.ensures.hands;
     }
+
+pub hand_on-requires : goal.hand_on-requires
+hand_on-requires g c =
+    let below : c.loop-i.i < page_count c.args.count = omega (arith, c.loop-i-test.true, c.loop-i.invariant.pages) in
+    page_cuts c.args.cut c.loop-i.start c.args.count c.loop-i.i c.as_slice.result.now c.take.new.room below c.as_slice.ensures.value c.in_ok-take.ensures.size c.loop-i.invariant.cuts
+
+pub returns-in_err-start-clause-reads : goal.returns-in_err-start-clause-reads
+returns-in_err-start-clause-reads g c =
+    reads_then g.D.Disk _ _ _ ⊥ _ _ c.loop-i.invariant.reads c.take.ensures.reads (λ f. absurd (short_not_failed _ c.from_residual-in_err-start.ensures.1 f))
+
+pub returns-clause-some : goal.returns-clause-some
+returns-clause-some g c =
+    some_all g.T.TakesEntries.taken c.args.count (min c.args.count (c.loop-i.i * 1024)) c.loop-i.start c.args.taker.now c.loop-i.taker c.requires.limit (omega arith) c.loop-i.invariant.some
+
+pub returns-clause-those : goal.returns-clause-those
+returns-clause-those g c = λ h text there len.
+    let cut = c.args.cut in
+    let count = c.args.count in
+    let i = c.loop-i.i in
+    let body = drop 4096 text in
+    let size : length body ≡ count * 32 = omega (arith, len, length-drop 4096 text) in
+    let past : page_count count ≤ i = omega (arith, c.loop-i-test.false, c.loop-i.auto.i-end, c.loop-i.invariant.pages) in
+    rest_none g.T.TakesEntries.taken 0 (ends_in cut 0 body) c.args.taker.now c.loop-i.start
+    (fixed_ends_from cut.size cut.chunk_size c.loop-i.start (drop (i * 1024) (cells 32 body))) c.loop-i.taker
+    (ap (fixed_ends_from cut.size cut.chunk_size c.loop-i.start) (no_rest count i (cells 32 body) (cells_count count body size) past)) (c.loop-i.invariant.those h text there len)
 
 pub returns-clause-exact : goal.returns-clause-exact
 returns-clause-exact g c = λ h text there len.

@@ -11,13 +11,13 @@ ends_behind offset e es lt = ap (λ b. cond (not b) (1 + ended_before offset es)
 ends_here : (offset : ℕ) (e : Ended) (es : List Ended) → e.end ≤ offset → ended_before offset (e ∷ es) ≡ 1 + ended_before offset es
 ends_here offset e es le = ap (λ b. cond (not b) (1 + ended_before offset es) 0) (le-ltb offset e.end le)
 
-pub returns-then-offset-end_of-clause-value : goal.returns-then-offset-end_of-clause-value
-returns-then-offset-end_of-clause-value c =
+pub returns-then-offset-entry_in-clause-value : goal.returns-then-offset-entry_in-clause-value
+returns-then-offset-entry_in-clause-value c =
     let rest = c.loop-rest.rest.now in
     let offset = c.args.offset in
     let e = entry_of (take 40 rest) in
-    let end = c.end_of.ensures ∙ ap (λ b. (entry_of b).end) c.split_at.ensures.front in
-    let behind : offset < e.end = omega (arith, c.if-offset-end_of.true, end) in
+    let end = ap (λ (x : Ended). x.end) c.entry_in.ensures ∙ ap (λ b. (entry_of b).end) c.split_at.ensures.front in
+    let behind : offset < e.end = omega (arith, c.if-offset-entry_in.true, end) in
     let none : ended_before offset (entries_of rest) ≡ 0 = ap (ended_before offset) (entries_more rest c.loop-rest-test.true) ∙ ends_behind offset e (entries_of (drop 40 rest)) behind in
     omega (arith, none, c.loop-rest.invariant.value)
 
@@ -26,8 +26,8 @@ loop-rest-preserved c =
     let rest = c.loop-rest.rest.now in
     let offset = c.args.offset in
     let e = entry_of (take 40 rest) in
-    let end = c.end_of.ensures ∙ ap (λ b. (entry_of b).end) c.split_at.ensures.front in
-    let here : e.end ≤ offset = omega (arith, c.if-offset-end_of.false, end) in
+    let end = ap (λ (x : Ended). x.end) c.entry_in.ensures ∙ ap (λ b. (entry_of b).end) c.split_at.ensures.front in
+    let here : e.end ≤ offset = omega (arith, c.if-offset-entry_in.false, end) in
     let one : ended_before offset (entries_of rest) ≡ 1 + ended_before offset (entries_of (drop 40 rest)) =
     ap (ended_before offset) (entries_more rest c.loop-rest-test.true) ∙ ends_here offset e (entries_of (drop 40 rest)) here in
     let next = ap (λ b. ended_before offset (entries_of b)) c.split_at.ensures.back in

@@ -1,4 +1,4 @@
-use Rattle.std.proofs.Common.{◌≡◌, List, ℕ, Option, Some, Result, Ok, true, false, inl, inr, drop, refl, sym, ap, ◌∙◌, rules}
+use Rattle.std.proofs.Common.{◌≡◌, List, ℕ, Option, Some, Result, Ok, true, false, inl, inr, drop, refl, sym, ap, ap₂, subst, ◌∙◌, rules}
 use Rattle.std.specs.FinMap.{get}
 use Rattle.store_files.specs.declared.causes.IndexFault.TheVariants.{Csum}
 use Rattle.store_files.specs.FixedIndex.{fixed_of, magic}
@@ -11,9 +11,16 @@ use Rattle.index_pages.proofs.Carried.{by_err, ok_not, short_not_failed, told_no
 use Rattle.index_pages.proofs.Filled.{gives_err, gives_told}
 use Rattle.index_pages.proofs.OnlyReading.{reads_then}
 use Rattle.index_pages.proofs.Opened.{has_count, has_front, no_count, no_front}
-use Rattle.paged_indexes.specs.Fixed.{FixedPaged, fixed_paged, opened}
+use Rattle.store_files.specs.Cells.{cells}
+use Rattle.store_files.specs.FixedIndex.{is_chunk_size, piece_count}
+use Rattle.std.specs.Prelude.{◌==◌}
+use Rattle.std.proofs.lemmas.Bool.{and_parts, eqb-true}
+use Rattle.index_pages.specs.Paged.{Paged}
+use Rattle.paged_indexes.specs.Fixed.{FixedPaged, HasSizes, fixed_ends_from, fixed_entries, fixed_paged, opened}
+use Rattle.paged_indexes.specs.Handing.{HandsOn}
+use Rattle.paged_indexes.proofs.Handed.{same_some}
 use Rattle.paged_indexes.proofs.Opened.{bad_sizes, chunk_size_is, fixed_by, fixed_paged_is, fixed_rest, fixed_summed, no_fixed_body, size_is, sizes_are}
-use Rattle.paged_indexes.proofs.fixed.FixedPages.open_on.Goals as goal
+use Rattle.paged_indexes.proofs.fixed.FixedPages.open_into.Goals as goal
 
 abbrev itself : FixedPaged → FixedPaged
 itself p = p
@@ -109,3 +116,26 @@ returns-clause-exact g c = let d = g.D.Disk in λ h.
     ap (opened_in name) f.there
     ∙ fixed_summed (fixed_paged name) f.text c.in_ok-head.head.front c.in_ok-count.count c.in_ok-body.body true f.front n.len n.by_rest sizes b (sym c.if-not-has_csum.ensures)
     ∙ ap Ok (sym (fixed_paged_is name f.text c.number_at-size.result c.number_at-chunk_size.result c.in_ok-count.count c.in_ok-body.body c.in_ok-pages.pages c.in_ok-pages.ensures n.counted b size chunk_size))
+
+pub returns-clause-those : goal.returns-clause-those
+returns-clause-those g c = let d = g.D.Disk in λ h text at.
+    let name = c.args.name.now in
+    let f = has_front (get (d.content c.args.disk.now) name) c.in_ok-head.head (c.in_ok-head.ensures.exact h) in
+    let n = has_count magic 32 fixed_of fixed_rest (fixed_paged name) fixed_by (inl refl) f.text c.in_ok-head.head c.in_ok-count.count f.size f.front f.long c.in_ok-count.ensures.exact in
+    let reads = c.read_head.ensures.reads in
+    let there : get (d.content c.read_head.new.disk) name ≡ Some f.text = ap (λ x. get x name) (reads.same h) ∙ f.there in
+    let size = c.number_at-size.ensures ∙ size_is f.text c.in_ok-head.head.front f.front in
+    let chunk_size = c.number_at-chunk_size.ensures ∙ chunk_size_is f.text c.in_ok-head.head.front f.front in
+    let taken = g.T.TakesEntries.taken in
+    subst (λ t. HandsOn taken 0 (fixed_entries t) c.args.taker.now c.read_body.new.taker) (same_some f.text text (sym f.there ∙ at))
+    (subst (λ es. HandsOn taken 0 es c.args.taker.now c.read_body.new.taker)
+    (ap₂ (λ s k. fixed_ends_from s k 0 (cells 32 (drop 4096 f.text))) size chunk_size)
+    (c.in_ok-body.ensures.those (reads.serves.kept.0 h) f.text there n.len))
+
+pub invariant_of-result : goal.invariant_of-result
+invariant_of-result g c =
+    let size = c.number_at-size.result in
+    let chunk_size = c.number_at-chunk_size.result in
+    let both = and_parts (is_chunk_size chunk_size) (c.in_ok-count.count == piece_count size chunk_size) (sym c.if-not-has_sizes.ensures) in
+    subst (λ (p : Paged). HasSizes p.count size chunk_size) (sym c.in_ok-pages.ensures)
+    (record { limit = c.in_ok-count.ensures.limit; allowed = both.0; pieces = eqb-true _ _ both.1 })

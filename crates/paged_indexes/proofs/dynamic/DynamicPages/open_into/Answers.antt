@@ -11,9 +11,11 @@ use Rattle.index_pages.proofs.Carried.{by_err, ok_not, short_not_failed, told_no
 use Rattle.index_pages.proofs.Filled.{gives_err, gives_told}
 use Rattle.index_pages.proofs.OnlyReading.{reads_then}
 use Rattle.index_pages.proofs.Opened.{has_count, has_front, no_count, no_front}
-use Rattle.paged_indexes.specs.Dynamic.{DynamicPaged, dynamic_paged, opened}
+use Rattle.paged_indexes.specs.Dynamic.{DynamicPaged, dynamic_entries, dynamic_paged, opened}
+use Rattle.paged_indexes.specs.Handing.{HandsOn}
+use Rattle.paged_indexes.proofs.Handed.{same_some}
 use Rattle.paged_indexes.proofs.Opened.{dynamic_by, dynamic_rest, no_body, paged_is, summed}
-use Rattle.paged_indexes.proofs.dynamic.DynamicPages.open_on.Goals as goal
+use Rattle.paged_indexes.proofs.dynamic.DynamicPages.open_into.Goals as goal
 
 abbrev itself : DynamicPaged → DynamicPaged
 itself p = p
@@ -93,3 +95,13 @@ returns-clause-exact g c = let d = g.D.Disk in λ h.
     ap (opened_in name) f.there
     ∙ summed (dynamic_paged name) f.text c.in_ok-head.head.front c.in_ok-count.count c.in_ok-read.read true f.front n.len n.by_rest b (sym c.if-not-has_csum.ensures)
     ∙ ap Ok (sym (paged_is name f.text c.in_ok-count.count c.in_ok-read.read c.in_ok-pages.pages c.in_ok-pages.ensures n.counted b))
+
+pub returns-clause-those : goal.returns-clause-those
+returns-clause-those g c = let d = g.D.Disk in λ h text at.
+    let name = c.args.name.now in
+    let f = has_front (get (d.content c.args.disk.now) name) c.in_ok-head.head (c.in_ok-head.ensures.exact h) in
+    let n = has_count magic 40 dynamic_of dynamic_rest (dynamic_paged name) dynamic_by (inr refl) f.text c.in_ok-head.head c.in_ok-count.count f.size f.front f.long c.in_ok-count.ensures.exact in
+    let reads = c.read_head.ensures.reads in
+    let there : get (d.content c.read_head.new.disk) name ≡ Some f.text = ap (λ x. get x name) (reads.same h) ∙ f.there in
+    subst (λ t. HandsOn g.T.TakesEntries.taken 0 (dynamic_entries t) c.args.taker.now c.read_body.new.taker) (same_some f.text text (sym f.there ∙ at))
+    (c.in_ok-read.ensures.those (reads.serves.kept.0 h) f.text there n.len)
