@@ -1,5 +1,6 @@
 """Scenarios as the program `scenarios` reads them, from the words of `examples/session.py`. docs/SCENARIOS.md has the form."""
-import re, session
+import io, re, session
+from tables.common import NOW, order
 
 COMMANDS = (
     "OPEN_WRITER PREVIOUS NEW_FIXED NEW_DYNAMIC CHUNK APPEND CLOSE_INDEX BLOB FINISH ABORT OPEN_READER DOWNLOAD GET_CHUNK RANGE "
@@ -257,13 +258,46 @@ def files_left(files):
     return files_there(files) + [f"files {len(files)}"]
 
 
+def ordered(*entries):
+    """The order's file of a run that is checked: its entries by lane and kind, all of one moment."""
+    return [f"order {spelled(order(*((lane, NOW, kind) for lane, kind in entries)))}"]
+
+
+def kept(data):
+    """Replies that were kept, of whatever bytes: as what are frames of them."""
+    return [f"< bytes {spelled(body)}".rstrip() for body in session.bodies_of(io.BytesIO(data))]
+
+
+def checks(told):
+    """The run that is planned is checked, which tells this: the status, and the line."""
+    return [f"checks {told}"]
+
+
+def checked(told="Ok equal"):
+    """What the check of the last run tells."""
+    return [f"checked {told}"]
+
+
+def changed(equal, unequal, bad_order):
+    """What it tells with each byte of its files changed, taken away, and put before: how often the replies are equal or not, and how often it
+    has no order."""
+    return [f"changed {equal} {unequal} {bad_order}"]
+
+
+def reordered(equal, unequal, bad_order):
+    """The same with each entry of the order taken away, twice, and behind the next."""
+    return [f"reordered {equal} {unequal} {bad_order}"]
+
+
 def flat(parts):
     return [line for part in parts for line in part]
 
 
 # Lines that plan a session, and those that plan its sweep.
-PLANS = set("lane closes free tries > >> < clock fails remote-fails stops taken shown gives takes".split())
+PLANS = set("lane closes free tries > >> < clock fails remote-fails stops taken shown gives takes order".split())
 FINDS = {"whole", "found", "name"}
+# Lines that serve or check what is planned.
+SERVES = ("ends", "sweep", "checks")
 
 
 def served_in(lines):
@@ -271,7 +305,7 @@ def served_in(lines):
     parts = [[]]
     for word, rest in (line.partition(" ")[::2] for line in lines):
         parts[-1].append((word, rest))
-        if word in ("ends", "sweep"):
+        if word in SERVES:
             parts.append([])
     return parts
 
@@ -306,6 +340,10 @@ def fault_in_order(part):
     """What is wrong with the lines that plan how sessions at once come one behind another, up to the line that serves them."""
     words = {word for word, _ in part}
     are_several = any(row[0] == "lane" and row[1] != "0" for row in part)
+    if ("order" in words) != ("checks" in words):
+        return "an order is not checked"
+    if "checks" in words:
+        return None
     if not are_several:
         return "there is one session" if words & {"closes", "free", "tries"} else None
     if "sweep" in words:
@@ -330,7 +368,7 @@ def fault_in(lines):
         sent = [[row for row in part[first:last] if row[0] in (">", ">>")] for first, last in zip(starts, starts[1:])]
         if any(it != sent[0] for it in sent):
             return "later sessions are not the same"
-        if any(word == "from" and place and words[place - 1] not in ("there", "ends", "sweep") for place, word in enumerate(words)):
+        if any(word == "from" and place and words[place - 1] not in ("there", *SERVES) for place, word in enumerate(words)):
             return "a disk takes the place of another"
     return None
 

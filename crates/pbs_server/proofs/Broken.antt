@@ -26,22 +26,22 @@ heard_here wanting e p v follows = refl
 heard_here ending e p v follows = absurd follows
 
 -- what a run does from where it was led
-record RunsOn (e : Ending) (q : Position) (ends : List Event) (told : List Reply) : Type 0 where
+pub record RunsOn (e : Ending) (q : Position) (ends : List Event) (told : List Reply) : Type 0 where
   pub on : q.is_over ≡ false
   pub runs : Runs e q ends told
 
-leads_back : (e : Ending) (before ends : List Event) (p q : Position) (told : List Reply) → Leads p before q → p.is_over ≡ false → Runs e p (before ++ ends) told → RunsOn e q ends told
+pub leads_back : (e : Ending) (before ends : List Event) (p q : Position) (told : List Reply) → Leads p before q → p.is_over ≡ false → Runs e p (before ++ ends) told → RunsOn e q ends told
 unfolding position_after
 leads_back e [] ends p q told leads on runs = subst (λ x. RunsOn e x ends told) leads (record { on = on; runs = runs })
 leads_back e (v ∷ vs) ends p q told leads on runs =
     leads_back e vs ends (heard p v.answer) q told leads.1 (goes_on p v on) (subst (λ x. Runs e x (vs ++ ends) told) (heard_here (class_of v.act) e p v leads.0) runs.2)
 
 -- how it ends there
-ends_so : (e : Ending) (q : Position) (ends : List Event) (told : List Reply) → AreEnds ends → RunsOn e q ends told → EndsSo e q (next_at q)
+pub ends_so : (e : Ending) (q : Position) (ends : List Event) (told : List Reply) → AreEnds ends → RunsOn e q ends told → EndsSo e q (next_at q)
 ends_so e q [] told are r = absurd (clash (sym r.on ∙ (r.runs).0))
 ends_so e q (v ∷ vs) told are r = (subst (λ c. Does c e q v vs) (ap class_of are.0) (r.runs).1).0
 
-so_broken : (place : ℕ) (q : Position) (n : Next) → EndsSo (endings.Broken place) q n → (r : Refusal) × (n ≡ broken r)
+pub so_broken : (place : ℕ) (q : Position) (n : Next) → EndsSo (endings.Broken place) q n → (r : Refusal) × (n ≡ broken r)
 so_broken place q (broken r) so = (r, refl)
 so_broken place q (plain c left) so = absurd so
 so_broken place q (job_step j left) so = absurd so

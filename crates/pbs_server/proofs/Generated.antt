@@ -28,10 +28,10 @@ use Rattle.pbs_server.specs.Generating.{LeavesGenerated, MadePort, TellsEnded, T
 use Rattle.pbs_server.specs.Headline.{AsksNone, HasNotServed, HasServed, IsBeside, Leaves, StopsUnserved}
 use Rattle.pbs_server.specs.Journal.{TellsOrder}
 use Rattle.pbs_server.specs.Statuses.{endings_of, status_of_opening}
-use Rattle.pbs_server.specs.Words.{AsksMade, AsksTooMany, IsCount, IsMade, IsMisused, TellsJust}
+use Rattle.pbs_server.specs.Words.{AsksMade, AsksTooMany, IsCheck, IsCount, IsMade, IsMisused, IsUnread, TellsJust}
 use Rattle.pbs_server.proofs.Leaving.{leaves_served, memory_asks}
 use Rattle.pbs_server.proofs.Statuses.{served_asks}
-use Rattle.pbs_server.proofs.Words.{run_made}
+use Rattle.pbs_server.proofs.Words.{made_check, made_many, run_made}
 
 -- ---- sessions that ended
 
@@ -160,22 +160,24 @@ module _ {D E S K J : Type 0} (d : Ghosts D) (e : Ghosts E) (source : sources.Gh
     where
       by : LeavesGenerated d e journal n disk remote before after result → LeavesBy d e source sink journal readings words disk remote ports ports before after result
       by (inl g) = inl (record { n = n; asks = asks; generated = g; ports = refl })
-      by (inr none) = inr (record {
+      by (inr none) = inr (inr (record {
         others = λ made. (none.0).lanes;
+        no_check = λ check. absurd (made_check (texts words) (length ports) (n, asks) check.0);
         leaves = leaves_handed d e source sink readings disk remote ports ports result (none_by d disk remote result (ports_of n) (ports_of n) ports none.0);
         journal_is = inr (λ other. absurd (run_made (texts words) (length ports) true other.0 (n, asks)), none.1, (none.0).journal);
-      })
+      }))
 
   pub usage_made : TellsJust result statuses.Usage (IsMisused words (length ports))
-  usage_made = (λ is. absurd (generated_asks d e journal n disk remote before after result leaves (inl is)), λ misused. absurd (misused (inr (n, asks))))
+  usage_made = (λ is. absurd (generated_asks d e journal n disk remote before after result leaves (inl is)), λ misused. absurd (misused (inr (inl (n, asks)))))
 
   pub many_made : TellsJust result statuses.TooManyLanes (AsksTooMany words (length ports))
   many_made =
-      (λ is. absurd (generated_asks d e journal n disk remote before after result leaves (inr is)), λ many. absurd (run_made (texts words) (length ports) (many.0).0 (many.0).1 (n, asks)))
+      (λ is. absurd (generated_asks d e journal n disk remote before after result leaves (inr is)), λ many. absurd (made_many (texts words) (length ports) (n, asks) many))
 
 -- those of the ports
 pub leaves_ports : {D E S K J : Type 0} (d : Ghosts D) (e : Ghosts E) (source : sources.Ghosts S) (sink : sinks.Ghosts K) (journal : sinks.Ghosts J) (readings : Option Readings) (words : List (String Global)) (disk : D) (remote : Option E)
-    (old new : List (Port S K)) (before after : J) (result : Served D E) → (IsMade (texts words) (length old) → ((result.report).lanes).items ≡ [])
+    (old new : List (Port S K)) (before after : J) (result : Served D E) → (IsMade (texts words) (length old) → ((result.report).lanes).items ≡ []) → (IsCheck words (length old) → IsUnread result)
     → Leaves d e source sink readings disk remote result old new ((result.report).lanes).items → TellsOrder journal words (length old) before after result
     → LeavesBy d e source sink journal readings words disk remote old new before after result
-leaves_ports d e source sink journal readings words disk remote old new before after result others leaves tells = inr (record { others = others; leaves = leaves; journal_is = tells })
+leaves_ports d e source sink journal readings words disk remote old new before after result others no_check leaves tells =
+    inr (inr (record { others = others; no_check = no_check; leaves = leaves; journal_is = tells }))

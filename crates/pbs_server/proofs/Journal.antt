@@ -1,8 +1,12 @@
 -- A run whose journal failed too.
 use Rattle.disk_trait.specs.declared.disk.Disk.{Ghosts}
-use Rattle.std.proofs.Common.{◌≡◌, ◌⊎◌, inl, inr, Bool, true, false, List, [], ◌∷◌, Option, sym, ap, subst, ◌∙◌}
+use Rattle.std.proofs.Common.{◌≡◌, ◌⊎◌, inl, inr, ℕ, Bool, true, false, List, [], ◌∷◌, Option, Result, Ok, Err, sym, ap, subst, ◌∙◌}
+use Rattle.std.specs.Prelude.{is_ok}
+use Rattle.std.specs.Result.{is_err}
 use Rattle.port_traits.specs.declared.sink.Sink as sinks
 use Rattle.port_traits.specs.declared.source.Source as sources
+use Rattle.port_traits.specs.Bytes.{Writes}
+use Rattle.port_traits.specs.Faults.{HasCause as Caused}
 use Rattle.port_traits.specs.Readings.{Readings}
 use Rattle.lane.specs.declared.port.LaneReport.{LaneReport}
 use Rattle.lane.specs.declared.port.Port.{Port}
@@ -12,10 +16,23 @@ use Rattle.pbs_server.specs.declared.status.Status.{Status}
 use Rattle.pbs_server.specs.declared.status.Status.TheVariants as statuses
 use Rattle.pbs_server.specs.Causes.{HasCause}
 use Rattle.pbs_server.specs.Headline.{AsksNone, HasNotServed, HasServed, Leaves}
-use Rattle.pbs_server.specs.Journal.{told_with}
+use Rattle.pbs_server.specs.Journal.{TakesText, told_with}
 use Rattle.pbs_server.specs.Statuses.{beside_sink, endings_of, first_of, run_facts}
 use Rattle.pbs_server.proofs.Causes.{caused_beside}
 use Rattle.pbs_server.proofs.Statuses.{beside_failed}
+
+-- ---- a text that is written
+
+takes_by : {J T E : Type 0} (sink : sinks.Ghosts J) (old new : J) (text : List ℕ) (result : Result T E) → Writes (sink.taken old) (sink.taken new) text (is_ok result)
+    → Caused (sink.faults old) (sink.faults new) result → TakesText sink old new text (is_err result)
+takes_by sink old new text (Ok done) writes cause = record { bytes = writes; cause = λ fails. cc; later = cause.later }
+takes_by sink old new text (Err fault) writes cause = record { bytes = writes; cause = λ fails. cause.failed; later = cause.later }
+
+pub takes_text : {J T E : Type 0} (sink : sinks.Ghosts J) (old new : J) (text bytes : List ℕ) (result : Result T E) (failed : Bool) → bytes ≡ text → failed ≡ is_err result
+    → Writes (sink.taken old) (sink.taken new) bytes (is_ok result) → Caused (sink.faults old) (sink.faults new) result → TakesText sink old new text failed
+takes_text sink old new text bytes result failed is told writes cause =
+    subst (λ f. TakesText sink old new text f) (sym told)
+    (takes_by sink old new text result (subst (λ xs. Writes (sink.taken old) (sink.taken new) xs (is_ok result)) is writes) cause)
 
 -- ---- no session was served
 

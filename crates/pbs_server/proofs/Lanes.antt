@@ -28,7 +28,7 @@ use Rattle.pbs_server.proofs.Tests.{either, or_first, or_later}
 
 -- ---- a lane's own entries are entries of the whole
 
-own_kind : (k n : ℕ) (es : List Event) → has_kind n (entries (own k es)) ≡ true → has_kind n (entries es) ≡ true
+pub own_kind : (k n : ℕ) (es : List Event) → has_kind n (entries (own k es)) ≡ true → has_kind n (entries es) ≡ true
 own_kind k n [] is = is
 own_kind k n (v ∷ vs) is = by_test (lane v == k) (own_kind k n vs) is
   where

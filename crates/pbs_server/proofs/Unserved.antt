@@ -1,7 +1,7 @@
 -- The program's call where the words are why no session is served, or memory was wanting to read them.
 use Rattle.disk_trait.specs.declared.disk.Disk.{Ghosts}
-use Rattle.std.proofs.Common.{◌≡◌, ◌↔◌, ◌⊎◌, inl, inr, ℕ, true, false, List, [], Option, None, Err, IfSome, refl, sym, ap, subst, ◌∙◌, arith}
-use Rattle.std.specs.Prelude.{String}
+use Rattle.std.proofs.Common.{◌≡◌, ◌≢◌, ◌↔◌, ◌⊎◌, inl, inr, ℕ, true, false, List, [], Option, None, Err, IfSome, refl, sym, ap, subst, ◌∙◌, arith}
+use Rattle.std.specs.Prelude.{IsSome, String}
 use Rattle.std.specs.declared.alloc.Global.{Global}
 use Rattle.port_traits.specs.declared.sink.Sink as sinks
 use Rattle.core_opening.specs.declared.opening.OpenFault.{OpenFault}
@@ -13,7 +13,9 @@ use Rattle.pbs_server.specs.declared.status.Status.TheVariants as statuses
 use Rattle.pbs_server.specs.Headline.{AsksNone, HasNotServed, StopsUnserved}
 use Rattle.pbs_server.specs.Journal.{TellsOrder}
 use Rattle.pbs_server.specs.Statuses.{status_of_opening}
-use Rattle.pbs_server.specs.Words.{Answers, AsksOrder, IsMisused, IsUnread, TellsJust}
+use Rattle.pbs_server.specs.Words.{Answers, AsksOrder, AsksTooMany, IsAnything, IsCheck, IsMisused, IsTooMany, IsUnread, TellsJust}
+use Rattle.pbs_server.proofs.Checked.{unequal_none}
+use Rattle.pbs_server.proofs.Words.{run_check}
 
 -- a status that comes of the words
 abbrev pub IsUnasked : Status → Type 0
@@ -24,6 +26,17 @@ unasked_is words ports statuses.Usage a = inl (inl refl)
 unasked_is words ports statuses.TooManyLanes a = inl (inr refl)
 unasked_is words ports statuses.NoMemory a = inr refl
 unasked_is words ports other a = absurd a
+
+-- words of too many sessions have a reading
+has_reading : (words : List (List ℕ)) (ports : ℕ) → IsTooMany words ports → IsAnything words ports
+has_reading words ports (inl many) = inl many.0
+has_reading words ports (inr many) = inr (inr many.0)
+
+-- none tells that replies differ
+unasked_equal : (s : Status) → IsUnasked s → s ≢ statuses.Unequal
+unasked_equal s (inl (inl is)) differ = cc
+unasked_equal s (inl (inr is)) differ = cc
+unasked_equal s (inr is) differ = cc
 
 unasked_fault : (s : Status) → IsUnasked s → s ≡ statuses.DiskFault → ⊥
 unasked_fault s (inl (inl is)) fault = cc
@@ -39,8 +52,25 @@ pub record Unserved {D E : Type 0} (s : Status) (disk : D) (remote : Option E) (
   pub lanes : ((result.report).lanes).items ≡ []
   pub calls : ((result.report).calls).items ≡ []
   pub journal : (result.report).journal_failed ≡ false
+  pub unequal : (result.report).unequal ≡ None
   pub disk_is : result.disk ≡ disk
   pub remote_is : result.remote ≡ remote
+
+pub unserved_by : {D E : Type 0} (s : Status) (disk : D) (remote : Option E) (result : Served D E) → result.status ≡ s → (result.report).not_opened ≡ None → (result.report).not_saved ≡ None
+    → (result.order).items ≡ [] → ((result.report).lanes).items ≡ [] → ((result.report).calls).items ≡ [] → (result.report).journal_failed ≡ false → (result.report).unequal ≡ None
+    → result.disk ≡ disk → result.remote ≡ remote → Unserved s disk remote result
+unserved_by s disk remote result status not_opened not_saved order lanes calls journal unequal disk_is remote_is = record {
+  status = status;
+  not_opened = not_opened;
+  not_saved = not_saved;
+  order = order;
+  lanes = lanes;
+  calls = calls;
+  journal = journal;
+  unequal = unequal;
+  disk_is = disk_is;
+  remote_is = remote_is;
+}
 
 module _ (words : List (String Global)) (ports : ℕ) (s : Status) (answers : Answers (texts words) ports (Err s)) {D E : Type 0} (disk : D) (remote : Option E) (result : Served D E)
     (u : Unserved s disk remote result) where
@@ -52,8 +82,33 @@ module _ (words : List (String Global)) (ports : ℕ) (s : Status) (answers : An
     where
       by : (t : Status) → Answers (texts words) ports (Err t) → result.status ≡ t → TellsJust result statuses.Usage (IsMisused words ports)
       by statuses.Usage a is = (λ usage. a, λ misused. inl is)
-      by statuses.TooManyLanes a is = (λ usage. let bad : statuses.Usage ≡ statuses.TooManyLanes = sym usage ∙ is in cc, λ misused. absurd (misused (inl a.0)))
+      by statuses.TooManyLanes a is = (λ usage. let bad : statuses.Usage ≡ statuses.TooManyLanes = sym usage ∙ is in cc, λ misused. absurd (misused (has_reading (texts words) ports a)))
       by statuses.NoMemory a is = (λ usage. let bad : statuses.Usage ≡ statuses.NoMemory = sym usage ∙ is in cc, λ misused. inr (unread is))
+      by other a is = absurd a
+
+  pub many_unserved : TellsJust result statuses.TooManyLanes (AsksTooMany words ports)
+  many_unserved = by s answers u.status
+    where
+      by : (t : Status) → Answers (texts words) ports (Err t) → result.status ≡ t → TellsJust result statuses.TooManyLanes (AsksTooMany words ports)
+      by statuses.Usage a is = (λ told. let bad : statuses.TooManyLanes ≡ statuses.Usage = sym told ∙ is in cc, λ many. absurd (a (has_reading (texts words) ports many)))
+      by statuses.TooManyLanes a is = (λ told. a, λ many. inl is)
+      by statuses.NoMemory a is = (λ told. let bad : statuses.TooManyLanes ≡ statuses.NoMemory = sym told ∙ is in cc, λ many. inr (unread is))
+      by other a is = absurd a
+
+  pub unequal_unserved : IsSome (result.report).unequal ↔ (result.status ≡ statuses.Unequal)
+  unequal_unserved =
+      unequal_none (result.report).unequal result.status u.unequal
+      (unasked_equal result.status (subst IsUnasked (sym u.status) (unasked_is (texts words) ports s answers)))
+
+  -- memory was wanting to read a check's words
+  pub check_unserved : IsCheck words ports → IsUnread result
+  check_unserved check = by s answers u.status
+    where
+      by : (t : Status) → Answers (texts words) ports (Err t) → result.status ≡ t → IsUnread result
+      by statuses.Usage a is = absurd (a (inr (inr check.0)))
+      by statuses.TooManyLanes (inl many) is = absurd (run_check (texts words) ports (many.0).0 (many.0).1 check.0)
+      by statuses.TooManyLanes (inr many) is = absurd (let few = check.1 in let more = many.1 in omega (arith, few, more))
+      by statuses.NoMemory a is = unread is
       by other a is = absurd a
 
   pub leaves_unserved : {P : Type 0} (d : Ghosts D) (same : List P) → HasNotServed d disk remote same same result
@@ -86,6 +141,7 @@ module _ (words : List (String Global)) (ports : ℕ) (s : Status) (answers : An
     where
       by : (s : Status) → Answers (texts words) ports (Err s) → result.status ≡ s → AsksOrder words ports → IsUnread result
       by statuses.Usage a is asks = absurd (a (inl (true, asks.0)))
-      by statuses.TooManyLanes a is asks = absurd (let few = asks.1 in let many = a.1 in omega (arith, few, many))
+      by statuses.TooManyLanes (inl many) is asks = absurd (let few = asks.1 in let more = many.1 in omega (arith, few, more))
+      by statuses.TooManyLanes (inr many) is asks = absurd (run_check (texts words) ports true asks.0 many.0)
       by statuses.NoMemory a is asks = unread is
       by other a is asks = absurd a

@@ -4,7 +4,7 @@ use Rattle.std.specs.Prelude.{◌≡◌, ◌≢◌, ◌+◌, ◌-◌, ◌^◌, �
 use Rattle.std.specs.List.{range_with_len}
 use Rattle.port_traits.specs.declared.sink.Sink as sinks
 use Rattle.port_traits.specs.declared.source.Source as sources
-use Rattle.port_traits.specs.Memory.{Calls, Reading, Writing}
+use Rattle.port_traits.specs.Memory.{Calls, Writing}
 use Rattle.port_traits.specs.Readings.{Readings}
 use Rattle.wire_commands.specs.declared.rows.ListRow.{ListRow}
 use Rattle.store_files.specs.Archive.{Snapshot}
@@ -29,15 +29,15 @@ use Rattle.pbs_server.specs.Statuses.{endings_of, first_of, run_facts}
 
 -- ---- the ports
 
--- what is told of a source and a sink in memory
-abbrev pub source_told : sources.Ghosts Reading
-source_told = record { left = λ s. Some s.left; faults = λ s. (s.calls).faults }
+-- what is told of an input that was made, of which no call fails, and of a sink in memory
+abbrev pub source_told : sources.Ghosts (List ℕ)
+source_told = record { left = λ bytes. Some bytes; faults = λ bytes. 0 }
 
 abbrev pub sink_told : sinks.Ghosts Writing
 sink_told = record { taken = λ s. Some s.taken; faults = λ s. (s.calls).faults }
 
 abbrev pub MadePort : Type 0
-MadePort = Port Reading Writing
+MadePort = Port (List ℕ) Writing
 
 -- none was made, and none fails by a list
 abbrev pub no_calls : Calls
@@ -46,7 +46,7 @@ no_calls = record { failing = []; made = 0; faults = 0 }
 -- that of lane k: its source has the lane's input left, and its sink took nothing
 abbrev pub port_of : ℕ → MadePort
 port_of k = record {
-  source = record { left = generated k; most = 2 ^ 64 - 1; calls = no_calls };
+  source = generated k;
   sink = record { taken = []; most = 2 ^ 64 - 1; calls = no_calls };
 }
 

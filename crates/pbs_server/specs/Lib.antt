@@ -2,6 +2,7 @@ pub mod Words
 pub mod Statuses
 pub mod Saving
 pub mod Causes
+pub mod Checking
 pub mod Collections
 pub mod Headline
 pub mod Journal
@@ -9,3 +10,5 @@ pub mod Ended
 pub mod Generating
 pub mod Asking
 pub mod Acknowledged
+pub mod Completeness
+pub mod RunChecks

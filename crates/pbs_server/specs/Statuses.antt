@@ -90,20 +90,29 @@ first_of f =
     if f.unequal then statuses.Unequal else
     statuses.Ok
 
--- by how lanes ended: a source failed, a sink, a source has too many bytes, on a lane something stands that isn't a command
-abbrev pub endings_facts : List Ending → Facts
-endings_facts all = record {
+-- nothing is true of it
+abbrev pub no_facts : Facts
+no_facts = record {
   misused = false;
   many = false;
   short = false;
   disk = false;
   remote = false;
+  source = false;
+  sink = false;
+  long = false;
+  bad_order = false;
+  broken = false;
+  unequal = false;
+}
+
+-- by how lanes ended: a source failed, a sink, a source has too many bytes, on a lane something stands that isn't a command
+abbrev pub endings_facts : List Ending → Facts
+endings_facts all = record no_facts {
   source = some_tells statuses.SourceFault all;
   sink = some_tells statuses.SinkFault all;
   long = some_tells statuses.SourceTooLong all;
-  bad_order = false;
   broken = some_tells statuses.BadFrame all;
-  unequal = false;
 }
 
 -- why the book was not saved: want of memory, or the disk

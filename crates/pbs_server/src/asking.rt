@@ -8,6 +8,9 @@ use command_line::{Plan, WordFault, plan_words};
 use std::alloc::Global;
 use store_types::LANES;
 
+/// A check of so many sessions has so many ports.
+const CHECK_LIMIT: usize = 1 + 2 * LANES;
+
 /// What is to be served.
 #[derive(Clone, Copy)]
 pub enum Asked {
@@ -15,10 +18,12 @@ pub enum Asked {
     Run { with_order: bool },
     /// Sessions of lanes 0 to `n`, which are to be made.
     Gen { n: u32 },
+    /// A run, with the order and two ports of each session.
+    Check,
 }
 
-/// What they ask for. Else why no session is served: the words ask neither for a run of as many sessions as there are ports, nor
-/// for made sessions without ports, or for more than 64, or memory was wanting to read them.
+/// What they ask for. Else why nothing is done: the words have no reading, or ask for another number of ports than there are, or for
+/// more than 64 sessions, or memory was wanting to read them.
 pub fn read_words(alloc: Global, words: &[String], ports: usize) -> Result<Asked, Status>
     ensures { Answers (texts words.now) ports result }
 {
@@ -30,15 +35,20 @@ pub fn read_words(alloc: Global, words: &[String], ports: usize) -> Result<Asked
     if plan.ports() != ports {
         return Err(Status::Usage);
     }
-    if let Plan::Gen { n, .. } = &plan {
-        return Ok(Asked::Gen { n: *n });
+    match &plan {
+        Plan::Gen { n, .. } => Ok(Asked::Gen { n: *n }),
+        Plan::Run { order, .. } => {
+            if ports > LANES {
+                return Err(Status::TooManyLanes);
+            }
+            let with_order = order.is_some();
+            Ok(Asked::Run { with_order })
+        }
+        Plan::Check { .. } => {
+            if ports > CHECK_LIMIT {
+                return Err(Status::TooManyLanes);
+            }
+            Ok(Asked::Check)
+        }
     }
-    let Plan::Run { order, .. } = &plan else {
-        return Err(Status::Usage);
-    };
-    if ports > LANES {
-        return Err(Status::TooManyLanes);
-    }
-    let with_order = order.is_some();
-    Ok(Asked::Run { with_order })
 }

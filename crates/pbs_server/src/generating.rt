@@ -5,6 +5,7 @@ ghost use Rattle.pbs_server.specs.Generating as spec;
 ghost use Rattle.pbs_server.specs.Generating.{LeavesGenerated};
 ghost use Rattle.pbs_server.specs.Words.{IsCount};
 
+use crate::input::MadeInput;
 use crate::run::{not_served, run_ports};
 use crate::served::Served;
 use crate::status::Status;
@@ -12,7 +13,7 @@ use crate::summing::tell_ended;
 use disk_trait::Disk;
 use generator::generate;
 use lane::Port;
-use port_traits::{Gate, MemSink, MemSource, SetClock, Sink};
+use port_traits::{Gate, MemSink, SetClock, Sink};
 use std::alloc::{AllocError, Global};
 use std::sync::Wait;
 use std::thread::Threads;
@@ -21,20 +22,20 @@ use std::thread::Threads;
 const STILL: u64 = 1_600_000_000;
 
 /// The port of lane `k`, one of the lanes 0 to `n`.
-fn port_of(alloc: Global, n: u32, k: u32) -> Result<Port<MemSource, MemSink>, AllocError>
+fn port_of(alloc: Global, n: u32, k: u32) -> Result<Port<MadeInput, MemSink>, AllocError>
     requires count { IsCount n }
     requires lane { k ≤ n }
     ensures { IfOk result (λ port. port ≡ spec.port_of k) }
 {
     let input = generate(alloc, n, k)?;
     Ok(Port {
-        source: MemSource::new(input, Vec::new(alloc)),
+        source: MadeInput::new(alloc, input),
         sink: MemSink::new(alloc, Vec::new(alloc)),
     })
 }
 
 /// The ports of lanes 0 to `n`.
-fn ports_of(alloc: Global, n: u32) -> Result<Vec<Port<MemSource, MemSink>>, AllocError>
+fn ports_of(alloc: Global, n: u32) -> Result<Vec<Port<MadeInput, MemSink>>, AllocError>
     requires { IsCount n }
     ensures { IfOk result (λ ports. ports.items ≡ spec.ports_of n) }
 {
@@ -50,7 +51,7 @@ fn serve_made<R: Threads + Wait + Sync, D: Disk + Send, E: Disk + Send, J: Sink,
     rt: &R,
     alloc: Global,
     _last: u32,
-    ports: &mut [Port<MemSource, MemSink>],
+    ports: &mut [Port<MadeInput, MemSink>],
     disk: D,
     remote: Option<E>,
     journal: &mut J,

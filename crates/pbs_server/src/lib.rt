@@ -2,8 +2,10 @@
 #![tactic(auto)]
 
 mod asking;
+mod checking;
 mod ended;
 mod generating;
+mod input;
 pub mod laws;
 mod run;
 mod saving;
@@ -14,6 +16,7 @@ mod summing;
 mod telling;
 
 pub use command_line::{Plan, WordFault, plan_words};
-pub use served::{RunReport, Served, Unequal};
+pub use replay::Unequal;
+pub use served::{RunReport, Served};
 pub use serving::serve;
 pub use status::Status;

@@ -4,16 +4,8 @@ use crate::status::Status;
 use core_opening::OpenFault;
 use disk_trait::DiskError;
 use lane::LaneReport;
+use replay::Unequal;
 use store_types::Entry;
-
-/// The first byte at which replayed and kept replies differ. None where that side has ended.
-#[derive(Clone, Copy, Debug, PartialEq, Eq)]
-pub struct Unequal {
-    pub lane: u32,
-    pub place: u64,
-    pub replayed: Option<u8>,
-    pub kept: Option<u8>,
-}
 
 /// How each lane was served, and for each entry of the order the disk's count of calls as it was answered. Empty where no
 /// lane was served.
@@ -28,7 +20,8 @@ pub struct RunReport {
     pub not_saved: Option<DiskError>,
     /// The journal failed as the order was written into it.
     pub journal_failed: bool,
-    /// Only a check of a run tells one.
+    /// The first byte at which replayed and kept replies differ: a check of a run tells one, where its status is
+    /// [`Unequal`](Status::Unequal).
     pub unequal: Option<Unequal>,
 }
 

@@ -1,10 +1,12 @@
 //! The program's call.
 
-ghost use Rattle.std.specs.Prelude.{◌≡◌, None, length};
+ghost use Rattle.std.specs.Prelude.{◌≡◌, ◌↔◌, IsSome, length};
 ghost use Rattle.pbs_server.specs.Asking.{LeavesBy};
+ghost use Rattle.pbs_server.specs.Completeness.{IsComplete};
 ghost use Rattle.pbs_server.specs.Words.{AsksTooMany, IsMisused, TellsJust};
 
 use crate::asking::{Asked, read_words};
+use crate::checking::serve_checked;
 use crate::generating::serve_generated;
 use crate::run::{not_served, serve_ports};
 use crate::served::Served;
@@ -26,7 +28,14 @@ use std::thread::Threads;
 /// `gen ROOT N` takes no ports: the program makes the sessions of lanes 0 to N, and serves them so with a clock that stands at
 /// 1,600,000,000. Where all is well the journal takes their summary. A sink of its own that cannot grow is want of memory.
 ///
-/// The disk and the remote are handed back in every case. Other words, also those that `plan_words` reads, are
+/// `check ROOT ORDER [--remote ROOT2] SESSION..` replays a run over the disk and the remote as they were before it, and only reads
+/// them. The first port has the run's order; for each session come its input and the replies that were kept of it. The journal
+/// takes one line: `equal`, or the first byte that differs.
+///
+/// Where no count of faults rose, sessions whose sources tell whole commands are answered [`Ok`](Status::Ok), each ended cleanly, or
+/// [`NoMemory`](Status::NoMemory); so is a check of such a run.
+///
+/// The disk and the remote are handed back in every case. Words without a reading, or for another number of ports, are
 /// [`Usage`](Status::Usage). `rt` has the threads of the lanes, and of those that hash a VERIFY's
 /// chunks, and the leave to wait for the turn.
 pub fn serve<
@@ -53,7 +62,9 @@ pub fn serve<
         words.now disk remote lanes.old lanes.new journal.old journal.new result }
     ensures usage { TellsJust result Status.Usage (IsMisused words.now (length lanes.old)) }
     ensures many { TellsJust result Status.TooManyLanes (AsksTooMany words.now (length lanes.old)) }
-    ensures unequal { result.report.unequal ≡ None }
+    ensures unequal { IsSome result.report.unequal ↔ result.status ≡ Status.Unequal }
+    ensures complete { IsComplete D.Disk E.Disk S.Source K.Sink J.Sink
+        words.now disk remote lanes.old lanes.new journal.old journal.new result }
 {
     let asked = match read_words(alloc, words, lanes.len()) {
         Ok(asked) => asked,
@@ -62,6 +73,7 @@ pub fn serve<
     let with_order = match asked {
         Asked::Run { with_order } => with_order,
         Asked::Gen { n } => return serve_generated(rt, alloc, n, disk, remote, journal, gate),
+        Asked::Check => return serve_checked(alloc, lanes, disk, remote, journal),
     };
     let served = serve_ports(rt, alloc, lanes, disk, remote, clock, gate);
     if with_order {

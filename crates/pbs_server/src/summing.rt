@@ -11,13 +11,14 @@ ghost use Rattle.pbs_server.specs.Generating.{IsInMemory, IsJustTold, TellsEnded
 ghost use Rattle.pbs_server.specs.declared.status.Status.TheVariants.{Ok as AllOk};
 
 use crate::ended::Ended;
+use crate::input::MadeInput;
 use crate::served::Served;
 use crate::status::{Status, status_of};
 use crate::telling::with_failed_journal;
 use core_state::{Kept, Listed};
 use generator::summary;
 use lane::{Ending, LaneReport, Port};
-use port_traits::{MemSink, MemSource, Sink, write_all_of};
+use port_traits::{MemSink, Sink, write_all_of};
 use std::alloc::{AllocError, Global};
 use store_types::Bytes;
 use wire_commands::ListRow;
@@ -57,7 +58,7 @@ fn rows_of(alloc: Global, listed: &[Listed]) -> Result<Vec<ListRow>, AllocError>
 }
 
 /// What the sinks took.
-fn replies_of(alloc: Global, ports: &[Port<MemSource, MemSink>]) -> Result<Vec<Bytes>, AllocError>
+fn replies_of(alloc: Global, ports: &[Port<MadeInput, MemSink>]) -> Result<Vec<Bytes>, AllocError>
     ensures { IfOk result (λ replies. replies.items ≡ replies_of_ports ports.now) }
 {
     let mut replies = Vec::new(alloc);
@@ -70,7 +71,7 @@ fn replies_of(alloc: Global, ports: &[Port<MemSource, MemSink>]) -> Result<Vec<B
 /// The summary's text, of what the sinks took and these snapshots.
 fn text_of(
     alloc: Global,
-    ports: &[Port<MemSource, MemSink>],
+    ports: &[Port<MadeInput, MemSink>],
     listed: &[Listed],
 ) -> Result<Vec<u8>, AllocError>
     requires { IsTrue (list_all is_named_snapshot listed.now) }
@@ -137,7 +138,7 @@ fn tell<D, E, J: Sink>(
 pub fn tell_ended<D, E, C: Drop, J: Sink>(
     alloc: Global,
     ended: Ended<D, E, C>,
-    ports: &[Port<MemSource, MemSink>],
+    ports: &[Port<MadeInput, MemSink>],
     journal: &mut J,
 ) -> Served<D, E>
     ensures { TellsEnded J.Sink ended ports.now journal.old journal.new result }

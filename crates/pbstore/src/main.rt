@@ -1,8 +1,12 @@
 //! The program `pbstore`: serves the sessions that its words name, all at once, on a datastore folder, beside another that snapshots
 //! may be pulled from. The replies to the session in a file go to the file of its name with `.out` behind it, and the order of all
-//! acts to the file that the words name for it. Or it makes sessions itself, serves them so, and prints their summary.
+//! acts to the file that the words name for it. Or it makes sessions itself, serves them so, and prints their summary; or it reads a
+//! run's order, sessions and replies, and prints how they compare with its replay.
 #![tactic(auto)]
 
+mod check;
+
+use crate::check::{Check, serve_check};
 use file_disk::{AtOnce, FileDisk};
 use lane::Port;
 use pbs_server::{Plan, Status, WordFault, plan_words, serve};
@@ -149,6 +153,23 @@ fn serve_words<R: Threads + Wait + Sync>(
     let plan = plan_words(rt.alloc(), words);
     if let Err(WordFault::NoMemory) = plan {
         return Ok(Status::NoMemory);
+    }
+    if let Ok(
+        Plan::Check {
+            root,
+            order,
+            remote,
+            sessions,
+        },
+    ) = &plan
+    {
+        let check = Check {
+            root: root.as_str(),
+            order: order.as_str(),
+            remote: text_of(remote),
+            sessions: sessions.as_slice(),
+        };
+        return serve_check(rt, threads, words, &check);
     }
     let paths = paths_of(&plan);
     match paths.order {

@@ -3,7 +3,9 @@
 #![tactic(auto)]
 
 mod bytes;
+mod checked;
 mod checks;
+mod compared;
 mod differs;
 mod file;
 mod gate;

@@ -1,7 +1,9 @@
 //! What the next sessions are to send and to be told, in which order, and which calls of their ends fail.
 
+use crate::bytes::bytes_of;
 use crate::differs::Differs;
 use crate::gate::{Event, GateHandle, LineGate, Step};
+use crate::session::Left;
 use crate::talk::Talk;
 use crate::words::{number_of, numbers_of};
 use lane::Port;
@@ -31,6 +33,8 @@ pub struct Plan {
     pub taken: Vec<u64>,
     /// Which lists of the disk have a name more.
     pub shown: Vec<u64>,
+    /// The order's file, of a run that is checked and not served.
+    order: Vec<u8>,
 }
 
 /// Where the clock stands.
@@ -57,6 +61,7 @@ impl Plan {
             remote_fails: Vec::new(alloc),
             taken: Vec::new(alloc),
             shown: Vec::new(alloc),
+            order: Vec::new(alloc),
         })
     }
 
@@ -72,6 +77,7 @@ impl Plan {
             b"remote-fails" => self.remote_fails = numbers_of(self.alloc, rest)?,
             b"taken" => self.taken = numbers_of(self.alloc, rest)?,
             b"shown" => self.shown = numbers_of(self.alloc, rest)?,
+            b"order" => self.order = bytes_of(self.alloc, rest)?,
             _ => return self.obey_lane(line, word, rest),
         }
         Ok(true)
@@ -150,6 +156,28 @@ impl Plan {
             self.steps.clone()?
         };
         LineGate::over(self.alloc, steps)
+    }
+
+    /// The files of a run that left this: the order's, and of each session its input and its replies.
+    pub fn files(&self, left: &Left) -> Result<Vec<Vec<u8>>, AllocError> {
+        let mut files = Vec::new(self.alloc);
+        files.push(left.file.clone()?)?;
+        for (talk, told) in self.talks.iter().zip(left.told.iter()) {
+            files.push(talk.sent.clone()?)?;
+            files.push(told.clone()?)?;
+        }
+        Ok(files)
+    }
+
+    /// The files of a run that had this order, and left what is wanted.
+    pub fn wanted_files(&self) -> Result<Vec<Vec<u8>>, AllocError> {
+        let mut files = Vec::new(self.alloc);
+        files.push(self.order.clone()?)?;
+        for talk in &self.talks {
+            files.push(talk.sent.clone()?)?;
+            files.push(talk.wanted()?)?;
+        }
+        Ok(files)
     }
 
     pub fn ports(&self) -> Result<Vec<Port<MemSource, MemSink>>, AllocError> {

@@ -40,12 +40,24 @@ pub struct Left {
     pub report: RunReport,
     /// What each lane told.
     pub told: Vec<Vec<u8>>,
+    /// The order's file.
+    pub file: Vec<u8>,
     pub disk: Counts,
     pub remote: Counts,
     /// How many calls of the disk found nothing or more, as planned.
     pub came: usize,
     /// The lines' order did not come about.
     gave_up: bool,
+}
+
+impl Disks {
+    /// Copies of both, as they read.
+    pub fn copies(&self, alloc: Global) -> Result<Disks, AllocError> {
+        Ok(Disks {
+            disk: copy_of(alloc, &self.disk)?,
+            remote: copy_of_remote(alloc, &self.remote)?,
+        })
+    }
 }
 
 /// A disk as it reads, as one of its own.
@@ -71,14 +83,28 @@ type Taken = TakenDisk<Failed>;
 /// What was served on a disk beside a remote.
 type Over = Served<Taken, Failed>;
 
-/// What was served, what each lane told, and whether the gate gave up.
-type Run = (Over, Vec<Vec<u8>>, bool);
+/// What is asked of the program: its words, and the ports that they ask for.
+#[derive(Drop)]
+pub struct Asked {
+    pub words: Vec<String>,
+    pub ports: Vec<Port<MemSource, MemSink>>,
+}
 
-/// The words `run root session`, the last once for each session.
-fn words(alloc: Global, sessions: usize) -> Result<Vec<String>, AllocError> {
+/// What was served, what was told into each port, what the journal took, and whether the gate gave up.
+#[derive(Drop)]
+pub struct Run {
+    served: Over,
+    told: Vec<Vec<u8>>,
+    journal: Vec<u8>,
+    gave_up: bool,
+}
+
+/// These words, and one for each session.
+pub fn words(alloc: Global, fronts: &[&str], sessions: usize) -> Result<Vec<String>, AllocError> {
     let mut words = Vec::new(alloc);
-    words.push(String::from_str(alloc, "run")?)?;
-    words.push(String::from_str(alloc, "root")?)?;
+    for front in fronts {
+        words.push(String::from_str(alloc, front)?)?;
+    }
     for _ in 0..sessions {
         words.push(String::from_str(alloc, "session")?)?;
     }
@@ -96,16 +122,16 @@ fn told_by(
     Ok(told)
 }
 
-/// Serves them on disks that fail as they should, and gives what they told, too.
+/// Does what is asked on disks that fail as they should.
 fn serve_on<R: Threads + Wait + Sync>(
     rt: &R,
     alloc: Global,
     plan: &Plan,
+    asked: Asked,
     disk: Taken,
     remote: Option<Failed>,
 ) -> Result<Run, AllocError> {
-    let mut ports = plan.ports()?;
-    let words = words(alloc, ports.len())?;
+    let Asked { words, mut ports } = asked;
     let gate = plan.gate()?;
     let clock = LineClock::new(plan.clock()?, Arc::try_clone(&gate)?);
     let mut journal = MemSink::new(alloc, Vec::new(alloc));
@@ -120,8 +146,12 @@ fn serve_on<R: Threads + Wait + Sync>(
         &mut journal,
         &*gate,
     );
-    let told = told_by(alloc, ports)?;
-    Ok((served, told, gate.gave_up()))
+    Ok(Run {
+        served,
+        told: told_by(alloc, ports)?,
+        journal: journal.into_bytes(),
+        gave_up: gate.gave_up(),
+    })
 }
 
 /// Both disks, which fail, and find nothing or more, as it is planned.
@@ -185,6 +215,32 @@ fn ended(alloc: Global, served: &Over, plan: &Plan) -> Result<String, AllocError
     Ok(text)
 }
 
+/// Checks what is asked so, where nothing fails: the status, and the line that is told. Nothing is written to a disk or into a port.
+pub fn serve_check<R: Threads + Wait + Sync>(
+    rt: &R,
+    alloc: Global,
+    asked: Asked,
+    disks: Disks,
+) -> Result<(Status, Vec<u8>), Differs> {
+    let plan = Plan::new(alloc)?;
+    let steps = (disks.disk.steps().len(), counts_of(&disks.remote).1);
+    let (disk, remote) = failing(&plan, disks)?;
+    let Run {
+        served,
+        told,
+        journal,
+        gave_up: _,
+    } = serve_on(rt, alloc, &plan, asked, disk, remote)?;
+    let status = served.status;
+    let is_told = told.iter().any(|told| !told.is_empty());
+    let (_, remote) = handed_back(0, served.remote);
+    let disk = served.disk.into_inner().into_inner();
+    if is_told || (disk.steps().len(), counts_of(&remote).1) != steps {
+        return Err(Differs::Found(String::from_str(alloc, "a write of a check")?));
+    }
+    Ok((status, journal))
+}
+
 /// Serves the sessions that are planned. The remote is not written.
 pub fn serve_plan<R: Threads + Wait + Sync>(
     rt: &R,
@@ -195,7 +251,15 @@ pub fn serve_plan<R: Threads + Wait + Sync>(
     let before = disks.disk.calls();
     let (remote_before, steps) = counts_of(&disks.remote);
     let (disk, remote) = failing(plan, disks)?;
-    let (served, told, gave_up) = serve_on(rt, alloc, plan, disk, remote)?;
+    let ports = plan.ports()?;
+    let words = words(alloc, &["run", "root", "--order=file"], ports.len())?;
+    let asked = Asked { words, ports };
+    let Run {
+        served,
+        told,
+        journal,
+        gave_up,
+    } = serve_on(rt, alloc, plan, asked, disk, remote)?;
     let ended = ended(alloc, &served, plan)?;
     let (remote_counts, remote) = handed_back(remote_before, served.remote);
     if counts_of(&remote).1 != steps {
@@ -207,6 +271,7 @@ pub fn serve_plan<R: Threads + Wait + Sync>(
         order: served.order,
         report: served.report,
         told,
+        file: journal,
         disk: counted(before, &served.disk),
         remote: remote_counts,
         came: served.disk.came,
@@ -217,6 +282,14 @@ pub fn serve_plan<R: Threads + Wait + Sync>(
 }
 
 impl Left {
+    /// No call of the disk failed, and each reply was told.
+    pub fn told_all(&self) -> bool {
+        matches!(
+            self.status,
+            Status::Ok | Status::BadFrame | Status::RemoteFault
+        )
+    }
+
     /// What holds of every run: each entry is of one of its lanes, of this moment where it is known, and has its count of calls; of each
     /// lane as many bytes were given as were told; and it ended where its input did or at BYE, but with BadFrame, where no command stands,
     /// or with SinkFault.

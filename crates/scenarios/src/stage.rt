@@ -1,13 +1,14 @@
 //! A datastore and the remote as a scenario goes on, line by line.
 
 use crate::bytes::bytes_of;
+use crate::checked::Checked;
 use crate::checks::holds;
 use crate::differs::Differs;
 use crate::plan::Plan;
 use crate::session::{Disks, Left, copy_of, copy_of_remote};
 use crate::stops::{Found, Sweep, Whole};
-use crate::words::{number_of, split};
-use crate::woven::serve_compared;
+use crate::words::{number_of, same, split};
+use crate::woven::{Compared, Plains, serve_compared};
 use disk_trait::{Disk, MemoryDisk};
 use std::alloc::{AllocError, Global};
 use std::mem;
@@ -32,6 +33,8 @@ pub struct Stage {
     sweep: Sweep,
     /// What the last session left.
     left: Option<Left>,
+    /// The last run that was checked.
+    checked: Option<Checked>,
 }
 
 /// A file's name, which may have any letters.
@@ -54,6 +57,7 @@ impl Stage {
             plan: Plan::new(alloc)?,
             sweep: Sweep::new(alloc),
             left: None,
+            checked: None,
         })
     }
 
@@ -68,6 +72,8 @@ impl Stage {
         let (word, rest) = split(line);
         match word.as_bytes() {
             b"ends" => self.serve(rt, rest),
+            b"checks" => self.check(rt, rest),
+            b"checked" | b"changed" | b"reordered" => self.check_again(rt, word, rest),
             b"sweep" => self.sweep(rt, number_of(rest)?),
             _ => self.prepare(kept, number, word, rest),
         }
@@ -232,12 +238,18 @@ impl Stage {
     }
 
     /// Goes on with what was served.
-    fn go_on(&mut self, left: Left, disks: Disks) {
+    fn go_on(&mut self, compared: Compared) {
+        let Compared {
+            left,
+            disks,
+            checked,
+        } = compared;
         self.disk = disks.disk;
         if disks.remote.is_some() {
             self.other = disks.remote;
         }
         self.left = Some(left);
+        self.checked = Some(checked);
     }
 
     /// Serves what is planned. Where it is to be tried more than once, so on copies, until what is wanted comes about.
@@ -245,15 +257,45 @@ impl Stage {
         let alloc = self.alloc;
         let plan = mem::replace(&mut self.plan, Plan::new(alloc)?);
         for _ in 1..plan.tries {
-            let (left, disks) = serve_compared(rt, alloc, &plan, self.copy_disks()?)?;
-            if left.compare(alloc, &plan, ended).is_ok() {
-                self.go_on(left, disks);
+            let compared = serve_compared(rt, alloc, &plan, self.copy_disks()?)?;
+            if compared.left.compare(alloc, &plan, ended).is_ok() {
+                self.go_on(compared);
                 return Ok(());
             }
         }
-        let (left, disks) = serve_compared(rt, alloc, &plan, self.take_disks())?;
-        left.compare(alloc, &plan, ended)?;
-        self.go_on(left, disks);
+        let compared = serve_compared(rt, alloc, &plan, self.take_disks())?;
+        compared.left.compare(alloc, &plan, ended)?;
+        self.go_on(compared);
         Ok(())
+    }
+
+    /// Checks a run that is planned, of which the replies that are wanted were kept.
+    fn check<R: Threads + Wait + Sync>(&mut self, rt: &R, wanted: &str) -> Result<(), Differs> {
+        let alloc = self.alloc;
+        let plan = mem::replace(&mut self.plan, Plan::new(alloc)?);
+        let disks = self.copy_disks()?;
+        let plains = Plains::load(alloc, &disks)?;
+        let checked = Checked::of(rt, alloc, disks, plains, plan.wanted_files()?)?;
+        let told = checked.told.clone()?;
+        self.checked = Some(checked);
+        same(told, wanted)
+    }
+
+    /// What the last check told, and what it tells with each byte of its files another, and with each entry of its order elsewhere.
+    fn check_again<R: Threads + Wait + Sync>(
+        &mut self,
+        rt: &R,
+        word: &str,
+        wanted: &str,
+    ) -> Result<(), Differs> {
+        let Some(checked) = &mut self.checked else {
+            return Err(Differs::Unread);
+        };
+        let told = match word.as_bytes() {
+            b"changed" => checked.check_bytes(rt, self.alloc)?,
+            b"reordered" => checked.check_entries(rt, self.alloc)?,
+            _ => checked.told.clone()?,
+        };
+        same(told, wanted)
     }
 }

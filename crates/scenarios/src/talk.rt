@@ -92,6 +92,15 @@ impl Talk {
         self.takes == Some(told.len() as u64)
     }
 
+    /// The replies that are wanted.
+    pub fn wanted(&self) -> Result<Vec<u8>, AllocError> {
+        let mut wanted = Vec::new(self.alloc);
+        for Wanted { bytes, .. } in &self.wanted {
+            wanted.extend_from_slice(bytes)?;
+        }
+        Ok(wanted)
+    }
+
     /// The replies are those that are wanted, one behind another, as far as the sink takes them.
     pub fn compare(&self, told: &[u8]) -> Result<(), Differs> {
         let is_cut = self.is_cut(told);

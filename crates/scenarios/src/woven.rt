@@ -1,10 +1,12 @@
 //! Replies beside those of the plain copy of the store, in the order that a run returned.
 
 use crate::bytes::shown;
+use crate::checked::Checked;
 use crate::differs::Differs;
 use crate::plan::Plan;
-use crate::rules::reread;
+use crate::rules::read;
 use crate::session::{Disks, Left, copy_of, serve_plan};
+use crate::words::same;
 use disk_trait::MemoryDisk;
 use lane::{Ending, LaneReport};
 use plain_store::Plain;
@@ -15,14 +17,17 @@ use store_types::{Bytes, LANES, Rows};
 
 /// The plain copies of the datastore and the remote, before a run.
 #[derive(Drop)]
-struct Plains {
-    here: Plain,
-    there: Option<Plain>,
+pub struct Plains {
+    pub here: Plain,
+    /// The datastore has a damaged snapshot.
+    pub is_damaged: bool,
+    pub there: Option<Plain>,
 }
 
-fn load(alloc: Global, disk: &MemoryDisk) -> Result<Plain, Differs> {
+/// The plain copy of a disk, and whether that has a damaged snapshot.
+fn load(alloc: Global, disk: &MemoryDisk) -> Result<(Plain, bool), Differs> {
     let mut disk = copy_of(alloc, disk)?;
-    Ok(Plain::load(alloc, &mut disk)?)
+    Ok(Plain::load_told(alloc, &mut disk)?)
 }
 
 /// What the sources of lanes gave.
@@ -114,18 +119,20 @@ fn compare_all(
 }
 
 impl Plains {
-    fn load(alloc: Global, disks: &Disks) -> Result<Plains, Differs> {
+    pub fn load(alloc: Global, disks: &Disks) -> Result<Plains, Differs> {
         let there = match &disks.remote {
-            Some(remote) => Some(load(alloc, remote)?),
+            Some(remote) => Some(load(alloc, remote)?.0),
             None => None,
         };
+        let (here, is_damaged) = load(alloc, &disks.disk)?;
         Ok(Plains {
-            here: load(alloc, &disks.disk)?,
+            here,
+            is_damaged,
             there,
         })
     }
 
-    /// Each lane was told what the plain copy tells it, where the acts come in the order that the run returned.
+    /// Each lane was told what the plain copy tells it, where the acts come in the order that the run returned, which its file has.
     fn compare(&self, alloc: Global, plan: &Plan, left: &Left) -> Result<(), Differs> {
         let lanes = left.report.lanes.as_slice();
         let inputs = inputs_of(alloc, plan, lanes)?;
@@ -133,10 +140,13 @@ impl Plains {
         if inputs.len() > LANES || endings.len() != inputs.len() {
             return Err(Differs::Unread);
         }
-        let Some(order) = reread(alloc, left.order.as_slice(), inputs.len() as u32)? else {
+        let Some(order) = read(alloc, inputs.len() as u32, left.file.as_slice())? else {
             let text = String::from_str(alloc, "an order that breaks a rule")?;
             return Err(Differs::Found(text));
         };
+        if order != left.order {
+            return Err(Differs::Found(String::from_str(alloc, "another order")?));
+        }
         let there = self.there.as_ref();
         match self.here.weave(alloc, there, &order, &inputs, &endings)? {
             Ok(woven) => compare_all(alloc, plan, left, &woven.replies),
@@ -145,18 +155,37 @@ impl Plains {
     }
 }
 
-/// Serves what is planned, and compares several sessions with the plain copy.
+/// What a run left, the disks, and its check.
+#[derive(Drop)]
+pub struct Compared {
+    pub left: Left,
+    pub disks: Disks,
+    pub checked: Checked,
+}
+
+/// Serves what is planned, compares several sessions with the plain copy, and checks the run. Of several sessions, each of which was told all,
+/// the replies are equal.
 pub fn serve_compared<R: Threads + Wait + Sync>(
     rt: &R,
     alloc: Global,
     plan: &Plan,
     disks: Disks,
-) -> Result<(Left, Disks), Differs> {
-    if plan.talks.len() == 1 {
-        return serve_plan(rt, alloc, plan, disks);
-    }
+) -> Result<Compared, Differs> {
+    let before = disks.copies(alloc)?;
     let plains = Plains::load(alloc, &disks)?;
     let (left, disks) = serve_plan(rt, alloc, plan, disks)?;
-    plains.compare(alloc, plan, &left)?;
-    Ok((left, disks))
+    let are_several = plan.talks.len() > 1;
+    if are_several {
+        plains.compare(alloc, plan, &left)?;
+    }
+    let is_equal = are_several && left.told_all() && !plains.is_damaged;
+    let checked = Checked::of(rt, alloc, before, plains, plan.files(&left)?)?;
+    if is_equal {
+        same(checked.told.clone()?, "Ok equal")?;
+    }
+    Ok(Compared {
+        left,
+        disks,
+        checked,
+    })
 }

@@ -1,5 +1,6 @@
 //! Sessions by `serve` on datastores in memory. The bytes are made by `tests/make-tables`.
 
+mod checks;
 mod disk_faults;
 pub(crate) mod gated;
 mod generated;

@@ -1,6 +1,14 @@
-//! Sessions that the program makes itself.
+//! Sessions that the program makes itself, and the replay of their order.
+
+ghost use Rattle.std.specs.Prelude.{◌≤◌};
 
 use super::*;
+use generator::generate;
+use order_file::put_order;
+use plain_store::{Plain, Woven};
+use replay::read_faultless;
+use sha2::{Digest, Sha256};
+use store_types::{Bytes, Entry};
 
 /// Serves those that the words ask for, with these ports. The clock is not read.
 fn generate_into(
@@ -24,6 +32,85 @@ fn generate_into(
         journal,
         &FreeGate,
     )
+}
+
+/// What lanes 0 to `n` are sent.
+fn inputs_of(rt: &impl Abort, alloc: Global, n: u32) -> Vec<Bytes>
+    requires some { 1 ≤ n }
+    requires most { n ≤ 63 }
+{
+    let mut inputs = Vec::new(alloc);
+    for k in 0..n + 1 {
+        must(
+            rt,
+            inputs.push(Bytes::from_vec(must(rt, generate(alloc, n, k)))),
+        );
+    }
+    inputs
+}
+
+/// What the plain store tells these lanes in an order, over what a disk has.
+fn woven_of(
+    rt: &impl Abort,
+    alloc: Global,
+    disk: &MemoryDisk,
+    file: &[u8],
+    inputs: &[Bytes],
+) -> Woven {
+    let lanes = inputs.len();
+    assert!(rt; lanes <= 64);
+    let Some(order) = must(rt, read_faultless(alloc, lanes as u32, file)) else {
+        panic!(rt; "no order");
+    };
+    let mut disk = must(rt, disk.crashed(alloc, 1));
+    let store = must(rt, Plain::load(alloc, &mut disk));
+    let endings = [Ending::Clean; 64];
+    let woven = store.weave(alloc, None, &order, inputs, &endings[..lanes]);
+    let Ok(woven) = must(rt, woven) else {
+        panic!(rt; "an entry that does not fit");
+    };
+    woven
+}
+
+/// The summary's line of a lane that was told this.
+fn assert_line(rt: &impl Abort, alloc: Global, line: &str, lane: usize, told: &[u8]) {
+    let digest = must(rt, hex::encode(alloc, Sha256::digest(told)));
+    let size = told.len();
+    let wanted = must(rt, format!(in alloc; "lane {lane} {size} {digest}"));
+    same(rt, line.as_bytes(), wanted.as_bytes());
+}
+
+/// The replay of a run's order tells each lane but lane 0 what the summary says; and a check of the order, with what the replay tells, finds it
+/// equal.
+fn assert_replayed(
+    rt: &(impl Abort + Threads + Wait + Sync),
+    alloc: Global,
+    n: u32,
+    disk: MemoryDisk,
+    order: &[Entry],
+    summary: &[u8],
+)
+    requires some { 1 ≤ n }
+    requires most { n ≤ 63 }
+{
+    let mut file = empty_sink(alloc);
+    must(rt, put_order(&mut file, order));
+    let inputs = inputs_of(rt, alloc, n);
+    let woven = woven_of(rt, alloc, &disk, file.as_bytes(), &inputs);
+    let told = woven.replies.as_slice();
+    let summary = must(rt, str::from_utf8(summary));
+    for (place, line) in summary.lines().take(n as usize).enumerate() {
+        let lane = place.saturating_add(1);
+        let told = told.get(lane).expect(rt, "a lane");
+        assert_line(rt, alloc, line, lane, told.as_slice());
+    }
+    let mut files: Vec<&[u8]> = Vec::new(alloc);
+    must(rt, files.push(file.as_bytes()));
+    for (input, told) in inputs.iter().zip(told.iter()) {
+        must(rt, files.push(input.as_slice()));
+        must(rt, files.push(told.as_slice()));
+    }
+    checks::assert_equal(rt, alloc, disk, &files);
 }
 
 /// Of four lanes beside lane 0, on an empty datastore.
@@ -62,6 +149,8 @@ fn four_lanes_have_one_summary(rt: HostRuntime) {
         let served = generate_into(&rt, alloc, &["gen", "root", "4"], 0, disk, &mut journal);
         same(&rt, journal.as_bytes(), SUMMARY);
         assert_told(&rt, &served, &[0, 5, 0]);
+        let disk = MemoryDisk::new(alloc);
+        assert_replayed(&rt, alloc, 4, disk, &served.order, SUMMARY);
     }
 }
 
@@ -83,9 +172,11 @@ fn one_lane_is_served_again(rt: HostRuntime) {
     let mut disk = MemoryDisk::new(alloc);
     for summary in &SUMMARIES {
         let mut journal = empty_sink(alloc);
+        let before = must(&rt, disk.crashed(alloc, 1));
         let served = generate_into(&rt, alloc, &["gen", "root", "1"], 0, disk, &mut journal);
         same(&rt, journal.as_bytes(), summary);
         assert_told(&rt, &served, &[0, 2, 0]);
+        assert_replayed(&rt, alloc, 1, before, &served.order, summary);
         disk = served.disk;
     }
 }
@@ -106,6 +197,8 @@ fn the_summary_is_cut_off(rt: HostRuntime) {
             &served,
             if *size < 149 { &[5, 2, 1] } else { &[0, 2, 0] },
         );
+        let disk = MemoryDisk::new(alloc);
+        assert_replayed(&rt, alloc, 1, disk, &served.order, SUMMARIES[0]);
     }
 }
 

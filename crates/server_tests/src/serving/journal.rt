@@ -58,7 +58,7 @@ static TAKEN: [Row; 7] = [
     ),
     (&["run", "--order", "file", "root", "one"], 2, &[], 2, b""),
     (&["run", "--order", "file", "root"], 0, &[], 2, b""),
-    (&["check", "root", "file", "one"], 3, &[], 2, b""),
+    (&["check", "root", "file", "one"], 1, &[], 2, b""),
 ];
 
 fn try_taken(rt: &(impl Abort + Threads + Wait + Sync), alloc: Global, row: &Row) {
@@ -115,7 +115,7 @@ fn it_is_read_back(rt: HostRuntime) {
 }
 
 /// The order of a session that reads back what it backs up.
-const ORDER: &[u8] =
+pub const ORDER: &[u8] =
     b"PBSORDER\0\0\0\0\0\x10^_\0\0\0\0\0\0\0\0\0\0\x10^_\0\0\0\0\0\0\0\0\0\0\x10^_\0\0\0\0\0\0\0\0\0\0\x10^_\0\0\0\0\0\0\0\0\0\0\x10^_\0\0\0\0\0\0\0\0\0\0\x10^_\0\0\0\0\x06";
 
 /// How many bytes are there before each write of seven bytes at most, and behind the last.

@@ -19,13 +19,23 @@ pub fn empty_ports(rt: &impl Abort, alloc: Global, count: usize) -> Vec<Port<Mem
     ports
 }
 
-/// The words `run root`, and so many sessions.
-pub fn asking(rt: &impl Abort, alloc: Global, sessions: usize) -> Vec<String> {
-    let mut words = must(rt, words_of(alloc, &["run", "root"]));
+/// These words, and so many sessions.
+fn with_sessions(rt: &impl Abort, alloc: Global, fronts: &[&str], sessions: usize) -> Vec<String> {
+    let mut words = must(rt, words_of(alloc, fronts));
     for _ in 0..sessions {
         must(rt, words.push(must(rt, String::from_str(alloc, "session"))));
     }
     words
+}
+
+/// The words of a run of so many sessions.
+pub fn asking(rt: &impl Abort, alloc: Global, sessions: usize) -> Vec<String> {
+    with_sessions(rt, alloc, &["run", "root"], sessions)
+}
+
+/// The words of its check.
+pub fn checking(rt: &impl Abort, alloc: Global, sessions: usize) -> Vec<String> {
+    with_sessions(rt, alloc, &["check", "root", "order"], sessions)
 }
 
 /// Sessions that words ask for, ports, and the status, the order's length and how many reports there are.

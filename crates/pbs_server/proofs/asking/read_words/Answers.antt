@@ -1,4 +1,4 @@
-use Rattle.std.proofs.Common.{◌∙◌, sym, ap, rules, is_some, Some, arith}
+use Rattle.std.proofs.Common.{◌∙◌, inl, sym, ap, rules, is_some, Some, arith}
 use Rattle.command_line.specs.Plans.{ports_of, said_by}
 use Rattle.command_line.specs.Reading.{texts}
 use Rattle.pbs_server.proofs.Words.{made_asks}
@@ -6,7 +6,7 @@ use Rattle.pbs_server.proofs.asking.read_words.Goals as goal
 
 -- there are too many sessions
 pub returns-then-ports-gt-LANES : goal.returns-then-ports-gt-LANES
-returns-then-ports-gt-LANES c = ((is_some c.in-Run.order, search rules), omega arith)
+returns-then-ports-gt-LANES c = inl ((is_some c.in-Run.order, search rules), omega arith)
 
 -- sessions are to be made
 pub returns-in-Gen : goal.returns-in-Gen

@@ -1,0 +1,3 @@
+mod Chunking
+mod Ordered
+mod Stories

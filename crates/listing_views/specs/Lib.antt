@@ -1,0 +1,4 @@
+pub mod Rising
+pub mod Rows
+pub mod Listings
+pub mod Story

@@ -1,0 +1,4 @@
+pub mod Causes
+pub mod Ended
+pub mod Outs
+pub mod PortLemmas
