@@ -1,7 +1,8 @@
-"""Programs that scripts of this folder prove and build beside the product. Each stands in a module: the texts of its files (`FILES`), the crates that it cites
-(`CITES`), and its name (`CRATE`). It is proved to be safe (no contract says what it prints) and built as the product is, and stays in
+"""Programs that scripts of this folder prove and build beside the product. Each stands in a module: its name (`CRATE`), the crates that it
+cites (`CITES`), and the texts of its files (`FILES`). It is proved to be safe (no contract says what it prints) and built as the product is, and stays in
 crates/pbstore/out until the code is newer."""
 import os, shutil, subprocess, sys, tempfile
+import program_parts
 
 TOP = os.path.dirname(os.path.dirname(os.path.abspath(__file__)))
 OUT = os.path.join(TOP, "crates", "pbstore", "out")
@@ -33,7 +34,7 @@ def is_built(program, names):
         return False
     parts = [os.path.join(TOP, "crates", name, part) for name in names for part in ("src", "specs", "proofs")]
     files = [os.path.join(at, it) for part in parts for at, _, its in os.walk(part) for it in its]
-    return all(os.path.getmtime(it) <= os.path.getmtime(path) for it in [program.__file__, *files])
+    return all(os.path.getmtime(it) <= os.path.getmtime(path) for it in [program.__file__, program_parts.__file__, *files])
 
 
 def run_rt(log, words, place):
@@ -72,12 +73,13 @@ def built(program):
     os.makedirs(OUT, exist_ok=True)
     with open(log, "w"):
         pass
-    cited = program.CITES.split()
+    # (a crate of the toolchain is no row of crates.txt)
+    cited = [it for it in program.CITES.split() if it in names]
     for name in cited:
         if any(name in crates_below([it]) for it in cited if it != name):
             continue
         tell(program, f"proving {name}")
-        if os.path.isdir(os.path.join(TOP, "crates", name)) and run_rt(log, ["lib"], os.path.join(TOP, "crates", name)):
+        if run_rt(log, ["lib"], os.path.join(TOP, "crates", name)):
             fail(program, log, name)
     tell(program, f"proving {program.CRATE}")
     with tempfile.TemporaryDirectory(dir=OUT) as folder:

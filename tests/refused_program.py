@@ -5,6 +5,8 @@ here, and not in a crate, so that the gate does not prove it.
 Its arguments are `run` or `gen`, the file of the session (of `gen` any), and the file of the later session. It prints lines, each a word and
 what stands behind it; a line `served`, on standard error, comes before it does anything with what was served.
 """
+from program_parts import FROM_MEMORY, ORDER
+
 CRATE = "refused_program"
 CITES = "disk_trait port_traits store_types store_files order_file generator plain_store lane pbs_server hex"
 
@@ -12,6 +14,7 @@ MAIN = """//! Serves sessions in memory, and prints what came: the status, the o
 #![tactic(auto)]
 
 mod fits;
+mod order;
 mod serving;
 mod wrong;
 
@@ -118,7 +121,8 @@ fn main(rt: HostRuntime) -> ExitCode {
 }
 """
 
-WRONG = """//! What is wrong.
+WRONG = (
+    """//! What is wrong.
 
 use disk_trait::DiskError;
 use std::alloc::{AllocError, AllocFailed};
@@ -137,25 +141,9 @@ pub enum Wrong {
     NotTold,
 }
 
-impl From<AllocError> for Wrong {
-    fn from(_: AllocError) -> Wrong {
-        Wrong::NoMemory
-    }
-}
-
-impl<T: Drop> From<AllocFailed<T>> for Wrong {
-    fn from(_: AllocFailed<T>) -> Wrong {
-        Wrong::NoMemory
-    }
-}
-
-impl From<DiskError> for Wrong {
-    fn from(_: DiskError) -> Wrong {
-        Wrong::NoMemory
-    }
-}
-
-impl Display for Wrong {
+"""
+    + FROM_MEMORY
+    + """impl Display for Wrong {
     fn fmt<W: Write>(&self, f: &mut Formatter<W>) -> fmt::Result {
         match self {
             Wrong::NoMemory => f.write_str("no memory"),
@@ -167,6 +155,7 @@ impl Display for Wrong {
     }
 }
 """
+)
 
 SERVING = """//! Sessions are served.
 
@@ -305,38 +294,17 @@ pub fn reopened<R: Threads + Wait + Sync>(
 
 FITS = """//! How an order fits, by the plain copy of the store.
 
-ghost use Rattle.std.specs.Prelude.{IsTrue, IfOk, IfSome, ◌≤◌};
-ghost use Rattle.store_files.specs.Order.{keeps_rules};
+ghost use Rattle.std.specs.Prelude.{◌≤◌};
 
+use crate::order::read_again;
 use crate::serving::{Asked, Ran};
 use crate::wrong::Wrong;
 use disk_trait::MemoryDisk;
 use generator::generate;
 use lane::{Ending, LaneReport};
-use order_file::{put_order, read_order};
 use plain_store::{Misfit, Plain};
-use port_traits::MemSink;
 use std::alloc::{AllocError, Global};
-use store_types::{Bytes, Entry, Rows};
-
-/// The order as it is read from its file, for so many lanes. None where the file has no reading, or another one.
-#[tactic(auto, unfolding(store_files::specs::Order::order_of))]
-fn read_again(
-    alloc: Global,
-    lanes: u32,
-    order: &[Entry],
-) -> Result<Option<Vec<Entry>>, AllocError>
-    ensures { IfOk result (λ found. IfSome found (λ v. IsTrue (keeps_rules lanes v.items))) }
-{
-    let mut file = MemSink::new(alloc, Vec::new(alloc));
-    if put_order(&mut file, order).is_err() {
-        return Ok(None);
-    }
-    match read_order(alloc, lanes, file.as_bytes())? {
-        Some(found) if found.as_slice() == order => Ok(Some(found)),
-        _ => Ok(None),
-    }
-}
+use store_types::{Bytes, Rows};
 
 /// What a lane was sent.
 fn input_of(alloc: Global, asked: &Asked, lane: u32) -> Result<Vec<u8>, AllocError>
@@ -386,4 +354,4 @@ pub fn woven(alloc: Global, asked: &Asked, ran: &Ran) -> Result<Rows<Bytes>, Wro
 }
 """
 
-FILES = {"main": MAIN, "wrong": WRONG, "serving": SERVING, "fits": FITS}
+FILES = {"main": MAIN, "wrong": WRONG, "serving": SERVING, "fits": FITS, "order": ORDER}

@@ -6,6 +6,8 @@ session that prepares the datastore; 1 and the session that prepares the remote,
 behind their count, each with the most bytes of a read, the read that fails, the most bytes of a write, the write that fails, and what is sent; and
 the session of the later run.
 """
+from program_parts import FROM_MEMORY, ORDER
+
 CRATE = "soak_program"
 CITES = "disk_trait port_traits store_types store_files order_file plain_store lane pbs_server"
 
@@ -539,36 +541,6 @@ pub fn compare_run(
 }
 """
 
-ORDER = """//! An order as its file has it.
-
-ghost use Rattle.std.specs.Prelude.{IsTrue, IfOk, IfSome};
-ghost use Rattle.store_files.specs.Order.{keeps_rules};
-
-use order_file::{put_order, read_order};
-use port_traits::MemSink;
-use std::alloc::{AllocError, Global};
-use store_types::Entry;
-
-/// The order as it is read from its file, for so many lanes. None where the file has no reading, or another one.
-#[tactic(auto, unfolding(store_files::specs::Order::order_of))]
-pub fn read_again(
-    alloc: Global,
-    lanes: u32,
-    order: &[Entry],
-) -> Result<Option<Vec<Entry>>, AllocError>
-    ensures { IfOk result (λ found. IfSome found (λ v. IsTrue (keeps_rules lanes v.items))) }
-{
-    let mut file = MemSink::new(alloc, Vec::new(alloc));
-    if put_order(&mut file, order).is_err() {
-        return Ok(None);
-    }
-    match read_order(alloc, lanes, file.as_bytes())? {
-        Some(found) if found.as_slice() == order => Ok(Some(found)),
-        _ => Ok(None),
-    }
-}
-"""
-
 INPUT = """//! A run's file.
 
 use crate::wrong::Wrong;
@@ -787,7 +759,8 @@ impl Display for Tally {
 }
 """
 
-WRONG = """//! Why a run is not as it is to be.
+WRONG = (
+    """//! Why a run is not as it is to be.
 
 use disk_trait::DiskError;
 use std::alloc::{AllocError, AllocFailed};
@@ -812,25 +785,9 @@ pub enum Wrong {
     Told(usize, usize),
 }
 
-impl From<AllocError> for Wrong {
-    fn from(_: AllocError) -> Wrong {
-        Wrong::NoMemory
-    }
-}
-
-impl<T: Drop> From<AllocFailed<T>> for Wrong {
-    fn from(_: AllocFailed<T>) -> Wrong {
-        Wrong::NoMemory
-    }
-}
-
-impl From<DiskError> for Wrong {
-    fn from(_: DiskError) -> Wrong {
-        Wrong::NoMemory
-    }
-}
-
-impl Display for Wrong {
+"""
+    + FROM_MEMORY
+    + """impl Display for Wrong {
     fn fmt<W: Write>(&self, f: &mut Formatter<W>) -> fmt::Result {
         match self {
             Wrong::NoMemory => f.write_str("there is no memory"),
@@ -851,5 +808,6 @@ impl Display for Wrong {
     }
 }
 """
+)
 
 FILES = {"main": MAIN, "playing": PLAYING, "serving": SERVING, "compare": COMPARE, "order": ORDER, "input": INPUT, "tally": TALLY, "wrong": WRONG}
