@@ -18,7 +18,8 @@ pub fn found_snapshots_stay()
 {}
 
 /// The replay of a run that answered [`Ok`](crate::Status::Ok) differs nowhere from the replies that its sinks took: over the same
-/// datastore and remote as they were at first, by the returned order, with all that the sources had.
+/// datastore and remote as they were at first, by the returned order, with all that the sources had. The disk is honest and stands
+/// for a list of snapshots, so does the remote, where there is one, and no two unequal pieces have one digest.
 pub fn clean_runs_check_equal<D: Disk, E: Disk, S: Source, K: Sink>()
     ensures { RunsCheckEqual D.Disk E.Disk S.Source K.Sink }
 {}

@@ -33,7 +33,7 @@ use std::thread::Threads;
 /// takes one line: `equal`, or the first byte that differs.
 ///
 /// Where no count of faults rose, sessions whose sources tell whole commands are answered [`Ok`](Status::Ok), each ended cleanly, or
-/// [`NoMemory`](Status::NoMemory); so is a check of such a run.
+/// [`NoMemory`](Status::NoMemory). On honest disks a check of a run whose replay is equal is answered one of these two.
 ///
 /// The disk and the remote are handed back in every case. Words without a reading, or for another number of ports, are
 /// [`Usage`](Status::Usage). `rt` has the threads of the lanes, and of those that hash a VERIFY's

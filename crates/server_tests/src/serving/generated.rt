@@ -3,9 +3,11 @@
 ghost use Rattle.std.specs.Prelude.{◌≤◌};
 
 use super::*;
+use crate::gates::CountingGate;
 use generator::generate;
 use order_file::put_order;
 use plain_store::{Plain, Woven};
+use port_traits::Gate;
 use replay::read_faultless;
 use sha2::{Digest, Sha256};
 use store_types::{Bytes, Entry};
@@ -18,6 +20,7 @@ fn generate_into(
     ports: usize,
     disk: MemoryDisk,
     journal: &mut MemSink,
+    gate: &(impl Gate + Sync),
 ) -> Run {
     let words = must(rt, words::words_of(alloc, words));
     let mut ports = words::empty_ports(rt, alloc, ports);
@@ -30,7 +33,7 @@ fn generate_into(
         None::<MemoryDisk>,
         SetClock::new(Vec::new(alloc), 5),
         journal,
-        &FreeGate,
+        gate,
     )
 }
 
@@ -146,7 +149,8 @@ fn four_lanes_have_one_summary(rt: HostRuntime) {
     for _ in 0..2 {
         let mut journal = empty_sink(alloc);
         let disk = MemoryDisk::new(alloc);
-        let served = generate_into(&rt, alloc, &["gen", "root", "4"], 0, disk, &mut journal);
+        let words = ["gen", "root", "4"];
+        let served = generate_into(&rt, alloc, &words, 0, disk, &mut journal, &FreeGate);
         same(&rt, journal.as_bytes(), SUMMARY);
         assert_told(&rt, &served, &[0, 5, 0]);
         let disk = MemoryDisk::new(alloc);
@@ -166,6 +170,7 @@ host/g1/2020-01-04T00:00:00Z 2\n\
 status 0\n",
 ];
 
+/// Lane 0 has four GCs, lane 1 has 190 commands, and the gate is called round each.
 #[test]
 fn one_lane_is_served_again(rt: HostRuntime) {
     let alloc = rt.alloc();
@@ -173,7 +178,11 @@ fn one_lane_is_served_again(rt: HostRuntime) {
     for summary in &SUMMARIES {
         let mut journal = empty_sink(alloc);
         let before = must(&rt, disk.crashed(alloc, 1));
-        let served = generate_into(&rt, alloc, &["gen", "root", "1"], 0, disk, &mut journal);
+        let words = ["gen", "root", "1"];
+        let gate = must(&rt, CountingGate::of(alloc, 2));
+        let served = generate_into(&rt, alloc, &words, 0, disk, &mut journal, &gate);
+        same_numbers(&rt, &gate.counts(0), &[4, 4, 0]);
+        same_numbers(&rt, &gate.counts(1), &[190, 190, 0]);
         same(&rt, journal.as_bytes(), summary);
         assert_told(&rt, &served, &[0, 2, 0]);
         assert_replayed(&rt, alloc, 1, before, &served.order, summary);
@@ -190,7 +199,8 @@ fn the_summary_is_cut_off(rt: HostRuntime) {
     for (call, size) in &FAILING {
         let mut journal = MemSink::new(alloc, must(&rt, [*call].to_vec(alloc))).at_most(100);
         let disk = MemoryDisk::new(alloc);
-        let served = generate_into(&rt, alloc, &["gen", "root", "1"], 0, disk, &mut journal);
+        let words = ["gen", "root", "1"];
+        let served = generate_into(&rt, alloc, &words, 0, disk, &mut journal, &FreeGate);
         same(&rt, journal.as_bytes(), front(SUMMARIES[0], *size));
         assert_told(
             &rt,
@@ -208,7 +218,8 @@ fn a_port_is_too_many(rt: HostRuntime) {
     let alloc = rt.alloc();
     let mut journal = empty_sink(alloc);
     let disk = MemoryDisk::new(alloc);
-    let served = generate_into(&rt, alloc, &["gen", "root", "1"], 1, disk, &mut journal);
+    let words = ["gen", "root", "1"];
+    let served = generate_into(&rt, alloc, &words, 1, disk, &mut journal, &FreeGate);
     same(&rt, journal.as_bytes(), b"");
     assert_told(&rt, &served, &[2, 0, 0]);
 }
