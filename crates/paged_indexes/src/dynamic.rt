@@ -63,7 +63,8 @@ impl DynamicPages {
     ) -> Result<DynamicPages, PageFault>
         ensures reads { OnlyReads D.Disk disk.old disk.new (IsErrOf result ReadFailed) }
         ensures exact { OpensDynamic D.Disk disk.old name.now result }
-        ensures those { IfOk result (λ _. HandsThose D.Disk disk.old name.now dynamic_entries T.taken taker.old taker.new) }
+        ensures those { IfOk result (λ _. HandsThose D.Disk disk.old name.now
+            dynamic_entries T.taken taker.old taker.new) }
         // on any disk
         ensures some { IfOk result (λ _. HandsSome T.taken taker.old taker.new) }
     {

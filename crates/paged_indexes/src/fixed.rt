@@ -65,7 +65,8 @@ impl FixedPages {
     ) -> Result<FixedPages, PageFault>
         ensures reads { OnlyReads D.Disk disk.old disk.new (IsErrOf result ReadFailed) }
         ensures exact { OpensFixed D.Disk disk.old name.now result }
-        ensures those { IfOk result (λ _. HandsThose D.Disk disk.old name.now fixed_entries T.taken taker.old taker.new) }
+        ensures those { IfOk result (λ _. HandsThose D.Disk disk.old name.now
+            fixed_entries T.taken taker.old taker.new) }
         // on any disk
         ensures some { IfOk result (λ _. HandsSome T.taken taker.old taker.new) }
     {
@@ -170,7 +171,8 @@ fn read_body<D: Disk, T: TakesEntries>(
     requires cuts { Cuts cut 0 count }
     ensures reads { OnlyReads D.Disk disk.old disk.new (IsErrOf result ReadFailed) }
     ensures exact { ReadsFixedBody D.Disk disk.old name.now count result }
-    ensures those { IfOk result (λ _. HandsFixedBody D.Disk disk.old name.now count cut T.taken taker.old taker.new) }
+    ensures those { IfOk result (λ _. HandsFixedBody D.Disk disk.old name.now count
+        cut T.taken taker.old taker.new) }
     // on any disk
     ensures sums { IfOk result (λ b. length b.sums.items ≡ page_count count) }
     ensures some { IfOk result (λ _. HandsSome T.taken taker.old taker.new) }

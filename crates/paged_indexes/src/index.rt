@@ -35,7 +35,8 @@ impl IndexPages {
     ) -> Result<IndexPages, PageFault>
         ensures reads { OnlyReads D.Disk disk.old disk.new (IsErrOf result ReadFailed) }
         ensures exact { OpensIndex D.Disk disk.old name.now kind result }
-        ensures those { IfOk result (λ _. HandsEntries D.Disk disk.old name.now kind T.taken taker.old taker.new) }
+        ensures those { IfOk result (λ _. HandsEntries D.Disk disk.old name.now kind
+            T.taken taker.old taker.new) }
         // on any disk
         ensures some { IfOk result (λ _. HandsSome T.taken taker.old taker.new) }
     {

@@ -40,7 +40,8 @@ pub fn hand_on<T: TakesEntries>(
 ) -> Result<u64, AllocError>
     requires { Cuts cut start (length (cells 32 bytes.now)) }
     ensures end { IfOk result (λ end. end ≡ last_end start (ends_in cut start bytes.now)) }
-    ensures hands { IfOk result (λ _. HandsOn T.taken start (ends_in cut start bytes.now) taker.old taker.new) }
+    ensures hands { IfOk result (λ _. HandsOn T.taken start (ends_in cut start bytes.now)
+        taker.old taker.new) }
 {
     let mut reached = start;
     let mut rest = bytes;

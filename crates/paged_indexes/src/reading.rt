@@ -65,12 +65,14 @@ impl Reading {
         requires limit { count ≤ 1_048_576 }
         requires place { i < page_count count }
         ensures reads { OnlyReads D.Disk disk.old disk.new (IsErrOf result ReadFailed) }
-        ensures takes { TakesPage D.Disk disk.old name.now count i self.old self.new room.new result }
+        ensures takes { TakesPage D.Disk disk.old name.now count i
+            self.old self.new room.new result }
         // on any disk
         ensures len { OnOk result (sums_of self.new ≡ sums_of self.old + 1) }
         ensures ends { OnOk result (length self.new.ends.items ≡ length self.old.ends.items + 1) }
         ensures rises { OnOk result (EndsRise self.old → EndsRise self.new) }
-        ensures hands { OnOk result (HandsPage T.taken count i self.old self.new room.new taker.old taker.new) }
+        ensures hands { OnOk result (HandsPage T.taken count i
+            self.old self.new room.new taker.old taker.new) }
     {
         self.opening.take(disk, name, ENTRY_SIZE, count, i, room)?;
         let Some(end) = hand_on(self.end, room.as_slice(), taker)? else {
@@ -101,7 +103,8 @@ pub fn read_body<D: Disk, T: TakesEntries>(
     ensures ends { IfOk result (λ b. length b.ends.items ≡ page_count count) }
     ensures rises { IfOk result (λ b. IsNonDecreasingBy (λ n. n) b.ends.items) }
     ensures some { IfOk result (λ _. HandsSome T.taken taker.old taker.new) }
-    ensures those { IfOk result (λ _. HandsBody D.Disk disk.old name.now count T.taken taker.old taker.new) }
+    ensures those { IfOk result (λ _. HandsBody D.Disk disk.old name.now count
+        T.taken taker.old taker.new) }
 {
     let pages = pages_in(count);
     let mut reading = Reading::begin(alloc, pages)?;

@@ -41,7 +41,8 @@ pub fn hand_on<T: TakesEntries>(
     taker: &mut T,
 ) -> Result<Option<u64>, AllocError>
     ensures value { IfOk result (λ end. end ≡ stepped start (entries_of bytes.now)) }
-    ensures hands { IfOk result (λ end. IfSome end (λ _. HandsOn T.taken start (entries_of bytes.now) taker.old taker.new)) }
+    ensures hands { IfOk result (λ end. IfSome end (λ _. HandsOn T.taken start
+        (entries_of bytes.now) taker.old taker.new)) }
 {
     let mut end = start;
     let mut rest = bytes;
