@@ -2,3 +2,4 @@ pub mod Kept
 pub mod NameSets
 pub mod Remaking
 pub mod CrashLemmas
+pub mod OnlyReading

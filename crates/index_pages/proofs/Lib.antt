@@ -1,4 +1,3 @@
-pub mod OnlyReading
 pub mod Carried
 pub mod Cutting
 pub mod Filled

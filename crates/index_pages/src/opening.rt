@@ -57,7 +57,8 @@ impl Opening {
         requires place { i < page_count count }
         ensures reads { OnlyReads D.Disk disk.old disk.new (IsErrOf result ReadFailed) }
         ensures calls { TicksOnce D.honest D.calls disk.old disk.new }
-        ensures takes { TakesPage D.Disk disk.old name.now width count i self.old self.new room.new result }
+        ensures takes { TakesPage D.Disk disk.old name.now width count i
+            self.old self.new room.new result }
         // on any disk
         ensures len { OnOk result (length self.new.sums.items ≡ length self.old.sums.items + 1) }
         ensures size { OnOk result (length room.new ≡ entries_at count i * width) }

@@ -92,7 +92,8 @@ fn fill_room<D: Disk>(
     requires { IsTold fewer }
     ensures reads { OnlyReads D.Disk disk.old disk.new (IsErrOf result ReadFailed) }
     ensures calls { TicksOnce D.honest D.calls disk.old disk.new }
-    ensures exact { ReadsPart D.Disk disk.old name.now offset (length room.old) fewer room.new result }
+    ensures exact { ReadsPart D.Disk disk.old name.now offset
+        (length room.old) fewer room.new result }
     ensures memory { IsErrOf result NoRoom → ⊥ }
 {
     let Some(count) = disk.read_part(name, offset, room)? else {

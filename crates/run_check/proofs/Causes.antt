@@ -1,11 +1,12 @@
 -- Why a run was not compared.
 use Rattle.std.proofs.Common.{◌≡◌, ◌⊎◌, ℕ, ◌+◌, ◌*◌, List, Option, Some, None, Result, Err, refl, sym, ap, subst, inl, inr, arith}
 use Rattle.disk_trait.specs.declared.disk.Disk.{Ghosts}
+use Rattle.disk_trait.proofs.OnlyReading.{reads_as, reads_none}
 use Rattle.port_traits.specs.declared.source.Source as sources
 use Rattle.lane.specs.declared.port.Port.{Port}
 use Rattle.run_check.specs.declared.fault.CheckFault.{CheckFault}
 use Rattle.run_check.specs.declared.fault.CheckFault.TheVariants as faults
-use Rattle.run_check.specs.Checks.{Checks, IsOnlyRead, RemoteIsOnlyRead}
+use Rattle.run_check.specs.Checks.{Checks, RemoteIsOnlyRead}
 use Rattle.run_check.specs.Sessions.{IsWhy, TellsOrder}
 
 -- a fault that neither disk has
@@ -31,27 +32,13 @@ one_fault f g is = ap (λ (x : CheckFault). Err x) (same_fault f g is)
 -- ---- the disks
 
 module _ {D : Type 0} (d : Ghosts D) where
-  pub only_read : (old new : D) (P Q : Type 0) → (Q → P) → IsOnlyRead d old new P → IsOnlyRead d old new Q
-  only_read old new P Q by read = record {
-    serves = record { kept = read.serves.kept; count = read.serves.count; cause = λ q. read.serves.cause (by q) };
-    same = read.same;
-    crash = read.crash;
-  }
-
-  untouched : (disk : D) (Q : Type 0) → (Q → ⊥) → IsOnlyRead d disk disk Q
-  untouched disk Q none = record {
-    serves = record { kept = (λ h. h, λ h. h); count = omega arith; cause = λ q. absurd (none q) };
-    same = λ honest. refl;
-    crash = inl refl;
-  }
-
   pub remote_untouched : (remote : Option D) (Q : Type 0) → (Q → ⊥) → RemoteIsOnlyRead d remote remote Q
   remote_untouched None Q none = none
-  remote_untouched (Some r) Q none = untouched r Q none
+  remote_untouched (Some r) Q none = reads_none d r Q none
 
   pub remote_read : (old new : Option D) (P Q : Type 0) → (Q → P) → RemoteIsOnlyRead d old new P → RemoteIsOnlyRead d old new Q
   remote_read None None P Q by read = λ q. read (by q)
-  remote_read (Some a) (Some b) P Q by read = only_read a b P Q by read
+  remote_read (Some a) (Some b) P Q by read = reads_as d a b P Q by read
   remote_read None (Some b) P Q by read = absurd read
   remote_read (Some a) None P Q by read = absurd read
 

@@ -1,8 +1,7 @@
 -- What a check tells.
 use Rattle.std.specs.Prelude.{◌≡◌, ◌⊎◌, ℕ, ◌+◌, ◌*◌, ◌<◌, true, false, List, [], length, Option, Some, None, option_map, slice_index_or, string_bytes, Result, Ok, Err, IfOk}
 use Rattle.disk_trait.specs.declared.disk.Disk.{Ghosts}
-use Rattle.disk_trait.specs.Disk.{Serves}
-use Rattle.disk_trait.specs.Effects.{LeavesSame, SameContent}
+use Rattle.disk_trait.specs.Effects.{OnlyReads}
 use Rattle.port_traits.specs.declared.source.Source as sources
 use Rattle.store_types.specs.declared.order.Entry.{Entry}
 use Rattle.store_files.specs.Archive.{Snapshot}
@@ -22,16 +21,10 @@ use Rattle.run_check.specs.Sessions.{HasNoOrder, sessions_of}
 
 -- ---- the disks
 
--- It is only read: an honest one reads as before, and a crash leaves what it left. It failed where this did.
-pub record IsOnlyRead {D : Type 0} (d : Ghosts D) (old new : D) (failed : Type 0) : Type 0 where
-  pub serves : Serves d.honest d.faults old new failed
-  pub same : SameContent d old new
-  pub crash : LeavesSame d old new
-
 -- the remote is there where it was
 abbrev pub RemoteIsOnlyRead : {E : Type 0} → Ghosts E → Option E → Option E → Type 0 → Type 0
 RemoteIsOnlyRead e None None failed = failed → ⊥
-RemoteIsOnlyRead e (Some old) (Some new) failed = IsOnlyRead e old new failed
+RemoteIsOnlyRead e (Some old) (Some new) failed = OnlyReads e old new failed
 RemoteIsOnlyRead e _ _ failed = ⊥
 
 -- it is honest, or there is none

@@ -2,7 +2,8 @@
 
 ghost use Rattle.std.specs.Prelude.{◌≡◌, ◌≤◌, ◌%◌, length, string_bytes, Err, IfErr, IfOk};
 ghost use Rattle.replay.specs.Compare.{line as line_of};
-ghost use Rattle.run_check.specs.Checks.{Checks, IsOnlyRead, RemoteIsOnlyRead};
+ghost use Rattle.disk_trait.specs.Effects.{OnlyReads};
+ghost use Rattle.run_check.specs.Checks.{Checks, RemoteIsOnlyRead};
 ghost use Rattle.run_check.specs.Ports.{Keeps};
 ghost use Rattle.run_check.specs.Sessions.{TellsOrder};
 
@@ -61,7 +62,7 @@ pub fn check_run<D: Disk, E: Disk, S: Source, K>(
 ) -> Result<Compared, CheckFault>
     requires odd { length ports.old % 2 ≡ 1 }
     requires few { length ports.old ≤ 129 }
-    ensures disk { IsOnlyRead D.Disk disk.old disk.new (result ≡ Err CheckFault.DiskFault) }
+    ensures disk { OnlyReads D.Disk disk.old disk.new (result ≡ Err CheckFault.DiskFault) }
     ensures remote { RemoteIsOnlyRead E.Disk remote.old remote.new
         (result ≡ Err CheckFault.RemoteFault) }
     ensures ports { Keeps S.Source ports.old ports.new }

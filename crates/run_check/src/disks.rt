@@ -4,7 +4,8 @@ ghost use Rattle.std.specs.Prelude.{◌≡◌, IfOk, Err};
 ghost use Rattle.plain_snapshots.specs.Loading.{has_damaged};
 ghost use Rattle.store_model.specs.Load.{load};
 ghost use Rattle.store_model.specs.Store.{store_of};
-ghost use Rattle.run_check.specs.Checks.{IsOnlyRead, LoadsRemote, RemoteIsOnlyRead, TellsLoad};
+ghost use Rattle.disk_trait.specs.Effects.{OnlyReads};
+ghost use Rattle.run_check.specs.Checks.{LoadsRemote, RemoteIsOnlyRead, TellsLoad};
 
 use crate::fault::CheckFault;
 use disk_trait::{Disk, DiskError};
@@ -13,7 +14,7 @@ use std::alloc::Global;
 
 /// The plain store of the datastore that was handed in, and whether it has a damaged snapshot.
 pub fn load_root<D: Disk>(alloc: Global, disk: &mut D) -> Result<(Plain, bool), CheckFault>
-    ensures disk { IsOnlyRead D.Disk disk.old disk.new (result ≡ Err CheckFault.DiskFault) }
+    ensures disk { OnlyReads D.Disk disk.old disk.new (result ≡ Err CheckFault.DiskFault) }
     ensures store { D.honest disk.old
         → IfOk result (λ x. x.0 ≡ store_of (load (D.content disk.old))) }
     ensures damaged { D.honest disk.old

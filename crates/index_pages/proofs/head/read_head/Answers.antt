@@ -1,5 +1,5 @@
 use Rattle.std.proofs.Common.{inr, rules}
-use Rattle.index_pages.proofs.OnlyReading.{reads_call, reads_then}
+use Rattle.disk_trait.proofs.OnlyReading.{reads_call, reads_then}
 use Rattle.index_pages.proofs.Carried.{ok_not}
 use Rattle.index_pages.proofs.head.read_head.Goals as goal
 

@@ -5,7 +5,7 @@ use Rattle.store_files.specs.Cells.{cells}
 use Rattle.index_pages.specs.Paged.{page_count}
 use Rattle.index_pages.proofs.Carried.{by_err, short_not_failed}
 use Rattle.index_pages.proofs.Cutting.{none_read, pages_end}
-use Rattle.index_pages.proofs.OnlyReading.{reads_none, reads_then}
+use Rattle.disk_trait.proofs.OnlyReading.{reads_none, reads_then}
 use Rattle.paged_indexes.specs.Reading.{FixedBodyIs}
 use Rattle.paged_indexes.specs.Fixed.{Cuts, ends_in, fixed_ends_from}
 use Rattle.paged_indexes.proofs.Cells.{page_cells}

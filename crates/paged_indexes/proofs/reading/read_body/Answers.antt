@@ -3,7 +3,7 @@ use Rattle.std.proofs.lemmas.List.{length-drop}
 use Rattle.std.specs.FinMap.{get}
 use Rattle.index_pages.specs.Paged.{entries_at, page_count}
 use Rattle.index_pages.proofs.Carried.{by_err}
-use Rattle.index_pages.proofs.OnlyReading.{reads_none, reads_then}
+use Rattle.disk_trait.proofs.OnlyReading.{reads_none, reads_then}
 use Rattle.paged_indexes.specs.declared.reading.DynamicBody.{DynamicBody}
 use Rattle.paged_indexes.specs.Reading.{BodyIs}
 use Rattle.paged_indexes.specs.Steps.{entries_of}

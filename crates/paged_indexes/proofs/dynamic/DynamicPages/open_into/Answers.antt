@@ -9,7 +9,7 @@ use Rattle.index_pages.specs.Gives.{Gives}
 use Rattle.index_pages.specs.Opening.{front_in, opened_by}
 use Rattle.index_pages.proofs.Carried.{by_err, ok_not, short_not_failed, told_not_failed}
 use Rattle.index_pages.proofs.Filled.{gives_err, gives_told}
-use Rattle.index_pages.proofs.OnlyReading.{reads_then}
+use Rattle.disk_trait.proofs.OnlyReading.{reads_then}
 use Rattle.index_pages.proofs.Opened.{has_count, has_front, no_count, no_front}
 use Rattle.paged_indexes.specs.Dynamic.{DynamicPaged, dynamic_entries, dynamic_paged, opened}
 use Rattle.paged_indexes.specs.Handing.{HandsOn}
