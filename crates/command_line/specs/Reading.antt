@@ -1,5 +1,5 @@
 -- What the words say.
-use Rattle.std.specs.Prelude.{ℕ, ◌&&◌, nat_le, if◌then◌else◌, List, [], ◌∷◌, codes, map, slice_index, string_bytes, Option, Some, None, option_and_then, String}
+use Rattle.std.specs.Prelude.{ℕ, ◌≤◌, ◌&&◌, nat_le, if◌then◌else◌, List, [], ◌∷◌, codes, map, slice_index, string_bytes, Option, Some, None, option_and_then, String}
 use Rattle.std.specs.Str.{all_ascii_digits, bytes_eq}
 use Rattle.std.specs.Str.Parse.{digits_value}
 use Rattle.std.specs.declared.alloc.Global.{Global}
@@ -17,6 +17,10 @@ abbrev pub count_of : Text → Option ℕ
 count_of text =
     if all_ascii_digits text && nat_le 49 (slice_index text 0) && nat_le (digits_value 10 text) 63 then
     Some (digits_value 10 text) else None
+
+-- it is no other
+abbrev pub IsCount : ℕ → Type 0
+IsCount n = (1 ≤ n) × (n ≤ 63)
 
 abbrev pub run_of : Option Text → Option Text → Option Text → Option (List Text) → Option Said
 run_of (Some root) remote order (Some sessions) = Some (run root remote order sessions)

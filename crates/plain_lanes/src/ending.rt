@@ -83,8 +83,10 @@ fn asked_again(close: Close, report: Reply, reply: Reply) -> Job
     ensures spelled { IsSpelledJob result }
 {
     if is_refused(&report) {
+        drop(reply);
         return asked(close, report);
     }
+    drop(report);
     asked(close, reply)
 }
 
@@ -100,10 +102,13 @@ pub fn closed(close: Close, report: Reply, reply: Reply) -> Job
         return asked_again(close, report, reply);
     }
     if is_refused(&report) {
+        drop(reply);
         return Job::Over(report);
     }
     if !is_refused(&reply) {
+        drop(reply);
         return Job::Over(report);
     }
+    drop(report);
     Job::Over(reply)
 }

@@ -169,11 +169,10 @@ impl Asking {
         ensures spelled { IfOk result IsSpelledJob }
     {
         match self.stage {
-            Stage::Grouping {
-                group: _,
-                keep,
-                dry,
-            } => prune::grouped(alloc, &keep, dry, reply),
+            Stage::Grouping { group, keep, dry } => {
+                drop(group);
+                prune::grouped(alloc, &keep, dry, reply)
+            }
             Stage::Forgetting {
                 before,
                 snapshot,
@@ -196,9 +195,12 @@ impl Asking {
             Stage::Beginning { pull } => sync::begun(alloc, pull, reply),
             Stage::Sending {
                 pull,
-                command: _,
+                command,
                 later,
-            } => sync::replied(alloc, pull, later, reply),
+            } => {
+                drop(command);
+                sync::replied(alloc, pull, later, reply)
+            }
             Stage::Aborting { report } => Ok(closed(Close::Writer, report, reply)),
         }
     }

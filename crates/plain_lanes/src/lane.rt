@@ -16,12 +16,14 @@ use store_types::Bytes;
 use wire_commands::Reply;
 
 /// The bytes of a reply's frame.
-fn reply_bytes(alloc: Global, reply: &Reply) -> Result<Vec<u8>, AllocError>
-    requires { ReplyHasText reply.now }
-    ensures { IfOk result (λ bytes. bytes.items ≡ frame (reply_text reply.now)) }
+fn reply_bytes(alloc: Global, reply: Reply) -> Result<Vec<u8>, AllocError>
+    requires { ReplyHasText reply }
+    ensures { IfOk result (λ bytes. bytes.items ≡ frame (reply_text reply)) }
 {
     let mut sink = MemSink::new(alloc, Vec::new(alloc));
-    match reply.put(&mut sink) {
+    let put = reply.put(&mut sink);
+    drop(reply);
+    match put {
         Ok(()) => Ok(sink.into_bytes()),
         Err(_) => Err(AllocError),
     }
@@ -87,13 +89,15 @@ impl<'a> Lane<'a> {
         }
         let offset = self.size.saturating_sub(self.left.len());
         let next = next_at(alloc, offset as u64, self.left)?;
-        Ok(next.is_sync())
+        let is_one = next.is_sync();
+        drop(next);
+        Ok(is_one)
     }
 
     /// One more reply, with this left of the input and no job open.
-    pub fn tell(&mut self, alloc: Global, left: &'a [u8], reply: &Reply) -> Result<(), AllocError>
-        requires { ReplyHasText reply.now }
-        ensures { OnOk result (self.new ≡ said reply.now (left_idle left.now self.old)) }
+    pub fn tell(&mut self, alloc: Global, left: &'a [u8], reply: Reply) -> Result<(), AllocError>
+        requires { ReplyHasText reply }
+        ensures { OnOk result (self.new ≡ said reply (left_idle left.now self.old)) }
     {
         let bytes = reply_bytes(alloc, reply)?;
         self.told.extend_from_slice(&bytes)?;
@@ -103,9 +107,9 @@ impl<'a> Lane<'a> {
     }
 
     /// One more reply, with no job open and as much left of the input as before.
-    pub fn tell_here(&mut self, alloc: Global, reply: &Reply) -> Result<(), AllocError>
-        requires { ReplyHasText reply.now }
-        ensures { OnOk result (self.new ≡ said reply.now (record self.old { job = None })) }
+    pub fn tell_here(&mut self, alloc: Global, reply: Reply) -> Result<(), AllocError>
+        requires { ReplyHasText reply }
+        ensures { OnOk result (self.new ≡ said reply (record self.old { job = None })) }
     {
         let bytes = reply_bytes(alloc, reply)?;
         self.told.extend_from_slice(&bytes)?;

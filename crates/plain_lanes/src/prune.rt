@@ -141,6 +141,7 @@ pub fn forgot(
     let Some(mark) = mark_of(&reply) else {
         return Ok(Job::Over(reply));
     };
+    drop(reply);
     let mut before = before;
     before.push(PruneRow { snapshot, mark })?;
     go_on(before, later)

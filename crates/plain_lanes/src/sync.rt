@@ -103,6 +103,7 @@ pub fn begun(alloc: Global, pull: Pull, reply: Reply) -> Result<Job, AllocError>
     if !is_base(&reply) {
         return Ok(Job::Over(reply));
     }
+    drop(reply);
     let commands = commands_of(alloc, &pull.snapshot)?;
     next_command(alloc, pull, commands)
 }
@@ -121,5 +122,6 @@ pub fn replied(
     if is_refused(&reply) {
         return Ok(ended(Close::Writer, reply));
     }
+    drop(reply);
     next_command(alloc, pull, later)
 }

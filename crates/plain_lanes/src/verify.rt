@@ -245,6 +245,7 @@ pub fn opened(snapshot: Bytes, reply: Reply) -> Job
     ensures spelled { IsSpelledJob result }
 {
     if is_done(&reply) {
+        drop(reply);
         return Job::Asking(Asking {
             stage: Stage::Listing { snapshot },
         });
@@ -308,6 +309,7 @@ fn unread(alloc: Global, visit: Visit, row: FileRow, reply: Reply) -> Result<Job
     let Some(fault) = fault_told(&reply) else {
         return Ok(ended(Close::Reader, reply));
     };
+    drop(reply);
     file_done(alloc, visit, row, Some(fault))
 }
 
@@ -379,6 +381,7 @@ fn unchecked(
     ensures spelled { IfOk result IsSpelledJob }
 {
     if is_unreadable(&reply) {
+        drop(reply);
         let fault = first_fault(fault, Some(FileFault::Unreadable));
         return file_done(alloc, visit, row, fault);
     }
@@ -396,7 +399,10 @@ fn chunk_in(reply: Reply, piece: Piece) -> Result<Option<FileFault>, Reply>
         Err(reply) => reply,
     };
     match chunk_told(&reply, piece.digest) {
-        Some(fault) => Ok(Some(fault)),
+        Some(fault) => {
+            drop(reply);
+            Ok(Some(fault))
+        }
         None => Err(reply),
     }
 }

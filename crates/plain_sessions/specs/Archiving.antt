@@ -1,5 +1,6 @@
 -- The tests of the commands on archives, one after another.
-use Rattle.std.specs.Prelude.{◌≡◌, ℕ, List, length, map, Result, Ok, IfOk}
+use Rattle.std.specs.Prelude.{◌≡◌, ℕ, List, length, map, Result, Ok, Err, IfOk, MatchResult}
+use Rattle.std.specs.Borrow.{Bor}
 use Rattle.store_types.specs.declared.append.AppendEntry.{AppendEntry}
 use Rattle.store_types.specs.declared.names.Digest32.{Digest32}
 use Rattle.store_types.specs.declared.names.SnapshotKey.{SnapshotKey}
@@ -41,6 +42,14 @@ fixed_begun_of w name size chunk_size moment = do
 -- the piece of a pool that the entry at a place names
 abbrev pub piece_at : List (List ℕ) → Layout → ℕ → ℕ → Digest32 × ℕ → Result (List ℕ) Refusal
 piece_at pool layout place end entry = piece_named (λ digest. piece_with digest pool) (λ p. length p) layout place end entry
+
+-- the same of a command's entry, in an archive's own layout
+abbrev pub piece_for : List (List ℕ) → layouts.Layout → ℕ → ℕ → AppendEntry → Result (List ℕ) Refusal
+piece_for pool layout place end entry = piece_at pool (shown_layout layout) place end (named entry)
+
+-- it is this piece, or this refusal
+abbrev pub NamesPiece : Result (Bor (List ℕ)) Refusal → Result (List ℕ) Refusal → Type 0
+NamesPiece result piece = MatchResult result (λ p. piece ≡ Ok p.now) (λ refusal. piece ≡ Err refusal)
 
 -- the pieces of a pool that the entries name
 abbrev pub pieces_from : List (List ℕ) → Layout → ℕ → ℕ → List (Digest32 × ℕ) → Result (List (List ℕ)) Refusal

@@ -1,13 +1,13 @@
 //! The pieces that an APPEND names.
 
-ghost use Rattle.std.specs.Prelude.{◌≡◌, ◌≤◌, length, map, option_map, Ok, Err, MatchResult, IfErr};
+ghost use Rattle.std.specs.Prelude.{◌≡◌, ◌≤◌, length, map, option_map, IfErr};
 ghost use Rattle.store_files.specs.Archive.{piece_with as first_with};
 ghost use Rattle.wire_commands.specs.HasText.{FitsRefusal};
 ghost use Rattle.store_model.specs.Archives.{want_entries as entries_fit, fits_layout as fits};
 ghost use Rattle.store_model.specs.ArchiveSteps.{named};
 ghost use Rattle.plain_snapshots.specs.Shown.{shown_layout};
 ghost use Rattle.plain_sessions.specs.Outcomes.{GivesItems, IsFitRefusal};
-ghost use Rattle.plain_sessions.specs.Archiving.{piece_at, first_pieces, appended};
+ghost use Rattle.plain_sessions.specs.Archiving.{NamesPiece, piece_for, first_pieces, appended};
 
 use crate::stop::Stop;
 use crate::writer::Writer;
@@ -59,9 +59,7 @@ fn piece_named<'a>(
     entry: &AppendEntry,
 ) -> Result<&'a BlobData, Refusal>
     ensures fits { IfErr result FitsRefusal }
-    ensures test { MatchResult result
-        (λ piece. piece_at pool.now (shown_layout layout) place end (named entry.now) ≡ Ok piece.now)
-        (λ refusal. piece_at pool.now (shown_layout layout) place end (named entry.now) ≡ Err refusal) }
+    ensures test { NamesPiece result (piece_for pool.now layout place end entry.now) }
 {
     let Some(piece) = piece_with(&entry.digest, pool) else {
         return Err(Refusal::UnknownChunk { place });

@@ -8,7 +8,7 @@ use Rattle.store_types.specs.declared.refusal.Refusal.TheVariants.{BadName, NoRe
 use Rattle.store_types.specs.Names.{group_of}
 use Rattle.store_files.specs.Archive.{Snapshot}
 use Rattle.store_model.specs.Stands.{group_limit}
-use Rattle.store_model.specs.Store.{Store, session, want_idle, in_group, keys_in}
+use Rattle.store_model.specs.Store.{Store, session, want_idle, in_group}
 use Rattle.store_model.specs.SyncJob.{is_later, to_pull}
 
 module _ (remote : Option (List Snapshot)) (s : Store) (lane : ℕ) (text : List ℕ) where

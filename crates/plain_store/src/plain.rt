@@ -144,7 +144,9 @@ impl Plain {
         ensures fits { IfOk result (FitsAsked asking.now) }
     {
         let step = asking.next(alloc)?;
-        self.answer_step(alloc, lane, moment, &step)
+        let told = self.answer_step(alloc, lane, moment, &step);
+        drop(step);
+        told
     }
 
     fn answer_step(

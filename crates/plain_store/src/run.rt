@@ -177,11 +177,11 @@ impl<'a> Run<'a> {
         alloc: Global,
         lane: u32,
         left: &'a [u8],
-        reply: &Reply,
+        reply: Reply,
     ) -> Result<(), AllocError>
         requires lane { lane < length self.old.lanes }
-        requires spelled { ReplyHasText reply.now }
-        ensures told { OnOk result (self.new ≡ told self.old lane left.now reply.now) }
+        requires spelled { ReplyHasText reply }
+        ensures told { OnOk result (self.new ≡ told self.old lane left.now reply) }
         ensures lanes { OnOk result (length self.new.lanes ≡ length self.old.lanes) }
     {
         let lane = &mut self.lanes[lane as usize];
@@ -204,7 +204,7 @@ impl<'a> Run<'a> {
         ensures lanes { OnOk result (length self.new.lanes ≡ length self.old.lanes) }
     {
         match job {
-            Job::Over(report) => self.tell(alloc, lane, left, &report),
+            Job::Over(report) => self.tell(alloc, lane, left, report),
             Job::Asking(asking) => {
                 let lane = &mut self.lanes[lane as usize];
                 lane.set_job(left, asking);
@@ -250,10 +250,10 @@ impl<'a> Run<'a> {
     }
 
     /// The lane's collector closes, with this reply.
-    fn close_collector(&mut self, alloc: Global, lane: u32, reply: &Reply) -> Result<(), AllocError>
+    fn close_collector(&mut self, alloc: Global, lane: u32, reply: Reply) -> Result<(), AllocError>
         requires lane { lane < length self.old.lanes }
-        requires spelled { ReplyHasText reply.now }
-        ensures closed { OnOk result (self.new ≡ closed_by self.old lane reply.now) }
+        requires spelled { ReplyHasText reply }
+        ensures closed { OnOk result (self.new ≡ closed_by self.old lane reply) }
         ensures lanes { OnOk result (length self.new.lanes ≡ length self.old.lanes) }
     {
         self.collecting = None;
@@ -278,7 +278,7 @@ impl<'a> Run<'a> {
         match self.want_collector(lane) {
             Ok(()) => Ok(false),
             Err(refusal) => {
-                self.tell(alloc, lane, left, &Reply::Refused(refusal))?;
+                self.tell(alloc, lane, left, Reply::Refused(refusal))?;
                 Ok(true)
             }
         }
@@ -303,9 +303,7 @@ impl<'a> Run<'a> {
                 let job = pull_all(alloc, snapshots);
                 self.go_on(alloc, lane, left, job)
             }
-            Err(Stop::Refused(refusal)) => {
-                self.tell(alloc, lane, left, &Reply::Refused(refusal))
-            }
+            Err(Stop::Refused(refusal)) => self.tell(alloc, lane, left, Reply::Refused(refusal)),
             Err(Stop::NoMemory) => Err(AllocError),
         }
     }
@@ -329,8 +327,10 @@ impl<'a> Run<'a> {
     {
         match ahead {
             Ahead::Plain(command) => {
-                let reply = self.store.step(alloc, lane, moment, &command)?;
-                self.tell(alloc, lane, left, &reply)?;
+                let told = self.store.step(alloc, lane, moment, &command);
+                drop(command);
+                let reply = told?;
+                self.tell(alloc, lane, left, reply)?;
                 Ok(true)
             }
             Ahead::Sync(group) => {
@@ -359,7 +359,10 @@ impl<'a> Run<'a> {
                 Ok(true)
             }
             Next::Command(ahead, left) => self.begin_command(alloc, lane, moment, ahead, left),
-            _ => Ok(false),
+            next => {
+                drop(next);
+                Ok(false)
+            }
         }
     }
 
@@ -381,7 +384,9 @@ impl<'a> Run<'a> {
         ensures same { OnOk result (self.new ≡ self.old) }
     {
         let next = self.take_next(alloc, lane)?;
-        Ok(next.behind_collect())
+        let left = next.behind_collect();
+        drop(next);
+        Ok(left)
     }
 
     /// The lane's collector opens where it may, with this left of the lane's input. Whether it does.
@@ -425,19 +430,20 @@ impl<'a> Run<'a> {
         ensures enters { EntersBy self.old self.new (short_at self.old lane) result }
         ensures lanes { OnOk result (length self.new.lanes ≡ length self.old.lanes) }
     {
-        let reply = Reply::Refused(Refusal::NoMemory);
         match self.take_next(alloc, lane)? {
             Next::Job(asking, left) => {
-                let job = asking.take(alloc, reply)?;
+                let job = asking.take(alloc, Reply::Refused(Refusal::NoMemory))?;
                 self.go_on(alloc, lane, left, job)?;
                 Ok(true)
             }
-            Next::Command(_, left) => {
-                self.tell(alloc, lane, left, &reply)?;
+            Next::Command(ahead, left) => {
+                drop(ahead);
+                self.tell(alloc, lane, left, Reply::Refused(Refusal::NoMemory))?;
                 Ok(true)
             }
-            Next::Broken(_) => {
-                self.tell(alloc, lane, &[], &reply)?;
+            Next::Broken(refusal) => {
+                drop(refusal);
+                self.tell(alloc, lane, &[], Reply::Refused(Refusal::NoMemory))?;
                 Ok(true)
             }
             Next::Bye | Next::End => Ok(false),
@@ -453,14 +459,19 @@ impl<'a> Run<'a> {
         ensures told { OnOk result (self.new ≡ fault_at self.old lane refusal) }
         ensures lanes { OnOk result (length self.new.lanes ≡ length self.old.lanes) }
     {
-        let reply = Reply::Refused(refusal);
         match self.take_next(alloc, lane)? {
             Next::Job(asking, left) => {
-                let job = asking.take(alloc, reply)?;
+                let job = asking.take(alloc, Reply::Refused(refusal))?;
                 self.go_on(alloc, lane, left, job)
             }
-            Next::Command(_, left) => self.tell(alloc, lane, left, &reply),
-            _ => Ok(()),
+            Next::Command(ahead, left) => {
+                drop(ahead);
+                self.tell(alloc, lane, left, Reply::Refused(refusal))
+            }
+            next => {
+                drop(next);
+                Ok(())
+            }
         }
     }
 
@@ -519,18 +530,20 @@ impl<'a> Run<'a> {
         alloc: Global,
         lane: u32,
         ending: Ending,
-        reply: &Reply,
+        reply: Reply,
     ) -> Result<(), AllocError>
         requires lane { lane < length self.old.lanes }
         requires lanes { length self.old.lanes ≤ 64 }
-        requires spelled { ReplyHasText reply.now }
-        ensures ended { OnOk result (self.new ≡ after_end self.old lane ending reply.now) }
+        requires spelled { ReplyHasText reply }
+        ensures ended { OnOk result (self.new ≡ after_end self.old lane ending reply) }
         ensures lanes { OnOk result (length self.new.lanes ≡ length self.old.lanes) }
     {
         self.end_session(lane);
-        if is_replied(ending) {
-            self.tell(alloc, lane, &[], reply)?;
+        if !is_replied(ending) {
+            drop(reply);
+            return Ok(());
         }
+        self.tell(alloc, lane, &[], reply)?;
         Ok(())
     }
 
@@ -564,18 +577,25 @@ impl<'a> Run<'a> {
         }
         match self.take_next(alloc, lane)? {
             Next::Bye => {
-                self.end_with(alloc, lane, ending, &Reply::Done)?;
+                self.end_with(alloc, lane, ending, Reply::Done)?;
                 Ok(true)
             }
             Next::Broken(refusal) => {
-                self.end_with(alloc, lane, ending, &Reply::Refused(refusal))?;
+                self.end_with(alloc, lane, ending, Reply::Refused(refusal))?;
                 Ok(true)
             }
             Next::End => {
                 self.end_session(lane);
                 Ok(true)
             }
-            Next::Job(_, _) | Next::Command(_, _) => Ok(self.end_unread(lane, ending)),
+            Next::Job(asking, _) => {
+                drop(asking);
+                Ok(self.end_unread(lane, ending))
+            }
+            Next::Command(ahead, _) => {
+                drop(ahead);
+                Ok(self.end_unread(lane, ending))
+            }
         }
     }
 
@@ -599,7 +619,7 @@ impl<'a> Run<'a> {
     {
         let first = self.fault;
         let reply = Reply::Refused(fault_refusal(first));
-        self.close_collector(alloc, lane, &reply)?;
+        self.close_collector(alloc, lane, reply)?;
         self.fault = Some(first.unwrap_or(place));
         Ok(())
     }
@@ -641,7 +661,7 @@ impl<'a> Run<'a> {
                 Ok(true)
             }
             4 => {
-                self.close_collector(alloc, lane, &collected(is_out_of_memory))?;
+                self.close_collector(alloc, lane, collected(is_out_of_memory))?;
                 Ok(true)
             }
             5 => {

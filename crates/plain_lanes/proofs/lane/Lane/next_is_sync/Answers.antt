@@ -17,4 +17,4 @@ returns c =
     let offset = c.saturating_sub-offset.result in
     let within : offset ≡ inside.size - length inside.left.now = omega arith in
     let stands = sym (input_stands lane offset c.in_default.is within) ∙ ap lane_next c.self.view_is in
-    c.is_sync-2.ensures ∙ ap is_sync_next (c.in_ok-next.ensures.next ∙ stands)
+    c.is_sync-is_one.ensures ∙ ap is_sync_next (c.in_ok-next.ensures.next ∙ stands)

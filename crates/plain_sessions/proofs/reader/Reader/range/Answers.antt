@@ -1,4 +1,4 @@
-use Rattle.std.proofs.Common.{◌≡◌, ◌∙◌, List, ℕ, true, false, Ok, Err, ap, sym, take, drop, length, rules}
+use Rattle.std.proofs.Common.{◌≡◌, ◌∙◌, true, false, Ok, Err, ap, sym, take, drop, length, rules}
 use Rattle.std.specs.List.{concat}
 use Rattle.store_model.specs.ReaderSteps.{is_noted, pieces_at, want_range}
 use Rattle.plain_sessions.specs.declared.stop.Stop.TheVariants.{Refused}

@@ -9,13 +9,13 @@ use Rattle.plain_store.proofs.plain.Plain.do_step.Goals as goal
 pub returns-clause-step : goal.returns-clause-step
 returns-clause-step c =
     let s = c.args.self.now in
-    subst (λ (x : Step). IfOk c.answer_step.result (λ r. (c.answer_step.new.self, r) ≡ answered s (step_outcome s c.args.lane c.args.moment x))) c.in_ok-step.ensures
-    c.answer_step.ensures.step
+    subst (λ (x : Step). IfOk c.answer_step-told.result (λ r. (c.answer_step-told.new.self, r) ≡ answered s (step_outcome s c.args.lane c.args.moment x))) c.in_ok-step.ensures
+    c.answer_step-told.ensures.step
 
 pub returns-clause-fits : goal.returns-clause-fits
 returns-clause-fits c =
     let s = c.args.self.now in
     let told =
-    subst (λ (x : Step). IfOk c.answer_step.result (λ r. (c.answer_step.new.self, r) ≡ answered s (step_outcome s c.args.lane c.args.moment x))) c.in_ok-step.ensures
-    c.answer_step.ensures.step in
-    fits_by c.answer_step.result s c.answer_step.new.self c.args.lane c.args.moment c.args.asking.now c.answer_step.ensures.spelled told
+    subst (λ (x : Step). IfOk c.answer_step-told.result (λ r. (c.answer_step-told.new.self, r) ≡ answered s (step_outcome s c.args.lane c.args.moment x))) c.in_ok-step.ensures
+    c.answer_step-told.ensures.step in
+    fits_by c.answer_step-told.result s c.answer_step-told.new.self c.args.lane c.args.moment c.args.asking.now c.answer_step-told.ensures.spelled told

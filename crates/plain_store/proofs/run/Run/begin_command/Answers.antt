@@ -16,7 +16,7 @@ returns-in_ok-tell-in-Plain-clause-enters c =
     let command = c.in-Plain.command in
     let left = c.args.left.now in
     let inside = c.self.inside in
-    let s = c.step.new.self in
+    let s = c.step-told.new.self in
     let told : Run = record { store = s; remote = option_map (λ p. p.now.snapshots) inside.remote; lanes = inside.lanes.items; collecting = inside.collecting; fault = inside.fault } in
     let stored : inside.store ≡ r.store = ap (λ (x : Run). x.store) c.self.view_is in
     let done = c.in_ok-reply-in-Plain.ensures.step ∙ ap (λ x. step x k moment command) stored in

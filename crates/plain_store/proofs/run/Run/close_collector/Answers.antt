@@ -9,7 +9,7 @@ pub returns-clause-closed : goal.returns-clause-closed
 unfolding close_collector tell
 returns-clause-closed c =
     let k = c.args.lane in
-    let reply = c.args.reply.now in
+    let reply = c.args.reply in
     let inside = c.self.inside in
     let r : Run = record { store = inside.store; remote = option_map (λ p. p.now.snapshots) inside.remote; lanes = inside.lanes.items; collecting = None; fault = inside.fault } in
     let within : k < length inside.lanes.items = omega (arith, ap (λ (x : Run). length x.lanes) c.self.view_is, c.requires.lane) in

@@ -31,5 +31,5 @@ returns-in_ok-go_on-in-Job-clause-enters c =
 pub returns-in_ok-tell-in-Command-clause-enters : goal.returns-in_ok-tell-in-Command-clause-enters
 returns-in_ok-tell-in-Command-clause-enters c =
     let n = c.in_ok-asking.field-0 in
-    short_command c.args.self.now c.args.lane n c.in_ok-asking.ensures.next c.in-Command.field-0 c.in-Command.left.now (ap shown_next c.in-Command.is) (ap takes_job c.in-Command.is)
+    short_command c.args.self.now c.args.lane n c.in_ok-asking.ensures.next c.in-Command.ahead c.in-Command.left.now (ap shown_next c.in-Command.is) (ap takes_job c.in-Command.is)
     c.take_next.new.self c.in_ok-asking.ensures.left c.tell.new.self c.in_ok-tell-in-Command.ensures.told

@@ -10,7 +10,7 @@ unfolding tell
 returns-clause-told c =
     let k = c.args.lane in
     let left = c.args.left.now in
-    let reply = c.args.reply.now in
+    let reply = c.args.reply in
     let inside = c.self.inside in
     let r : Run = record { store = inside.store; remote = option_map (λ p. p.now.snapshots) inside.remote; lanes = inside.lanes.items; collecting = inside.collecting; fault = inside.fault } in
     let within : k < length inside.lanes.items = omega (arith, ap (λ (x : Run). length x.lanes) c.self.view_is, c.requires.lane) in
