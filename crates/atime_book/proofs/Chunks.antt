@@ -1,80 +1,74 @@
 -- A book's chunks, read one by one.
 use Rattle.std.proofs.Common.{◌≡◌, ℕ, suc, ◌/◌, ◌<◌, ◌≤◌, Bool, true, false, ◌&&◌, cond, List, [], ◌∷◌, ◌++◌, length, take, drop, map, Option, Some, None, refl, sym, ap, subst, ◌∙◌, append_assoc, le-leb, arith}
-use Rattle.std.specs.Ordering.{is_lt, ordering_reverse, match_ordering}
+use Rattle.std.specs.Ordering.{is_lt}
 use Rattle.std.specs.declared.cmp.Ordering.{Ordering}
 use Rattle.std.specs.declared.cmp.Ordering.TheVariants.{Less, Equal, Greater}
+use Rattle.std.specs.List.{AllByRecursion}
 use Rattle.std.specs.Cmp.Lexicographic.{nat_list_cmp_total}
-use Rattle.std.specs.BTreeMap.{insert_entry}
 use Rattle.std.proofs.lemmas.Bool.{lt-leb}
 use Rattle.std.proofs.lemmas.List.{length-drop, append-nil}
-use Rattle.store_types.specs.declared.names.Digest32.{Digest32}
+use Rattle.std.proofs.lemmas.List.Elements.{recursion_from_All}
 use Rattle.store_types.specs.Names.{text_cmp}
 use Rattle.store_files.specs.Cells.{first_cells}
-use Rattle.store_files.specs.Book.{Touch, touch_of}
-use Rattle.atime_book.specs.Touches.{touches_of}
+use Rattle.store_files.specs.Book.{Touch, Book, touch_of}
 use Rattle.atime_book.specs.Reading.{above, pass_from, touches_at, passed}
-use Rattle.atime_book.proofs.Entries.{digest_cmp}
+use Rattle.atime_book.specs.Touches.{NotesNew, last_in}
+use Rattle.atime_book.proofs.Orders.{IsBelow, IsAbove, none_below}
 
 less : (r : Ordering) → is_lt r ≡ true → r ≡ Less
 less Less e = refl
 less Equal e = cc
 less Greater e = cc
 
--- each entry stands before a digest
-abbrev AllBefore : List ℕ → List (Digest32 × ℕ) → Type 0
-AllBefore k [] = Unit {0}
-AllBefore k (e ∷ es) = (text_cmp k (e.0).0 ≡ Greater) × AllBefore k es
+-- each touch stands before a digest that is above the last one read
+abbrev Follows : Option (List ℕ) → List Touch → Type 0
+Follows before ts = (k : List ℕ) → above before k ≡ true → AllByRecursion (IsBelow k) ts
 
-abbrev Follows : Option (List ℕ) → List (Digest32 × ℕ) → Type 0
-Follows before es = (k : List ℕ) → above before k ≡ true → AllBefore k es
-
-pub greater : (a b : List ℕ) → text_cmp a b ≡ Less → text_cmp b a ≡ Greater
-greater a b e = nat_list_cmp_total.antisymm b a ∙ ap ordering_reverse e
-
-lesser : (a b : List ℕ) → text_cmp b a ≡ Greater → text_cmp a b ≡ Less
-lesser a b e = nat_list_cmp_total.antisymm a b ∙ ap ordering_reverse e
-
-later : (d k : List ℕ) (es : List (Digest32 × ℕ)) → text_cmp d k ≡ Less → AllBefore d es → AllBefore k es
+later : (d k : List ℕ) (ts : List Touch) → text_cmp d k ≡ Less → AllByRecursion (IsBelow d) ts → AllByRecursion (IsBelow k) ts
 later d k [] below all = tt
-later d k (e ∷ es) below all =
-    (greater (e.0).0 k (nat_list_cmp_total.trans (e.0).0 d k (lesser (e.0).0 d all.0) below), later d k es below all.1)
+later d k (t ∷ ts) below all = (nat_list_cmp_total.trans t.digest d k all.0 below, later d k ts below all.1)
 
-before_push : (k : List ℕ) (es : List (Digest32 × ℕ)) (d : Digest32) (n : ℕ) → AllBefore k es → text_cmp k d.0 ≡ Greater → AllBefore k (es ++ (d, n) ∷ [])
-before_push k [] d n all e = (e, tt)
-before_push k (x ∷ es) d n all e = (all.0, before_push k es d n all.1 e)
+below_push : (k : List ℕ) (ts : List Touch) (t : Touch) → AllByRecursion (IsBelow k) ts → text_cmp t.digest k ≡ Less → AllByRecursion (IsBelow k) (ts ++ t ∷ [])
+below_push k [] t all e = (e, tt)
+below_push k (u ∷ ts) t all e = (all.0, below_push k ts t all.1 e)
 
-insert_at_end : (es : List (Digest32 × ℕ)) (d : Digest32) (n : ℕ) → AllBefore d.0 es → insert_entry digest_cmp es d n ≡ es ++ (d, n) ∷ []
-insert_at_end [] d n all = refl
-insert_at_end (e ∷ es) d n all =
-    ap (λ r. match_ordering r ((d, n) ∷ e ∷ es) ((e.0, n) ∷ es) (e ∷ insert_entry digest_cmp es d n)) all.0
-    ∙ ap (λ xs. e ∷ xs) (insert_at_end es d n all.1)
+-- nothing is above what all are below
+none_higher : (d : List ℕ) (xs ys : List Touch) → AllByRecursion (IsBelow d) (xs ++ ys) → AllByRecursion (IsAbove d) ys → ys ≡ []
+none_higher d [] [] below above = refl
+none_higher d [] (y ∷ ys) below above = let both : Less ≡ Greater = sym below.0 ∙ above.0 in cc
+none_higher d (x ∷ xs) ys below above = none_higher d xs ys below.1 above
 
-pub touches_of-push : (es : List (Digest32 × ℕ)) (d : Digest32) (n : ℕ) → touches_of (es ++ (d, n) ∷ []) ≡ touches_of es ++ record { digest = d.0; moment = n } ∷ []
-touches_of-push [] d n = refl
-touches_of-push (e ∷ es) d n = ap (λ xs. record { digest = (e.0).0; moment = e.1 } ∷ xs) (touches_of-push es d n)
+at_end : (old new : Book) (t : Touch) → NotesNew old new t → AllByRecursion (IsBelow t.digest) old.touches → new.touches ≡ old.touches ++ t ∷ []
+at_end old new t is below =
+    let none = none_higher t.digest is.lower is.higher (subst (AllByRecursion (IsBelow t.digest)) is.before below) (recursion_from_All (IsAbove t.digest) is.higher is.above) in
+    let all = is.before ∙ ap (λ ys. is.lower ++ ys) none ∙ append-nil is.lower in
+    is.after ∙ ap (λ ys. is.lower ++ t ∷ ys) none ∙ ap (λ xs. xs ++ t ∷ []) (sym all)
 
 -- ---- the loop
 
-pub record ReadsOn (moment : ℕ) (before : Option (List ℕ)) (es : List (Digest32 × ℕ)) (rest : List Touch) (all : List Touch) : Type 0 where
-  pub joined : touches_of es ++ rest ≡ all
+pub record ReadsOn (moment : ℕ) (before : Option (List ℕ)) (ts : List Touch) (rest : List Touch) (all : List Touch) : Type 0 where
+  pub joined : ts ++ rest ≡ all
   pub passes : pass_from moment before rest ≡ pass_from moment None all
-  pub follows : Follows before es
+  pub follows : Follows before ts
 
 both : (a b c : Bool) → a ≡ true → b ≡ true → (a && b && c) ≡ c
 both a b c p q = ap (λ x. x && b && c) p ∙ ap (λ x. x && c) q
 
-pub reads_more : (moment : ℕ) (before : Option (List ℕ)) (es new : List (Digest32 × ℕ)) (d : Digest32) (n : ℕ) (rest all : List Touch) →
-    ReadsOn moment before es (record { digest = d.0; moment = n } ∷ rest) all →
-    n ≤ moment → above before d.0 ≡ true → new ≡ insert_entry digest_cmp es d n →
-    ReadsOn moment (Some d.0) new rest all
-reads_more moment before es new d n rest all is within rises inserted =
-    let end = insert_at_end es d n (is.follows d.0 rises) in
-    subst (λ xs. ReadsOn moment (Some d.0) xs rest all) (sym (inserted ∙ end))
+pub not_yet : (moment : ℕ) (before : Option (List ℕ)) (ts : List Touch) (t : Touch) (rest all : List Touch) →
+    ReadsOn moment before ts (t ∷ rest) all → above before t.digest ≡ true → last_in ts t.digest ≡ None
+not_yet moment before ts t rest all is rises =
+    ap (λ us. last_in us t.digest) (sym (append-nil ts)) ∙ none_below t.digest ts [] (is.follows t.digest rises)
+
+pub reads_more : (moment : ℕ) (before : Option (List ℕ)) (old new : Book) (t : Touch) (rest all : List Touch) →
+    ReadsOn moment before old.touches (t ∷ rest) all → t.moment ≤ moment → above before t.digest ≡ true → NotesNew old new t →
+    ReadsOn moment (Some t.digest) new.touches rest all
+reads_more moment before old new t rest all is within rises notes =
+    subst (λ us. ReadsOn moment (Some t.digest) us rest all) (sym (at_end old new t notes (is.follows t.digest rises)))
     (record {
-      joined = ap (λ xs. xs ++ rest) (touches_of-push es d n) ∙ append_assoc (touches_of es) _ rest ∙ is.joined;
-      passes = sym (both _ _ _ (le-leb n moment within) rises) ∙ is.passes;
+      joined = append_assoc old.touches (t ∷ []) rest ∙ is.joined;
+      passes = sym (both _ _ _ (le-leb t.moment moment within) rises) ∙ is.passes;
       follows = λ k e. let below = less _ e in
-          before_push k es d n (later d.0 k es below (is.follows d.0 rises)) (greater d.0 k below);
+          below_push k old.touches t (later t.digest k old.touches below (is.follows t.digest rises)) below;
     })
 
 fails : (a b c : Bool) → a ≡ false → (a && b && c) ≡ false
@@ -84,22 +78,22 @@ fails_next : (a b c : Bool) → b ≡ false → (a && b && c) ≡ false
 fails_next true b c p = ap (λ x. x && c) p
 fails_next false b c p = refl
 
-pub late : (moment : ℕ) (before : Option (List ℕ)) (es : List (Digest32 × ℕ)) (t : Touch) (rest all : List Touch) →
-    ReadsOn moment before es (t ∷ rest) all → moment < t.moment → None ≡ passed moment all
-late moment before es t rest all is after =
+pub late : (moment : ℕ) (before : Option (List ℕ)) (ts : List Touch) (t : Touch) (rest all : List Touch) →
+    ReadsOn moment before ts (t ∷ rest) all → moment < t.moment → None ≡ passed moment all
+late moment before ts t rest all is after =
     let fact = sym is.passes ∙ fails _ _ _ (lt-leb t.moment moment after) in
     sym (ap (λ b. cond b (Some all) None) fact)
 
-pub falls : (moment : ℕ) (before : Option (List ℕ)) (es : List (Digest32 × ℕ)) (t : Touch) (rest all : List Touch) →
-    ReadsOn moment before es (t ∷ rest) all → above before t.digest ≡ false → None ≡ passed moment all
-falls moment before es t rest all is low =
+pub falls : (moment : ℕ) (before : Option (List ℕ)) (ts : List Touch) (t : Touch) (rest all : List Touch) →
+    ReadsOn moment before ts (t ∷ rest) all → above before t.digest ≡ false → None ≡ passed moment all
+falls moment before ts t rest all is low =
     let fact = sym is.passes ∙ fails_next _ _ _ low in
     sym (ap (λ b. cond b (Some all) None) fact)
 
-pub reads_end : (moment : ℕ) (before : Option (List ℕ)) (es : List (Digest32 × ℕ)) (all : List Touch) →
-    ReadsOn moment before es [] all → Some (touches_of es) ≡ passed moment all
-reads_end moment before es all is =
-    ap Some (sym (append-nil (touches_of es)) ∙ is.joined) ∙ sym (ap (λ b. cond b (Some all) None) (sym is.passes))
+pub reads_end : (moment : ℕ) (before : Option (List ℕ)) (ts : List Touch) (all : List Touch) →
+    ReadsOn moment before ts [] all → Some ts ≡ passed moment all
+reads_end moment before ts all is =
+    ap Some (sym (append-nil ts) ∙ is.joined) ∙ sym (ap (λ b. cond b (Some all) None) (sym is.passes))
 
 -- ---- cells
 
@@ -115,12 +109,12 @@ cells_none rest short =
     let count : length rest / 40 ≡ 0 = omega arith in
     ap (λ n. map touch_of (first_cells 40 n rest)) count
 
-pub opened : (moment : ℕ) (before : Option (List ℕ)) (es : List (Digest32 × ℕ)) (rest : List ℕ) (all : List Touch) (t : Touch) →
-    ReadsOn moment before es (touches_at rest) all → 40 ≤ length rest → t ≡ touch_of (take 40 rest) →
-    ReadsOn moment before es (t ∷ touches_at (drop 40 rest)) all
-opened moment before es rest all t is long reads =
-    subst (λ ts. ReadsOn moment before es ts all) (cells_more rest long ∙ ap (λ u. u ∷ touches_at (drop 40 rest)) (sym reads)) is
+pub opened : (moment : ℕ) (before : Option (List ℕ)) (ts : List Touch) (rest : List ℕ) (all : List Touch) (t : Touch) →
+    ReadsOn moment before ts (touches_at rest) all → 40 ≤ length rest → t ≡ touch_of (take 40 rest) →
+    ReadsOn moment before ts (t ∷ touches_at (drop 40 rest)) all
+opened moment before ts rest all t is long reads =
+    subst (λ us. ReadsOn moment before ts us all) (cells_more rest long ∙ ap (λ u. u ∷ touches_at (drop 40 rest)) (sym reads)) is
 
-pub closed : (moment : ℕ) (before : Option (List ℕ)) (es : List (Digest32 × ℕ)) (rest : List ℕ) (all : List Touch) →
-    ReadsOn moment before es (touches_at rest) all → length rest < 40 → ReadsOn moment before es [] all
-closed moment before es rest all is short = subst (λ ts. ReadsOn moment before es ts all) (cells_none rest short) is
+pub closed : (moment : ℕ) (before : Option (List ℕ)) (ts : List Touch) (rest : List ℕ) (all : List Touch) →
+    ReadsOn moment before ts (touches_at rest) all → length rest < 40 → ReadsOn moment before ts [] all
+closed moment before ts rest all is short = subst (λ us. ReadsOn moment before ts us all) (cells_none rest short) is

@@ -1,22 +1,28 @@
 -- Lists that have the same members, each once, count alike.
-use Rattle.std.proofs.Common.{◌≡◌, ◌⊎◌, ◌↔◌, inl, inr, ℕ, zero, suc, ◌+◌, ◌-◌, Bool, true, false, not, cond, List, [], ◌∷◌, ◌++◌, length, map, refl, sym, subst, ap, ◌∙◌, Some, arith}
+use Rattle.std.proofs.Common.{◌≡◌, ◌⊎◌, ◌↔◌, inl, inr, ℕ, zero, suc, ◌+◌, ◌-◌, Bool, true, false, not, cond, ◌<◌, ◌≤◌, List, [], ◌∷◌, ◌++◌, length, map, get_or, take, drop, Vec, Global, refl, sym, subst, ap, ◌∙◌, Some, arith}
 use Rattle.std.specs.Prelude.{◌≢◌, IsSome, filter, nat_le}
 use Rattle.std.specs.Ordering.{is_eq}
 use Rattle.std.specs.Str.{bytes_eq}
 use Rattle.std.specs.List.{AllByRecursion, AllPairs, Contains}
 use Rattle.std.specs.List.Sorted.{IsStrictlySortedBy}
-use Rattle.std.specs.Map.{keys_of, values_of}
-use Rattle.std.specs.declared.cmp.Ordering.TheVariants.{Less}
+use Rattle.std.specs.Cmp.Lexicographic.{texts_ties}
 use Rattle.std.proofs.lemmas.Bool.{false≢true}
+use Rattle.std.proofs.lemmas.Grind.{flat_map-append}
+use Rattle.std.proofs.lemmas.List.{length-append, take-append-drop, take_all}
+use Rattle.std.proofs.lemmas.List.Elements.{filter-append}
 use Rattle.std.proofs.lemmas.List.Recursion.{is_count_by}
 use Rattle.std.proofs.lemmas.List.Sums.{length-filter}
 use Rattle.std.proofs.lemmas.List.Filters.{length-filter_both}
 use Rattle.std.proofs.lemmas.Slice.Eq.{bytes_eq-Decides}
 use Rattle.store_types.specs.declared.names.Digest32.{Digest32}
-use Rattle.atime_book.specs.Touches.{touches_of, last_in, last_of}
+use Rattle.store_files.specs.Book.{Book}
+use Rattle.atime_book.specs.declared.parts.Touched.{Touched}
+use Rattle.atime_book.specs.Parts.{joined, touches_of, IsRising}
+use Rattle.atime_book.specs.Touches.{last_in, last_of}
 use Rattle.atime_book.specs.Counts.{ListsBook, is_since, used_among, pending_among}
-use Rattle.atime_book.proofs.Entries.{digest_cmp, same_bytes, book_with, last_in-touches_of}
+use Rattle.atime_book.proofs.Rising.{After}
 use Rattle.atime_book.proofs.Ordered.{IsFound, each_found}
+use Rattle.atime_book.proofs.Writing.{joined_more}
 
 -- the element is among these
 abbrev In : List ℕ → List (List ℕ) → Type 0
@@ -125,80 +131,109 @@ tally_same p (x ∷ xs) ys dx dy same =
     back : (front rest : List (List ℕ)) → ys ≡ front ++ x ∷ rest → (In x (front ++ rest) → ⊥) → (z : List ℕ) → In z (front ++ rest) → In z xs
     back front rest is out z h = elim ((same z).1 (subst (In z) (sym is) (in_with front x rest z h))) [ inl e ↦ absurd (out (subst (λ y. In y (front ++ rest)) e h)) | inr i ↦ i ]
 
--- ---- the entries of an ordered map
+-- ---- rising chunks
 
-abbrev own : List (Digest32 × ℕ) → List (List ℕ)
-own es = map (λ e. (e.0).0) es
+abbrev own : List Touched → List (List ℕ)
+own ts = map (λ t. t.digest.0) ts
 
-apart : (d : Digest32) (es : List (Digest32 × ℕ)) → AllByRecursion (λ k. digest_cmp d k ≡ Less) (keys_of es) → In d.0 (own es) → ⊥
+apart : (d : Digest32) (ts : List Touched) → After d ts → In d.0 (own ts) → ⊥
 apart d [] below h = h
-apart d (e ∷ es) below (inl same) =
-    let itself = sym (same_bytes d e.0) ∙ (bytes_eq-Decides d.0 (e.0).0).1 same in
-    false≢true (ap is_eq (sym below.0) ∙ itself)
-apart d (e ∷ es) below (inr h) = apart d es below.1 h
+apart d (t ∷ ts) below (inl same) =
+    let itself = (bytes_eq-Decides d.0 t.digest.0).1 same in
+    false≢true (sym (texts_ties d.0 t.digest.0 ∙ ap is_eq below.0) ∙ itself)
+apart d (t ∷ ts) below (inr h) = apart d ts below.1 h
 
-own_differ : (es : List (Digest32 × ℕ)) → IsStrictlySortedBy digest_cmp (keys_of es) → AllDiffer (own es)
+own_differ : (ts : List Touched) → IsRising ts → AllDiffer (own ts)
 unfolding IsStrictlySortedBy
 own_differ [] sorted = tt
-own_differ (e ∷ es) sorted = (apart e.0 es sorted.0, own_differ es sorted.1)
+own_differ (t ∷ ts) sorted = (apart t.digest ts sorted.0, own_differ ts sorted.1)
 
-some_at : (es : List (Digest32 × ℕ)) (d : List ℕ) → In d (own es) → IsSome (last_in (touches_of es) d)
+some_at : (ts : List Touched) (d : List ℕ) → In d (own ts) → IsSome (last_in (touches_of ts) d)
 some_at [] d h = absurd h
-some_at (e ∷ es) d h = by_test (bytes_eq d (e.0).0) refl h (some_at es d)
+some_at (t ∷ ts) d h = by_test (bytes_eq d t.digest.0) refl h (some_at ts d)
   where
-    by_test : (b : Bool) → bytes_eq d (e.0).0 ≡ b → (d ≡ (e.0).0) ⊎ In d (own es) → (In d (own es) → IsSome (last_in (touches_of es) d)) →
-        IsSome (cond b (Some e.1) (last_in (touches_of es) d))
+    by_test : (b : Bool) → bytes_eq d t.digest.0 ≡ b → (d ≡ t.digest.0) ⊎ In d (own ts) → (In d (own ts) → IsSome (last_in (touches_of ts) d)) →
+        IsSome (cond b (Some t.moment) (last_in (touches_of ts) d))
     by_test true is h rest = refl
-    by_test false is (inl same) rest = absurd (false≢true (sym is ∙ (bytes_eq-Decides d (e.0).0).1 same))
+    by_test false is (inl same) rest = absurd (false≢true (sym is ∙ (bytes_eq-Decides d t.digest.0).1 same))
     by_test false is (inr h) rest = rest h
 
-in_some : (es : List (Digest32 × ℕ)) (d : List ℕ) → IsSome (last_in (touches_of es) d) → In d (own es)
+in_some : (ts : List Touched) (d : List ℕ) → IsSome (last_in (touches_of ts) d) → In d (own ts)
 in_some [] d some = absurd (false≢true some)
-in_some (e ∷ es) d some = by_test (bytes_eq d (e.0).0) refl some (in_some es d)
+in_some (t ∷ ts) d some = by_test (bytes_eq d t.digest.0) refl some (in_some ts d)
   where
-    by_test : (b : Bool) → bytes_eq d (e.0).0 ≡ b → IsSome (cond b (Some e.1) (last_in (touches_of es) d)) → (IsSome (last_in (touches_of es) d) → In d (own es)) →
-        In d (own (e ∷ es))
-    by_test true is some rest = inl ((bytes_eq-Decides d (e.0).0).0 is)
+    by_test : (b : Bool) → bytes_eq d t.digest.0 ≡ b → IsSome (cond b (Some t.moment) (last_in (touches_of ts) d)) → (IsSome (last_in (touches_of ts) d) → In d (own ts)) →
+        In d (own (t ∷ ts))
+    by_test true is some rest = inl ((bytes_eq-Decides d t.digest.0).0 is)
     by_test false is some rest = inr (rest some)
 
-abbrev tests : ℕ → ℕ → List (Digest32 × ℕ) → List ℕ → Bool
+abbrev pub since : ℕ → List Touched → List Touched
+since start ts = filter (λ t. nat_le start t.moment) ts
+
+abbrev book_with : ℕ → List Touched → Book
+book_with moment ts = record { moment = moment; touches = touches_of ts }
+
+abbrev tests : ℕ → ℕ → List Touched → List ℕ → Bool
 tests start moment all d = is_since start (last_of (book_with moment all) d)
 
-tally_own : (start moment : ℕ) (all es : List (Digest32 × ℕ)) → AllByRecursion (IsFound all) es →
-    tally (tests start moment all) (own es) ≡ tally (nat_le start) (values_of es)
+tally_own : (start moment : ℕ) (all ts : List Touched) → AllByRecursion (IsFound all) ts →
+    tally (tests start moment all) (own ts) ≡ tally (λ (t : Touched). nat_le start t.moment) ts
 unfolding tally
 tally_own start moment all [] are = refl
-tally_own start moment all (e ∷ es) are =
-    let this = ap (is_since start) (last_in-touches_of e.0 all ∙ are.0) in
-    ap (λ b. cond b (1 + tally (tests start moment all) (own es)) (tally (tests start moment all) (own es))) this
-    ∙ ap (λ n. cond (nat_le start e.1) (1 + n) n) (tally_own start moment all es are.1)
+tally_own start moment all (t ∷ ts) are =
+    let this = ap (is_since start) are.0 in
+    ap (λ b. cond b (1 + tally (tests start moment all) (own ts)) (tally (tests start moment all) (own ts))) this
+    ∙ ap (λ n. cond (nat_le start t.moment) (1 + n) n) (tally_own start moment all ts are.1)
 
 tally_all : (xs : List (List ℕ)) → tally (λ x. true) xs ≡ length xs
 unfolding tally
 tally_all [] = refl
 tally_all (x ∷ xs) = let rest = tally_all xs in omega (arith, rest)
 
-length_own : (es : List (Digest32 × ℕ)) → length (own es) ≡ length es
+length_own : (ts : List Touched) → length (own ts) ≡ length ts
 length_own [] = refl
-length_own (e ∷ es) = ap suc (length_own es)
+length_own (t ∷ ts) = ap suc (length_own ts)
 
-module _ (moment : ℕ) (es : List (Digest32 × ℕ)) (sorted : IsStrictlySortedBy digest_cmp (keys_of es)) (ds : List (List ℕ)) (lists : ListsBook (book_with moment es) ds) where
-  members : (d : List ℕ) → In d ds ↔ In d (own es)
+module _ (moment : ℕ) (ts : List Touched) (sorted : IsRising ts) (ds : List (List ℕ)) (lists : ListsBook (book_with moment ts) ds) where
+  members : (d : List ℕ) → In d ds ↔ In d (own ts)
   members d = (
-    λ h. in_some es d ((lists.each d).1 (contains_from_in ds d h)),
-    λ h. in_from_contains ds d ((lists.each d).0 (some_at es d h)),
+    λ h. in_some ts d ((lists.each d).1 (contains_from_in ds d h)),
+    λ h. in_from_contains ds d ((lists.each d).0 (some_at ts d h)),
   )
 
-  same_tally : (p : List ℕ → Bool) → tally p ds ≡ tally p (own es)
-  same_tally p = tally_same p ds (own es) (differ ds lists.once) (own_differ es sorted) members
+  same_tally : (p : List ℕ → Bool) → tally p ds ≡ tally p (own ts)
+  same_tally p = tally_same p ds (own ts) (differ ds lists.once) (own_differ ts sorted) members
 
-  pub uses : (start : ℕ) → length (filter (nat_le start) (values_of es)) ≡ used_among (book_with moment es) start ds
+  pub uses : (start : ℕ) → length (since start ts) ≡ used_among (book_with moment ts) start ds
   uses start =
-      sym (tally_is (nat_le start) (values_of es)) ∙ sym (tally_own start moment es es (each_found es sorted))
-      ∙ sym (same_tally (tests start moment es)) ∙ tally_is (tests start moment es) ds
+      sym (tally_is (λ (t : Touched). nat_le start t.moment) ts) ∙ sym (tally_own start moment ts ts (each_found ts sorted))
+      ∙ sym (same_tally (tests start moment ts)) ∙ tally_is (tests start moment ts) ds
 
-  pub pends : (start : ℕ) → length es - length (filter (nat_le start) (values_of es)) ≡ pending_among (book_with moment es) start ds
+  pub pends : (start : ℕ) → length ts - length (since start ts) ≡ pending_among (book_with moment ts) start ds
   pends start =
-      let all = sym (tally_all ds) ∙ same_tally (λ x. true) ∙ tally_all (own es) ∙ length_own es in
-      let split = length-filter_both (tests start moment es) (λ d. not (tests start moment es d)) (λ d. refl) ds in
+      let all = sym (tally_all ds) ∙ same_tally (λ x. true) ∙ tally_all (own ts) ∙ length_own ts in
+      let split = length-filter_both (tests start moment ts) (λ d. not (tests start moment ts d)) (λ d. refl) ds in
       omega (arith, all, split, uses start)
+
+-- ---- part by part
+
+pub since_more : (start : ℕ) (parts : List (Vec Touched Global)) (i : ℕ) (d : Vec Touched Global) (used more : ℕ) → i < length parts →
+    used ≡ length (since start (joined (take i parts))) → more ≡ length (since start (get_or parts i d).items) →
+    used + more ≡ length (since start (joined (take (i + 1) parts)))
+since_more start parts i d used more within is here =
+    let all = ap (since start) (joined_more parts i d within) ∙ filter-append (λ (t : Touched). nat_le start t.moment) (joined (take i parts)) (get_or parts i d).items in
+    omega (arith, is, here, ap length all, length-append (since start (joined (take i parts))) (since start (get_or parts i d).items))
+
+at_most : (start : ℕ) (ts : List Touched) → length (since start ts) ≤ length ts
+at_most start ts =
+    let split = length-filter_both (λ (t : Touched). nat_le start t.moment) (λ t. not (nat_le start t.moment)) (λ t. refl) ts in
+    omega (arith, split)
+
+pub since_within : (start : ℕ) (parts : List (Vec Touched Global)) (i : ℕ) → length (since start (joined (take i parts))) ≤ length (joined parts)
+since_within start parts i =
+    let all = ap joined (sym (take-append-drop i parts)) ∙ flat_map-append (λ (p : Vec Touched Global). p.items) (take i parts) (drop i parts) in
+    omega (arith, at_most start (joined (take i parts)), ap length all, length-append (joined (take i parts)) (joined (drop i parts)))
+
+pub since_all : (start : ℕ) (parts : List (Vec Touched Global)) (i used : ℕ) → length parts ≤ i → used ≡ length (since start (joined (take i parts))) →
+    used ≡ length (since start (joined parts))
+since_all start parts i used past is = is ∙ ap (λ ps. length (since start (joined ps))) (take_all i parts past)

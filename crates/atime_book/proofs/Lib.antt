@@ -1,7 +1,10 @@
-pub mod Entries
-mod Chunks
+mod Orders
+mod Rising
+mod Parting
+mod Writing
 mod Whole
 mod Texts
 mod Ordered
 mod Counting
+mod Chunks
 mod Presents

@@ -1,54 +1,51 @@
--- An ordered map's entries: each chunk stands once.
+-- Rising chunks: each stands once.
 use Rattle.std.proofs.Common.{◌≡◌, ℕ, ◌≤◌, Bool, true, false, ◌&&◌, cond, List, [], ◌∷◌, length, get_or, refl, sym, ap, subst, ◌∙◌, All, Option, Some, None, Result, Ok, Err, Vec, Global}
 use Rattle.std.specs.Prelude.{IfSome, IfOk, OnOk}
-use Rattle.std.specs.Ordering.{is_lt, is_eq}
+use Rattle.std.specs.Ordering.{is_lt}
 use Rattle.std.specs.List.{AllByRecursion}
 use Rattle.std.specs.Str.{bytes_eq}
 use Rattle.std.specs.List.Sorted.{IsStrictlySortedBy}
-use Rattle.std.specs.Map.{keys_of, lookup}
-use Rattle.std.specs.BTreeMap.{is_at}
-use Rattle.std.specs.declared.cmp.Ordering.TheVariants.{Less}
 use Rattle.std.specs.declared.alloc.AllocError.{AllocError}
 use Rattle.std.proofs.lemmas.List.Elements.{All-from_recursion, All-map, All-head, All-tail}
 use Rattle.std.proofs.lemmas.Slice.Eq.{bytes_eq-Decides}
-use Rattle.store_types.specs.declared.names.Digest32.{Digest32}
 use Rattle.store_types.specs.Times.{last_moment}
 use Rattle.store_files.specs.Book.{Touch, Book, FitsBook, book_text, book_of, digests_rise}
-use Rattle.atime_book.specs.Touches.{touches_of, last_in, IsInOrder, NoneAfter}
-use Rattle.atime_book.proofs.Entries.{digest_cmp, same_bytes, book_with, last_in-touches_of}
-use Rattle.atime_book.proofs.Chunks.{greater}
+use Rattle.atime_book.specs.declared.parts.Touched.{Touched}
+use Rattle.atime_book.specs.Parts.{as_touch, touches_of, IsRising}
+use Rattle.atime_book.specs.Touches.{last_in, IsInOrder, NoneAfter}
+use Rattle.atime_book.proofs.Orders.{greater, unlike}
+use Rattle.atime_book.proofs.Rising.{After}
 use Rattle.atime_book.proofs.Texts.{book_of-book_text, text-from_book_of}
 
-rising : (es : List (Digest32 × ℕ)) → IsStrictlySortedBy digest_cmp (keys_of es) → digests_rise (touches_of es) ≡ true
+rising : (ts : List Touched) → IsRising ts → digests_rise (touches_of ts) ≡ true
 unfolding IsStrictlySortedBy
 rising [] sorted = refl
-rising (e ∷ []) sorted = refl
-rising (e ∷ f ∷ es) sorted = ap (λ r. is_lt r && digests_rise (touches_of (f ∷ es))) (sorted.0).0 ∙ rising (f ∷ es) sorted.1
+rising (t ∷ []) sorted = refl
+rising (t ∷ u ∷ ts) sorted = ap (λ r. is_lt r && digests_rise (touches_of (u ∷ ts))) (sorted.0).0 ∙ rising (u ∷ ts) sorted.1
 
-abbrev pub IsFound : List (Digest32 × ℕ) → Digest32 × ℕ → Type 0
-IsFound all e = lookup (is_at (digest_cmp e.0)) all ≡ Some e.1
+abbrev pub IsFound : List Touched → Touched → Type 0
+IsFound all t = last_in (touches_of all) t.digest.0 ≡ Some t.moment
 
 -- behind one that is below them
-behind : (e : Digest32 × ℕ) (all es : List (Digest32 × ℕ)) → AllByRecursion (λ k. digest_cmp e.0 k ≡ Less) (keys_of es) →
-    AllByRecursion (IsFound all) es → AllByRecursion (IsFound (e ∷ all)) es
-behind e all [] below are = tt
-behind e all (f ∷ es) below are =
-    (ap (λ r. cond (is_eq r) (Some e.1) (lookup (is_at (digest_cmp f.0)) all)) (greater (e.0).0 (f.0).0 below.0) ∙ are.0, behind e all es below.1 are.1)
+behind : (t : Touched) (all ts : List Touched) → After t.digest ts → AllByRecursion (IsFound all) ts → AllByRecursion (IsFound (t ∷ all)) ts
+behind t all [] below are = tt
+behind t all (u ∷ ts) below are =
+    let other = unlike u.digest.0 t.digest.0 (greater t.digest.0 u.digest.0 below.0) in
+    (ap (λ b. cond b (Some t.moment) (last_in (touches_of all) u.digest.0)) other ∙ are.0, behind t all ts below.1 are.1)
 
-pub each_found : (es : List (Digest32 × ℕ)) → IsStrictlySortedBy digest_cmp (keys_of es) → AllByRecursion (IsFound es) es
+pub each_found : (ts : List Touched) → IsRising ts → AllByRecursion (IsFound ts) ts
 unfolding IsStrictlySortedBy
 each_found [] sorted = tt
-each_found (e ∷ es) sorted =
-    let itself = sym (same_bytes e.0 e.0) ∙ (bytes_eq-Decides (e.0).0 (e.0).0).1 refl in
-    (ap (λ b. cond b (Some e.1) (lookup (is_at (digest_cmp e.0)) es)) itself, behind e es es sorted.0 (each_found es sorted.1))
+each_found (t ∷ ts) sorted =
+    let itself = (bytes_eq-Decides t.digest.0 t.digest.0).1 refl in
+    (ap (λ b. cond b (Some t.moment) (last_in (touches_of ts) t.digest.0)) itself, behind t ts ts sorted.0 (each_found ts sorted.1))
 
-pub in_order : (moment : ℕ) (es : List (Digest32 × ℕ)) → IsStrictlySortedBy digest_cmp (keys_of es) → All (λ t. length t.digest ≡ 32) (touches_of es) →
-    IsInOrder (book_with moment es)
-in_order moment es sorted wide = record {
+pub in_order : (moment : ℕ) (ts : List Touched) → IsRising ts → All (λ t. length t.digest ≡ 32) (touches_of ts) →
+    IsInOrder (record { moment = moment; touches = touches_of ts })
+in_order moment ts sorted wide = record {
   digests = wide;
-  rise = rising es sorted;
-  found = All-map (λ (t : Touch). last_in (touches_of es) t.digest ≡ Some t.moment) (λ e. record { digest = (e.0).0; moment = e.1 }) es
-      (λ k d below. last_in-touches_of (get_or es k d).0 es ∙ All-from_recursion (IsFound es) es (each_found es sorted) k d below);
+  rise = rising ts sorted;
+  found = All-map (λ (t : Touch). last_in (touches_of ts) t.digest ≡ Some t.moment) as_touch ts (All-from_recursion (IsFound ts) ts (each_found ts sorted));
 }
 
 -- so it has a text at a moment that no touch is after

@@ -1,6 +1,6 @@
 -- When bytes are a book.
-use Rattle.std.proofs.Common.{◌≡◌, ℕ, ◌<◌, ◌≤◌, Bool, true, false, not, ◌&&◌, cond, List, [], ◌∷◌, length, Some, None, refl, sym, ap, ◌∙◌}
-use Rattle.std.specs.Prelude.{nat_le}
+use Rattle.std.proofs.Common.{◌≡◌, ℕ, ◌<◌, ◌≤◌, Bool, true, false, not, ◌&&◌, cond, List, [], ◌∷◌, length, Option, Some, None, refl, sym, ap, ◌∙◌}
+use Rattle.std.specs.Prelude.{nat_le, option_map}
 use Rattle.std.specs.List.{list_all}
 use Rattle.std.specs.Str.{bytes_eq}
 use Rattle.std.proofs.lemmas.Bool.{lt-ltb, le-ltb}
@@ -63,47 +63,59 @@ no_pass : (p : Bool) (ts : List Touch) → None ≡ cond p (Some ts) None → p 
 no_pass true ts e = cc
 no_pass false ts e = refl
 
-pub not_passed : (bytes : List ℕ) → 56 ≤ length bytes → None ≡ passed (fields_of bytes).moment (fields_of bytes).touches → None ≡ book_of bytes
-not_passed bytes long none =
-    sym (tests bytes long _ _ false refl refl (no_pass _ _ none) ∙ last_false _ (fields_of bytes))
+abbrev pub book_with : ℕ → List Touch → Book
+book_with moment touches = record { moment = moment; touches = touches }
+
+none_of : (moment : ℕ) (o : Option (List Touch)) → None ≡ option_map (book_with moment) o → None ≡ o
+none_of moment None e = refl
+none_of moment (Some ts) e = cc
+
+pub not_passed : (bytes : List ℕ) (moment : ℕ) → 56 ≤ length bytes → moment ≡ (fields_of bytes).moment →
+    None ≡ option_map (book_with moment) (passed moment (fields_of bytes).touches) → None ≡ book_of bytes
+not_passed bytes moment long is none =
+    let failed = none_of moment _ none ∙ ap (λ m. passed m (fields_of bytes).touches) is in
+    sym (tests bytes long _ _ false refl refl (no_pass _ _ failed) ∙ last_false _ (fields_of bytes))
 
 pub too_late : (bytes : List ℕ) → 56 ≤ length bytes → nat_le (fields_of bytes).moment last_moment ≡ false → None ≡ book_of bytes
 too_late bytes long late = sym (tests bytes long _ false _ refl late refl ∙ middle_false _ _ (fields_of bytes))
 
 -- the book that was read from the bytes
-pub record IsRead (bytes : List ℕ) (moment : ℕ) (touches : List Touch) : Type 0 where
-  pub moment_is : moment ≡ (fields_of bytes).moment
-  pub touches_are : touches ≡ (fields_of bytes).touches
+pub record IsRead (bytes : List ℕ) (moment : ℕ) (book : Book) : Type 0 where
+  pub same : book ≡ fields_of bytes
+  pub written : record book { moment = moment } ≡ fields_of bytes
   pub passes : pass_from (fields_of bytes).moment None (fields_of bytes).touches ≡ true
 
-some_passed : (p : Bool) (us ts : List Touch) → Some us ≡ cond p (Some ts) None → (p ≡ true) × (us ≡ ts)
-some_passed true us ts e = (refl, cc)
-some_passed false us ts e = cc
+some_passed : (p : Bool) (moment : ℕ) (book : Book) (ts : List Touch) → Some book ≡ option_map (book_with moment) (cond p (Some ts) None) →
+    (p ≡ true) × (book ≡ book_with moment ts)
+some_passed true moment book ts e = (refl, cc)
+some_passed false moment book ts e = cc
 
-pub is_read : (bytes : List ℕ) (moment : ℕ) (touches : List Touch) → moment ≡ (fields_of bytes).moment →
-    Some touches ≡ passed moment (fields_of bytes).touches → IsRead bytes moment touches
-is_read bytes moment touches is found =
-    let both = some_passed _ touches (fields_of bytes).touches (found ∙ ap (λ m. passed m (fields_of bytes).touches) is) in
-    record { moment_is = is; touches_are = both.1; passes = both.0 }
-
-same_book : (bytes : List ℕ) (moment : ℕ) (touches : List Touch) → IsRead bytes moment touches →
-    ◌≡◌ {A = Book} (record { moment = moment; touches = touches }) (fields_of bytes)
-same_book bytes moment touches is = λ i. record { moment = is.moment_is i; touches = is.touches_are i }
+pub is_read : (bytes : List ℕ) (moment : ℕ) (book : Book) → moment ≡ (fields_of bytes).moment →
+    Some book ≡ option_map (book_with moment) (passed moment (fields_of bytes).touches) → IsRead bytes moment book
+is_read bytes moment book is found =
+    let x = fields_of bytes in
+    let both = some_passed (pass_from moment None x.touches) moment book x.touches found in
+    let fields = ap (λ m. book_with m x.touches) is in
+    record {
+      same = both.1 ∙ fields;
+      written = ap (λ (b : Book). record b { moment = moment }) both.1 ∙ fields;
+      passes = ap (λ m. pass_from m None x.touches) (sym is) ∙ both.0;
+    }
 
 of_not : (b c : Bool) → c ≡ not b → b ≡ not c
 of_not true c e = sym (ap not e)
 of_not false c e = sym (ap not e)
 
-pub other_text : (bytes : List ℕ) (moment : ℕ) (touches : List Touch) (text : List ℕ) → 56 ≤ length bytes → IsRead bytes moment touches →
-    text ≡ book_text (record { moment = moment; touches = touches }) → true ≡ not (bytes_eq bytes text) → None ≡ book_of bytes
-other_text bytes moment touches text long is written differs =
-    let whole = written ∙ ap book_text (same_book bytes moment touches is) in
+pub other_text : (bytes : List ℕ) (moment : ℕ) (book : Book) (text : List ℕ) → 56 ≤ length bytes → IsRead bytes moment book →
+    text ≡ book_text (record book { moment = moment }) → true ≡ not (bytes_eq bytes text) → None ≡ book_of bytes
+other_text bytes moment book text long is written differs =
+    let whole = written ∙ ap book_text is.written in
     sym (tests bytes long false _ _ (ap (bytes_eq bytes) (sym whole) ∙ of_not _ _ differs) refl refl)
 
-pub same_text : (bytes : List ℕ) (moment : ℕ) (touches : List Touch) (text : List ℕ) → 56 ≤ length bytes → IsRead bytes moment touches →
-    text ≡ book_text (record { moment = moment; touches = touches }) → false ≡ not (bytes_eq bytes text) →
-    nat_le (fields_of bytes).moment last_moment ≡ true → Some (record { moment = moment; touches = touches }) ≡ book_of bytes
-same_text bytes moment touches text long is written same early =
-    let whole = written ∙ ap book_text (same_book bytes moment touches is) in
-    ap Some (same_book bytes moment touches is)
+pub same_text : (bytes : List ℕ) (moment : ℕ) (book : Book) (text : List ℕ) → 56 ≤ length bytes → IsRead bytes moment book →
+    text ≡ book_text (record book { moment = moment }) → false ≡ not (bytes_eq bytes text) →
+    nat_le (fields_of bytes).moment last_moment ≡ true → Some book ≡ book_of bytes
+same_text bytes moment book text long is written same early =
+    let whole = written ∙ ap book_text is.written in
+    ap Some is.same
     ∙ sym (tests bytes long true true true (ap (bytes_eq bytes) (sym whole) ∙ of_not _ _ same) early is.passes)

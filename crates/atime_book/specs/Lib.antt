@@ -1,3 +1,4 @@
+pub mod Parts
 pub mod Touches
 pub mod Reading
 pub mod Present

@@ -1,12 +1,8 @@
 -- The tests of a book's chunks, one after another.
 use Rattle.std.specs.Prelude.{◌≡◌, ℕ, Bool, true, ◌&&◌, List, [], ◌∷◌, nat_le, map, if◌then◌else◌, Option, Some, None, option_map}
-use Rattle.std.specs.declared.alloc.Global.{Global}
-use Rattle.std.specs.declared.collections.BTreeMap.{BTreeMap}
-use Rattle.store_types.specs.declared.names.Digest32.{Digest32}
 use Rattle.store_types.specs.Names.{name_lt}
 use Rattle.store_files.specs.Cells.{cells}
-use Rattle.store_files.specs.Book.{Touch, touch_of}
-use Rattle.atime_book.specs.Touches.{touches_of}
+use Rattle.store_files.specs.Book.{Touch, Book, touch_of}
 
 -- whether a digest is above the one before it
 abbrev pub above : Option (List ℕ) → List ℕ → Bool
@@ -25,6 +21,7 @@ touches_at bytes = map touch_of (cells 40 bytes)
 abbrev pub passed : ℕ → List Touch → Option (List Touch)
 passed moment ts = if pass_from moment None ts then Some ts else None
 
--- an answer has the touches that the bytes are, where they pass
-abbrev pub TellsTouches : ℕ → List ℕ → Option (BTreeMap Digest32 ℕ Global) → Type 0
-TellsTouches moment bytes found = option_map (λ m. touches_of m.entries) found ≡ passed moment (touches_at bytes)
+-- an answer is the book of the touches that the bytes are, where they pass
+abbrev pub TellsTouches : ℕ → List ℕ → Option Book → Type 0
+TellsTouches moment bytes found =
+    found ≡ option_map (λ ts. record { moment = moment; touches = ts }) (passed moment (touches_at bytes))

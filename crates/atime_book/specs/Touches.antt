@@ -1,16 +1,15 @@
 -- What the book knows of chunks, and what changes it.
-use Rattle.std.specs.Prelude.{◌≡◌, ℕ, ◌-◌, Bool, false, ◌&&◌, List, [], ◌∷◌, ◌++◌, nat_lt, if◌then◌else◌, Option, Some, None, IfSome, IsSome, IsTrue, Vec, length, map, min, max, ◌≤◌, codes}
+use Rattle.std.specs.Prelude.{◌≡◌, ℕ, ◌-◌, Bool, false, ◌&&◌, List, [], ◌∷◌, ◌++◌, nat_lt, if◌then◌else◌, Option, Some, None, IfSome, IsSome, IsTrue, Vec, length, min, max, ◌≤◌, codes}
 use Rattle.std.specs.declared.alloc.Global.{Global}
 use Rattle.std.specs.Int.{w64, to_le_bytes}
 use Rattle.std.specs.List.{All, flat_map}
 use Rattle.std.specs.Str.{bytes_eq}
+use Rattle.std.specs.declared.cmp.Ordering.TheVariants.{Less, Greater}
 use Rattle.store_types.specs.Times.{last_moment}
-use Rattle.store_types.specs.declared.names.Digest32.{Digest32}
+use Rattle.store_types.specs.Names.{text_cmp}
 use Rattle.store_files.specs.Book.{Touch, Book, digests_rise, touch_text, book_of}
-
--- an ordered map's entries as touches
-abbrev pub touches_of : List (Digest32 × ℕ) → List Touch
-touches_of entries = map (λ e. record { digest = (e.0).0; moment = e.1 }) entries
+use Rattle.atime_book.specs.declared.parts.Touched.{Touched}
+use Rattle.atime_book.specs.Parts.{touches_of}
 
 -- each digest has 32 bytes
 abbrev pub HaveDigests : List Touch → Type 0
@@ -20,12 +19,12 @@ HaveDigests touches = All (λ t. length t.digest ≡ 32) touches
 abbrev pub head_text : ℕ → ℕ → List ℕ
 head_text moment count = codes "PBSBOOK1" ++ to_le_bytes w64 moment ++ to_le_bytes w64 count
 
-abbrev pub touches_text : List (Digest32 × ℕ) → List ℕ
-touches_text entries = flat_map touch_text (touches_of entries)
+abbrev pub touches_text : List Touched → List ℕ
+touches_text touched = flat_map touch_text (touches_of touched)
 
 -- they are put behind what is there
-abbrev pub AddsTouches : List (Digest32 × ℕ) → List ℕ → List ℕ → Type 0
-AddsTouches entries old new = new ≡ old ++ touches_text entries
+abbrev pub AddsTouches : List Touched → List ℕ → List ℕ → Type 0
+AddsTouches touched old new = new ≡ old ++ touches_text touched
 
 -- the last touch of a chunk
 abbrev pub last_in : List Touch → List ℕ → Option ℕ
@@ -47,6 +46,16 @@ greatest (Some last) when = max last when
 pub record TouchedAt (old new : Book) (digest : List ℕ) (when : ℕ) : Type 0 where
   pub read : new.moment ≡ old.moment
   pub last : (d : List ℕ) → last_of new d ≡ (if bytes_eq digest d then Some (greatest (last_of old d) when) else last_of old d)
+
+-- A chunk was noted between those below it and those above it, and nothing else has changed.
+pub record NotesNew (old new : Book) (t : Touch) : Type 0 where
+  pub read : new.moment ≡ old.moment
+  pub lower : List Touch
+  pub higher : List Touch
+  pub before : old.touches ≡ lower ++ higher
+  pub after : new.touches ≡ lower ++ t ∷ higher
+  pub below : All (λ u. text_cmp u.digest t.digest ≡ Less) lower
+  pub above : All (λ u. text_cmp u.digest t.digest ≡ Greater) higher
 
 -- whether the chunk was touched, and never at the cutoff or later
 abbrev pub is_stale : Option ℕ → ℕ → Bool

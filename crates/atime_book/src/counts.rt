@@ -3,6 +3,7 @@
 ghost use Rattle.atime_book.specs.Counts.{Divides};
 
 use crate::Book;
+use crate::parts::count_since;
 
 /// How many chunks of a book were touched at a moment or later, and how many others it has.
 #[derive(Clone, Copy, Debug, PartialEq, Eq)]
@@ -16,13 +17,14 @@ impl Book {
     pub fn counts(&self, start: u64) -> Counts
         ensures { Divides self.now start result.used result.pending }
     {
+        let all = self.count;
         let mut used = 0;
-        for last in self.touches.values() {
-            if *last >= start {
-                used += 1;
-            }
+        for part in &self.parts {
+            used += count_since(part, start) as u64;
         }
-        let pending = self.touches.len() as u64 - used;
-        Counts { used, pending }
+        Counts {
+            used,
+            pending: all - used,
+        }
     }
 }

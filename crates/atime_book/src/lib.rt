@@ -4,40 +4,47 @@
 //! the digest and its last touch; then the SHA-256 of all bytes before it. Numbers are u64, little-endian.
 #![tactic(auto)]
 
-ghost use Rattle.std.specs.Prelude.{◌≡◌, [], true, IsOk, IsSome, IfSome, IfOk, OnOk, OnErr};
+ghost use Rattle.std.specs.Prelude.{◌≡◌, [], true, IsOk, IsSome, IfSome, IfOk, OnOk, OnErr, None};
 ghost use Rattle.store_files.specs.Book.{FitsBook, signed_text, book_text, book_of};
-ghost use Rattle.atime_book.specs.Touches.{touches_of, AddsTouches, head_text, HaveDigests, cutoff_of, empty, last_of, is_stale, IsInOrder, TouchedAt, TouchesKnown, SweptAt, IsAt, ReadsAt, IsEarly, as_of};
+ghost use Rattle.atime_book.specs.Parts.{as_touch, joined, touches_of};
+ghost use Rattle.atime_book.specs.Touches.{AddsTouches, head_text, HaveDigests, cutoff_of, empty, last_of, is_stale, IsInOrder, NotesNew, TouchedAt, TouchesKnown, SweptAt, IsAt, ReadsAt, IsEarly, as_of};
 
 mod counts;
 mod laws;
+mod parts;
 mod present;
 mod reading;
 
 pub use counts::Counts;
 pub use laws::{what_is_read_has_one_spelling, what_is_written_is_read};
+use parts::{Touched, empty_parts, number_of, place_of};
 pub use present::Present;
 use sha2::{Digest, Sha256};
 use std::alloc::{AllocError, Global};
-use std::collections::BTreeMap;
 use std::marker::Model;
 use store_types::{Digest32, LAST_MOMENT};
 
 const MAGIC: [u8; 8] = *b"PBSBOOK1";
 
 /// The last touch of each chunk, as contracts see it: what the book's file says.
+///
+/// The chunks stand in 256 parts by the first bytes of their digests, each in rising order. A new book has no parts.
 #[derive(Drop)]
 pub struct Book {
     moment: u64,
-    touches: BTreeMap<Digest32, u64>,
+    parts: Vec<Vec<Touched>>,
+    count: u64,
 }
 
 impl Model for Book {
     ghost use Rattle.store_files.specs.Book.{Book as Written};
-    ghost use Rattle.atime_book.specs.Touches.{touches_of};
+    ghost use Rattle.atime_book.specs.Parts.{joined, touches_of, IsParted};
 
     ghost Value = { Written };
 
-    ghost view = { λ b. record { moment = b.moment; touches = touches_of b.touches.entries } };
+    ghost view = { λ b. record { moment = b.moment; touches = touches_of (joined b.parts.items) } };
+
+    ghost invariant = { λ b. IsParted b.parts.items b.count };
 }
 
 /// Chunks whose last touch is before this moment may go: a day and five minutes before the collector's start, and at
@@ -74,8 +81,12 @@ impl Book {
     fn as_of(alloc: Global, moment: u64) -> Book
         ensures { result ≡ record { moment = moment; touches = [] } }
     {
-        let touches = BTreeMap::new(alloc);
-        Book { moment, touches }
+        let parts = Vec::new(alloc);
+        Book {
+            moment,
+            parts,
+            count: 0,
+        }
     }
 
     /// The last moment of the book that was read, or 0.
@@ -96,7 +107,28 @@ impl Book {
             self.touch_known(digest, moment);
             return Ok(());
         }
-        self.touches.insert(*digest, moment)?;
+        self.note_new(Touched {
+            digest: *digest,
+            moment,
+        })
+    }
+
+    // Notes a chunk that the book does not have. At want of memory, or of a number for one more, nothing has changed.
+    fn note_new(&mut self, touched: Touched) -> Result<(), AllocError>
+        requires { last_of self.old touched.digest.0 ≡ None }
+        ensures ok { OnOk result (NotesNew self.old self.new (as_touch touched)) }
+        ensures err { OnErr result (self.new ≡ self.old) }
+    {
+        let count = self.count.checked_add(1).ok_or(AllocError)?;
+        if self.parts.is_empty() {
+            let alloc = *self.parts.allocator();
+            self.parts = empty_parts(alloc)?;
+        }
+        let part = &mut self.parts[number_of(&touched.digest)];
+        if let Err(place) = place_of(part, &touched.digest) {
+            part.insert(place, touched)?;
+            self.count = count;
+        }
         Ok(())
     }
 
@@ -104,8 +136,14 @@ impl Book {
     pub fn touch_known(&mut self, digest: &Digest32, moment: u64)
         ensures { TouchesKnown self.old self.new digest.now.0 moment }
     {
-        if let Some(last) = self.touches.get_mut(digest) {
-            *last = moment.max(*last);
+        let number = number_of(digest);
+        if number >= self.parts.len() {
+            return;
+        }
+        let part = &mut self.parts[number];
+        if let Ok(place) = place_of(part, digest) {
+            let touched = &mut part[place];
+            touched.moment = moment.max(touched.moment);
         }
     }
 
@@ -113,7 +151,11 @@ impl Book {
     pub fn last(&self, digest: &Digest32) -> Option<u64>
         ensures { result ≡ last_of self.now digest.now.0 }
     {
-        self.touches.get(digest).copied()
+        let part = self.parts.get(number_of(digest))?;
+        match place_of(part, digest) {
+            Ok(place) => Some(part[place].moment),
+            Err(_) => None,
+        }
     }
 
     /// Whether a chunk's last touch is before the cutoff. It takes no memory.
@@ -139,7 +181,15 @@ impl Book {
     pub fn forget(&mut self, digest: &Digest32)
         ensures { SweptAt self.old self.new digest.now.0 true }
     {
-        let _ = self.touches.remove(digest);
+        let number = number_of(digest);
+        if number >= self.parts.len() {
+            return;
+        }
+        let part = &mut self.parts[number];
+        if let Ok(place) = place_of(part, digest) {
+            let _ = part.remove(place);
+            self.count -= 1;
+        }
     }
 
     /// The book's file at a moment. Where no touch is after it, `read` gives the book at that moment from it.
@@ -168,8 +218,8 @@ impl Book {
         ensures text { IfOk result (λ text. text.items ≡ signed_text (as_of moment self.now)) }
         ensures order { OnOk result (IsInOrder self.now) }
     {
-        let mut text = head(alloc, moment, self.touches.len() as u64)?;
-        push_touches(&mut text, &self.touches)?;
+        let mut text = head(alloc, moment, self.count)?;
+        push_touches(&mut text, &self.parts)?;
         Ok(text)
     }
 
@@ -184,13 +234,12 @@ impl Book {
         }
         let moment = reading::moment_of(bytes);
         let cells = &bytes[24..bytes.len() - 32];
-        let Some(touches) = reading::touches_in(alloc, cells, moment)? else {
+        let Some(book) = reading::touches_in(alloc, cells, moment)? else {
             return Ok(None);
         };
         if moment > LAST_MOMENT {
             return Ok(None);
         }
-        let book = Book { moment, touches };
         let text = book.written(alloc, moment)?;
         if bytes != text.as_slice() {
             return Ok(None);
@@ -208,13 +257,23 @@ fn head(alloc: Global, moment: u64, count: u64) -> Result<Vec<u8>, AllocError>
     Ok(text)
 }
 
-fn push_touches(text: &mut Vec<u8>, touches: &BTreeMap<Digest32, u64>) -> Result<(), AllocError>
-    ensures text { OnOk result (AddsTouches touches.now.entries text.old.items text.new.items) }
-    ensures digests { OnOk result (HaveDigests (touches_of touches.now.entries)) }
+fn push_touches(text: &mut Vec<u8>, parts: &[Vec<Touched>]) -> Result<(), AllocError>
+    ensures text { OnOk result (AddsTouches (joined parts.now) text.old.items text.new.items) }
+    ensures digests { OnOk result (HaveDigests (touches_of (joined parts.now))) }
 {
-    for (digest, touched) in touches {
-        text.extend_from_slice(&digest.0)?;
-        text.extend_from_slice(&touched.to_le_bytes())?;
+    for part in parts {
+        push_part(text, part)?;
+    }
+    Ok(())
+}
+
+fn push_part(text: &mut Vec<u8>, part: &[Touched]) -> Result<(), AllocError>
+    ensures text { OnOk result (AddsTouches part.now text.old.items text.new.items) }
+    ensures digests { OnOk result (HaveDigests (touches_of part.now)) }
+{
+    for touched in part {
+        text.extend_from_slice(&touched.digest.0)?;
+        text.extend_from_slice(&touched.moment.to_le_bytes())?;
     }
     Ok(())
 }

@@ -20,6 +20,22 @@ fn add_touches(rt: &impl Abort, text: &mut Vec<u8>, touches: &[(u8, u64)]) {
     }
 }
 
+/// A chunk whose digest is one byte and then 31 times another, and its last touch.
+type Row = (u8, u8, u64);
+
+fn mixed(first: u8, others: u8) -> Digest32 {
+    let mut bytes = [others; 32];
+    bytes[0] = first;
+    Digest32(bytes)
+}
+
+fn add_rows(rt: &impl Abort, text: &mut Vec<u8>, rows: &[Row]) {
+    for (first, others, touched) in rows {
+        must(rt, text.extend_from_slice(&mixed(*first, *others).0));
+        must(rt, text.extend_from_slice(&touched.to_le_bytes()));
+    }
+}
+
 fn add_csum(rt: &impl Abort, text: &mut Vec<u8>, csum: &str) {
     let mut sum = [0; 32];
     must(rt, hex::decode_to_slice(csum, &mut sum));
@@ -200,4 +216,106 @@ fn short_files(rt: HostRuntime) {
     let text = file(&rt, rt.alloc(), b"PBSBOOK1", (10, 1), &[(1, 5)], GOOD);
     same(&rt, is_book(&rt, rt.alloc(), front(&text, 95)), false);
     same(&rt, is_book(&rt, rt.alloc(), b""), false);
+}
+
+/// In the order of their touches; the first and the last byte have two chunks each, and one has three.
+static TOUCHED: [Row; 8] = [
+    (127, 7, 6),
+    (255, 255, 8),
+    (0, 255, 2),
+    (127, 5, 4),
+    (1, 0, 3),
+    (255, 0, 7),
+    (0, 0, 1),
+    (127, 6, 5),
+];
+
+/// In rising order, as a book's file has them.
+static RISING: [Row; 8] = [
+    (0, 0, 1),
+    (0, 255, 2),
+    (1, 0, 3),
+    (127, 5, 4),
+    (127, 6, 5),
+    (127, 7, 6),
+    (255, 0, 7),
+    (255, 255, 8),
+];
+
+const RISING_CSUM: &str = "e2473308815e3cffc51c849238b53e60bd848d9d22d95836f9dc697f6ef3056f";
+
+/// Where those are taken out: the first of all, the last, one between two others, and one that is not there.
+static TAKEN: [(u8, u8); 4] = [(0, 0), (255, 255), (127, 6), (127, 8)];
+
+static LEFT: [Row; 5] = [
+    (0, 255, 2),
+    (1, 0, 3),
+    (127, 5, 4),
+    (127, 7, 6),
+    (255, 0, 7),
+];
+
+const LEFT_CSUM: &str = "68123267ce03615b7db1e689033c22af8359ec56d4ab3b0065dfd34c6fabe103";
+
+fn file_of(rt: &impl Abort, alloc: Global, rows: &[Row], csum: &str) -> Vec<u8> {
+    let mut text = Vec::new(alloc);
+    add_head(rt, &mut text, b"PBSBOOK1", (100, rows.len() as u64));
+    add_rows(rt, &mut text, rows);
+    add_csum(rt, &mut text, csum);
+    text
+}
+
+fn try_text(rt: &impl Abort, alloc: Global, book: &Book, text: &[u8]) {
+    same(rt, must(rt, book.text(alloc, 100)).as_slice(), text);
+}
+
+fn touch_all(rt: &impl Abort, book: &mut Book) {
+    for (first, others, touched) in &TOUCHED {
+        same(rt, book.last(&mixed(*first, *others)), None);
+        must(rt, book.touch(&mixed(*first, *others), *touched));
+    }
+}
+
+fn try_rows(rt: &impl Abort, book: &Book, rows: &[Row]) {
+    for (first, others, touched) in rows {
+        same_at(
+            rt,
+            *touched,
+            book.last(&mixed(*first, *others)),
+            Some(*touched),
+        );
+    }
+}
+
+fn take_out(rt: &impl Abort, book: &mut Book) {
+    for (first, others) in &TAKEN {
+        book.forget(&mixed(*first, *others));
+        same(rt, book.last(&mixed(*first, *others)), None);
+    }
+}
+
+#[test]
+fn of_no_chunks(rt: HostRuntime) {
+    let mut book = Book::new(rt.alloc());
+    book.touch_known(&digest(1), 5);
+    book.forget(&digest(1));
+    same(&rt, touched(&book), (None, None, None));
+    same(&rt, book.counts(0).used, 0);
+}
+
+#[test]
+fn parts_in_turn(rt: HostRuntime) {
+    let mut book = Book::new(rt.alloc());
+    touch_all(&rt, &mut book);
+    try_rows(&rt, &book, &RISING);
+    let text = file_of(&rt, rt.alloc(), &RISING, RISING_CSUM);
+    try_text(&rt, rt.alloc(), &book, &text);
+    take_out(&rt, &mut book);
+    try_rows(&rt, &book, &LEFT);
+    let left = file_of(&rt, rt.alloc(), &LEFT, LEFT_CSUM);
+    try_text(&rt, rt.alloc(), &book, &left);
+    let mut read = book_in(&rt, rt.alloc(), &text);
+    try_rows(&rt, &read, &RISING);
+    take_out(&rt, &mut read);
+    try_text(&rt, rt.alloc(), &read, &left);
 }

@@ -1,7 +1,7 @@
-use Rattle.std.proofs.Common.{◌≡◌, length, map}
-use Rattle.std.specs.Prelude.{filter, nat_le}
-use Rattle.std.specs.Map.Iter.{deref}
+use Rattle.std.proofs.Common.{◌≡◌, length, take}
+use Rattle.atime_book.specs.Parts.{joined}
+use Rattle.atime_book.proofs.Counting.{since}
 use Rattle.atime_book.proofs.Book.counts.Given as goal
 
-abbrev pub invariant-loop-last : goal.invariant-loop-last
-invariant-loop-last l = l.used ≡ length (filter (nat_le l.start) (map deref l.yielded))
+abbrev pub invariant-loop-part : goal.invariant-loop-part
+invariant-loop-part l = l.used ≡ length (since l.start (joined (take l.part-index l.part-items)))

@@ -1,12 +1,6 @@
-use Rattle.std.proofs.Common.{ℕ, ◌<◌, ◌≤◌, Some, ap, subst, sym, ◌∙◌, le-leb, Global}
-use Rattle.std.specs.Option.{option_map}
-use Rattle.std.specs.declared.collections.BTreeMap.{BTreeMap}
+use Rattle.std.proofs.Common.{◌<◌, ◌≤◌, Some, subst, sym, ◌∙◌, le-leb}
 use Rattle.std.proofs.lemmas.Bool.{lt-leb}
-use Rattle.store_types.specs.declared.names.Digest32.{Digest32}
 use Rattle.store_types.specs.Times.{last_moment}
-use Rattle.store_files.specs.Book.{fields_of}
-use Rattle.atime_book.specs.Touches.{touches_of}
-use Rattle.atime_book.specs.Reading.{passed}
 use Rattle.atime_book.proofs.Ordered.{fits_read, none_after_fits}
 use Rattle.atime_book.proofs.Whole.{short_is_none, not_passed, too_late, is_read, other_text, same_text}
 use Rattle.atime_book.proofs.Book.read.Goals as goal
@@ -16,10 +10,7 @@ returns-then-bytes-lt56-clause-book c = short_is_none c.args.bytes.now c.if-byte
 
 pub returns-in_default-clause-book : goal.returns-in_default-clause-book
 returns-in_default-clause-book c =
-    let x = fields_of c.args.bytes.now in
-    not_passed c.args.bytes.now c.if-bytes-lt56.false
-    (sym (ap (option_map (λ (m : BTreeMap Digest32 ℕ Global). touches_of m.entries)) c.in_default.is) ∙ c.in_ok-touches.ensures
-    ∙ ap (λ m. passed m x.touches) c.moment_of-moment.ensures)
+    not_passed c.args.bytes.now c.moment_of-moment.result c.if-bytes-lt56.false c.moment_of-moment.ensures (sym c.in_default.is ∙ c.in_ok-book.ensures)
 
 pub returns-then-moment-gt-LAST_MOMENT-clause-book : goal.returns-then-moment-gt-LAST_MOMENT-clause-book
 returns-then-moment-gt-LAST_MOMENT-clause-book c =
@@ -28,16 +19,14 @@ returns-then-moment-gt-LAST_MOMENT-clause-book c =
 
 pub returns-then-ne-clause-book : goal.returns-then-ne-clause-book
 returns-then-ne-clause-book c =
-    let found = sym (ap (option_map (λ (m : BTreeMap Digest32 ℕ Global). touches_of m.entries)) c.in-Some.is) ∙ c.in_ok-touches.ensures in
-    let is = is_read c.args.bytes.now c.moment_of-moment.result (touches_of c.in-Some.touches.entries) c.moment_of-moment.ensures found in
-    other_text c.args.bytes.now _ _ c.as_slice.result.now c.if-bytes-lt56.false is
+    let is = is_read c.args.bytes.now c.moment_of-moment.result c.in-Some.book c.moment_of-moment.ensures (sym c.in-Some.is ∙ c.in_ok-book.ensures) in
+    other_text c.args.bytes.now _ c.in-Some.book c.as_slice.result.now c.if-bytes-lt56.false is
     (c.as_slice.ensures.value ∙ c.in_ok-text.ensures.text) c.if-ne.ensures
 
 pub returns-clause-book : goal.returns-clause-book
 returns-clause-book c =
-    let found = sym (ap (option_map (λ (m : BTreeMap Digest32 ℕ Global). touches_of m.entries)) c.in-Some.is) ∙ c.in_ok-touches.ensures in
-    let is = is_read c.args.bytes.now c.moment_of-moment.result (touches_of c.in-Some.touches.entries) c.moment_of-moment.ensures found in
-    same_text c.args.bytes.now _ _ c.as_slice.result.now c.if-bytes-lt56.false is
+    let is = is_read c.args.bytes.now c.moment_of-moment.result c.in-Some.book c.moment_of-moment.ensures (sym c.in-Some.is ∙ c.in_ok-book.ensures) in
+    same_text c.args.bytes.now _ c.in-Some.book c.as_slice.result.now c.if-bytes-lt56.false is
     (c.as_slice.ensures.value ∙ c.in_ok-text.ensures.text) c.if-ne.ensures
     (le-leb _ _ (subst (λ m. m ≤ last_moment) c.moment_of-moment.ensures c.if-moment-gt-LAST_MOMENT.false))
 
