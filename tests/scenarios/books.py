@@ -48,8 +48,8 @@ def one_run(name, files, *of_run):
 
 OLD, NEW_BOOK = book(18, (b"abc", 14), (b"de", 14)), book(24, (b"abc", 23), (b"de", 14))
 # The calls of the second run before its save: of opening a sync, a list, the manifest's size and the manifest, the size of its archive,
-# and the book's size, its head and the book; of PREVIOUS a size and a part.
-BEFORE_SAVE = 10
+# and the book's size, its head and the book; of PREVIOUS the index's size and a part, and its size, front and page as it is opened.
+BEFORE_SAVE = 13
 # How many calls of the save are made before the disk stops, whether the book is saved, and which one stands there once a crash of
 # each kind comes. The save puts, syncs and renames; a crash undoes the rename, or it does not.
 SAVES = [(0, False, [OLD] * 3), (1, False, [OLD] * 3), (2, False, [OLD] * 3), (3, True, [OLD, NEW_BOOK, NEW_BOOK])]

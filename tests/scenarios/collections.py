@@ -74,7 +74,7 @@ SWEPT_KINDS = [0, 3, 1, 1, 1, 1, 4, 0, 6]
 OPENING = 11
 # How many calls fail one after another with one outcome: the command that is told the fault, the entry's number, and its kind; the save
 # of the book has none.
-FAULTS = [(3, 0, 0), (2, 1, 2), (1, 1, 3), (1, 1, 4), (3, 1, 6), (3, None, None)]
+FAULTS = [(3, 0, 0), (3, 1, 2), (1, 1, 3), (1, 1, 4), (3, 1, 6), (3, None, None)]
 
 
 def failed(call, command, entry):
@@ -211,7 +211,7 @@ SCENARIOS = [
         kinds(*SWEPT_KINDS),
         # FORGET removes a manifest and an index, and syncs between; the second chunk that is visited goes; the end saves the book
         writes("sdsd - - - d - psr - - psr"),
-        made(OPENING + 13),
+        made(OPENING + 14),
     ),
     *failed_calls(),
     scenario(
@@ -223,7 +223,7 @@ SCENARIOS = [
         found_by(0, 1, later([A, A_LATER], 3, 0), ROOTS + LATER_ROOTS),
         found_by(1, 7, later([A_LATER], 2, 1), LATER_ROOTS),
         found_by(5, 99, later([A_LATER], 2, 0), LATER_ROOTS),
-        sweep(OPENING + 13),
+        sweep(OPENING + 14),
     ),
     scenario(
         "moments never fall",

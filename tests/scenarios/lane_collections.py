@@ -45,7 +45,7 @@ SCENARIOS = [
         "what a writer reuses of its base once a collection has begun stays, though the base is forgotten before it is marked",
         start_from(LONG),
         clock(1_000_000),
-        tries(30),
+        tries(1_000),
         at_once(
             on(0, *OPENED, ABC_LISTED),
             # `de` is in the base alone: it goes where that is forgotten before its mark
@@ -100,7 +100,7 @@ SCENARIOS = [
         "one lane collects at a time: another is told which, until that has ended",
         start_from(LONG),
         clock(1_000_000),
-        tries(30),
+        tries(1_000),
         at_once(
             beside_gc(1, on(0, (gc(), collector_busy(1))) + on(2, (gc(), collector_busy(1))), gc_of(1_000_000, 3, 0, 0)[1]),
             on(0, gc_of(1_000_000, 3, 0, 0)),

@@ -39,10 +39,13 @@ READS = [
     ("a blob that is downloaded", 1, [OPEN_READER, *other_told(CONF_READ, unreadable(A_CONF))]),
     ("the size of an index that is downloaded", 0, [OPEN_READER, *other_told(ROOT_READ, unreadable(A_ROOT)), ABC_BLOB]),
     ("an index that is downloaded", 1, [OPEN_READER, *other_told(ROOT_READ, unreadable(A_ROOT)), ABC_BLOB]),
-    ("the size of a chunk", 2, [OPEN_READER, ROOT_READ, *other_told(ABC_BLOB, ABC_GONE)]),
-    ("a chunk", 3, [OPEN_READER, ROOT_READ, *other_told(ABC_BLOB, ABC_TORN)]),
-    ("the size of the first chunk of a range", 2, [OPEN_READER, ROOT_READ, *other_told(ALL_FIVE, ABC_GONE)]),
-    ("the first chunk of a range", 3, [OPEN_READER, ROOT_READ, *other_told(ALL_FIVE, ABC_TORN)]),
+    ("the size of an index that is opened", 2, [OPEN_READER, *other_told(ROOT_READ, unreadable(A_ROOT)), ABC_BLOB]),
+    ("the front of an index that is opened", 3, [OPEN_READER, *other_told(ROOT_READ, unreadable(A_ROOT)), ABC_BLOB]),
+    ("a page of an index that is opened", 4, [OPEN_READER, *other_told(ROOT_READ, unreadable(A_ROOT)), ABC_BLOB]),
+    ("the size of a chunk", 5, [OPEN_READER, ROOT_READ, *other_told(ABC_BLOB, ABC_GONE)]),
+    ("a chunk", 6, [OPEN_READER, ROOT_READ, *other_told(ABC_BLOB, ABC_TORN)]),
+    ("the size of the first chunk of a range", 5, [OPEN_READER, ROOT_READ, *other_told(ALL_FIVE, ABC_GONE)]),
+    ("the first chunk of a range", 6, [OPEN_READER, ROOT_READ, *other_told(ALL_FIVE, ABC_TORN)]),
     ("the manifest at FILES", 0, [(files(A), unreadable(PLAIN)), LISTED]),
     ("a blob of the base", 1, [(open_writer(A_LATER), base(A)), *other_told((previous("a.conf.blob"), part(CONF)), unreadable(A_CONF))]),
 ]
@@ -67,9 +70,47 @@ VERIFIED = [
 ]
 
 
-# A collection marks the index by two calls, and then lists the chunks.
+# A snapshot of a fixed archive of 1,025 pieces, whose index has pages of 1,024 and 1 entries. The calls of opening: sync, a list of all
+# names, the manifest's size and the manifest, the size of the index, and the book's size, its count of touches, and the book.
+LONG, LONG_OPENED = "an archive whose index has two pages", 8
+A_LONG, PIECES = f"{A}/root.fidx", 1025 * [X]
+LONG_INDEX = fixed_index(A, "root.fidx", NOW, PIECES)
+LONG_END = len(LONG_INDEX)
+LONG_FILES = [
+    (f".chunks/{sha256(X).hex()[:4]}/{sha256(X).hex()}", blob(X)),
+    (PLAIN, blob(manifest(A, listed("root.fidx", 1025 * 4096, fixed_csum(PIECES))))),
+    (A_LONG, LONG_INDEX),
+]
+# An index that is told is opened by four calls behind its size and a part of it: its size again, its front, and each page.
+OPENS = ["the size", "the front", "page 0", "page 1"]
+TELLS = ["the size at first", "a part", *OPENS]
+NAMES = [
+    (open_writer(A_LATER), base(A)),
+    (new_fixed("root.fidx", 4096, 4096), number(0)),
+    (previous("root.fidx", LONG_END), unreadable(A_LONG)),
+    (append(0, (X, 0)), unknown_chunk(0)),
+    (previous("root.fidx", LONG_END), part(LONG_INDEX, LONG_END)),
+    (append(0, (X, 0)), DONE),
+]
+LONG_RANGE = range_of("root.fidx", 1024 * 4096 - 2, 4)
+READS_LONG = [
+    OPEN_READER,
+    (download("root.fidx", LONG_END), unreadable(A_LONG)),
+    (get_chunk(sha256(X)), not_allowed()),
+    (LONG_RANGE, not_allowed()),
+    (download("root.fidx", LONG_END), part(LONG_INDEX, LONG_END)),
+    (LONG_RANGE, rest(b"xxxx")),
+]
+MARKS_LONG = [(gc(), unreadable(A_LONG)), (gc(), collected(NOW, NOW - 86_700, 1, 0, 0))]
+
+
+def without_page(name, call, turns):
+    return scenario(f"taken: {name} of an index of two pages", start_from(LONG), taken(LONG_OPENED + call), talk(turns))
+
+
+# A collection marks the index by three calls, and then lists the chunks.
 COLLECTED = [(gc(), collected(NOW, NOW - 86_700, 2, 0, 0))]
-LISTING = OPENED + 2
+LISTING = OPENED + 3
 # The file that a list has more.
 MORE = f".chunks/ffff/{'ff' * 32}"
 
@@ -108,5 +149,9 @@ SCENARIOS = [
         talk([(LIST, rows())]),
         bytes_at(BOOK, book_of([(b"\xff" * 32, NOW)], NOW, 1)),
     ),
+    scenario(LONG, flat(place(*it) for it in LONG_FILES), talk([(LIST, rows((A, 2)))]), keep(LONG)),
+    *(without_page(f"{name}, as a writer is told,", call, NAMES) for call, name in enumerate(TELLS)),
+    *(without_page(f"{name}, as it is downloaded,", call, READS_LONG) for call, name in enumerate(TELLS)),
+    *(without_page(f"{name}, as it is marked,", call, MARKS_LONG) for call, name in enumerate(OPENS)),
     *(without(f"{name}, as it is verified", OPENED + call, [(verify(A), reply), (forget(A), DONE)]) for name, call, reply in VERIFIED),
 ]

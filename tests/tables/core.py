@@ -6,6 +6,9 @@ from tables.common import *
 OF_TWO, OF_THOUSAND, OF_MANY = [b"de", b"abc"], 999 * [b"de"] + [b"abc"], 1000 * [b"de"] + [b"abc"]
 # And of a fixed archive and a third one beside it.
 FIXED, THIRD = [X, b"de"], 2000 * [X] + [b"abc"]
+# The size of an index of three pages.
+PAGED = len(dynamic_index(A, "root.didx", 0, 2048 * [b"de"] + [b"abc"]))
+FIXED_SIZE, THIRD_SIZE = (len(it) for it in (fixed_index(A, "a.fidx", 0, FIXED), dynamic_index(A, "c.didx", 0, THIRD)))
 
 
 def root(*pieces):
@@ -178,6 +181,33 @@ TABLES = {
         "ABSENT": [sha256(X)],
         "FIXED_FRONT": [fixed_index(A, "a.fidx", 1579069803, FIXED)[:80]],
         "FIXED_DIGESTS": [fixed_index(A, "a.fidx", 1579069803, FIXED)[4096:]],
+    },
+    "core_tests/src/indexes.rt": {
+        "PREVIOUS": [previous("root.didx")],
+        "PREVIOUS_AT_END": [previous("root.didx", PAGED)],
+        "APPEND_DE": [append(0, (b"de", 3))],
+        "DOWNLOAD": [download("root.didx")],
+        "DOWNLOAD_AT_END": [download("root.didx", PAGED)],
+        "AT_END": [frame(part(bytes(PAGED), PAGED))],
+        "UNKNOWN": [frame(unknown_chunk(0))],
+        "RANGE": [range_of("root.didx", 2047 * 2, 5)],
+        "FAULT": [frame(disk_fault())],
+        "HALTED_BY_1": [frame(halted(1))],
+        "HALTED_BY_2": [frame(halted(2))],
+        "BY_DOWNLOAD": [frame(rest(b"deabc"))],
+        "DE_OF_FIXED": [range_of("a.fidx", 4096, 2)],
+        "IN_TURNS": [
+            download("a.fidx", FIXED_SIZE),
+            frame(part(bytes(FIXED_SIZE), FIXED_SIZE)),
+            download("c.didx", THIRD_SIZE),
+            frame(part(bytes(THIRD_SIZE), THIRD_SIZE)),
+            frame(rest(b"de")),
+            range_of("c.didx", 0, 1),
+            frame(damaged(sha256(X), 0)),
+            range_of("c.didx", 2000 * 4096, 3),
+            frame(rest(b"abc")),
+            frame(rest(b"de")),
+        ],
     },
     "core_tests/src/opening.rt": {
         "LEFT": [blob(manifest(B, listed_blob("a.conf.blob", blob(b"123456789"))))],

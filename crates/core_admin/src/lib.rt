@@ -12,4 +12,4 @@ pub use act::admin_act;
 pub use file_list::files;
 pub use forgetting::forget;
 pub use groups::{group, prune_group};
-pub use listing::list;
+pub use listing::{list, row_of};

@@ -44,7 +44,7 @@ fn file_count(kept: &Kept) -> u8
 }
 
 /// What is told of a snapshot.
-fn row_of(alloc: Global, kept: &Kept) -> Result<ListRow, AllocError>
+pub fn row_of(alloc: Global, kept: &Kept) -> Result<ListRow, AllocError>
     requires { IsKey kept.now.key }
     ensures value { IfOk result (λ row. row ≡ row_of_kept kept.now) }
     ensures listable { IfOk result IsListable }

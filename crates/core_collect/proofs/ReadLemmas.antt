@@ -1,10 +1,10 @@
 -- What is read of an index: its digests, or that there is none.
-use Rattle.std.proofs.Common.{◌≡◌, ◌<◌, ◌≤◌, ◌+◌, ◌==◌, ◌||◌, ℕ, Bool, true, false, List, [], ◌∷◌, ◌++◌, get_or, length, map, take, option_map, Option, Some, None, Result, Ok, Err, refl, sym, ap, subst, ◌∙◌, arith}
+use Rattle.std.proofs.Common.{◌≡◌, ◌<◌, ◌≤◌, ◌+◌, ◌==◌, ◌||◌, ℕ, Bool, true, false, List, [], ◌∷◌, ◌++◌, get_or, length, map, option_map, Option, Some, None, Result, Ok, Err, refl, sym, ap, subst, ◌∙◌, arith}
 use Rattle.std.specs.FinMap.{get}
 use Rattle.std.specs.List.{find}
 use Rattle.disk_trait.specs.Files.{Files}
 use Rattle.sha2.specs.Sha256.{sha256}
-use Rattle.std.proofs.lemmas.List.{length-map, map_push, take_all, take_more}
+use Rattle.std.proofs.lemmas.List.{length-map, map_push}
 use Rattle.store_types.specs.Chain.Refusing.{◌>>=◌}
 use Rattle.store_types.specs.declared.names.Digest32.{Digest32}
 use Rattle.store_types.specs.FileNames.{is_blob_name, is_dynamic_name, is_fixed_name, is_index_name}
@@ -12,16 +12,19 @@ use Rattle.store_types.specs.declared.refusal.Refusal.{Refusal}
 use Rattle.store_types.specs.declared.refusal.Refusal.TheVariants.{Unreadable}
 use Rattle.store_files.specs.Archive.{Archive, Content, archive, blob, Snapshot, archive_text, ends_from, file_text}
 use Rattle.store_files.specs.DynamicIndex.{Ended}
-use Rattle.store_files.specs.Entries.{ended_of, ends_of}
 use Rattle.store_model.specs.Stands.{FitsContent, StandsFor, keys_rise, names_content}
 use Rattle.store_model.specs.Store.{snapshot_named}
 use Rattle.store_model.specs.WriterSteps.{part_of}
 use Rattle.store_stops.specs.Stops.{Gives}
-use Rattle.snapshot_files.specs.Indexes.{Indexed, entries_in, index_at, is_fixed_layout, shown_index}
+use Rattle.paged_indexes.specs.declared.kinds.IndexKind.{IndexKind}
+use Rattle.paged_indexes.specs.declared.index.IndexPages.{IndexPages}
+use Rattle.paged_indexes.specs.Index.{entries_in}
+use Rattle.snapshot_files.specs.Indexes.{Indexed, index_at, index_opened, kind_of_index, layout_kind}
 use Rattle.store_stops.specs.declared.stop.Stop.{Stop}
 use Rattle.store_stops.specs.declared.stop.Stop.TheVariants as errors
-use Rattle.snapshot_files.proofs.Archives.{archive_read, blob_no_dynamic, blob_no_fixed, layout_named}
+use Rattle.snapshot_files.proofs.Archives.{archive_read, blob_no_dynamic, blob_no_fixed, layout_index}
 use Rattle.snapshot_files.proofs.Indexed.{at_nothing, at_text, index_is, no_index}
+use Rattle.snapshot_files.proofs.Opened.{unopened_at}
 use Rattle.gc_plan.specs.declared.IndexAt.{IndexAt}
 use Rattle.store_history.specs.Sweeping.{digests_of}
 use Rattle.store_history.proofs.Found.{each_named}
@@ -46,13 +49,13 @@ digests_end start (p ∷ ps) = ap (λ ds. sha256 p ∷ ds) (digests_end (start +
 abbrev digests_by : Result Indexed Refusal → Result (List (List ℕ)) Refusal
 digests_by r = r >>= λ x. Ok (map (λ e. e.digest) x.entries)
 
-read_as : (m : Files) (path : List ℕ) (b : Bool) (r : Result Indexed Refusal) → index_at m path b 0 ≡ r → digests_read m path b ≡ digests_by r
+read_as : (m : Files) (path : List ℕ) (b : IndexKind) (r : Result Indexed Refusal) → index_at m path b 0 ≡ r → digests_read m path b ≡ digests_by r
 unfolding digests_read
 read_as m path b r is = ap digests_by is
 
-archive_digests : (m : Files) (path : List ℕ) (a : Archive) → FitsContent (archive a) → get m path ≡ Some (archive_text a) → digests_read m path (is_fixed_layout a.layout) ≡ Ok (digests_of (archive a))
+archive_digests : (m : Files) (path : List ℕ) (a : Archive) → FitsContent (archive a) → get m path ≡ Some (archive_text a) → digests_read m path (layout_kind a.layout) ≡ Ok (digests_of (archive a))
 archive_digests m path a fits there =
-    let b = is_fixed_layout a.layout in
+    let b = layout_kind a.layout in
     let text = archive_text a in
     let es = ends_from 0 a.pieces in
     let x : Indexed = record { part = part_of text 0; entries = es } in
@@ -69,10 +72,10 @@ no_blob name kind index = by_tests (is_fixed_name name) (is_dynamic_name name) (
 
 -- what stands there is an index's text
 content_digests : (m : Files) (path name : List ℕ) (c : Content) → names_content c name ≡ true → is_index_name name ≡ true → FitsContent c → get m path ≡ Some (file_text c)
-    → digests_read m path (is_fixed_name name) ≡ Ok (digests_of c)
+    → digests_read m path (kind_of_index name) ≡ Ok (digests_of c)
 unfolding file_text
 content_digests m path name (blob bytes) kind index fits there = absurd (no_blob name kind index)
-content_digests m path name (archive a) kind index fits there = ap (digests_read m path) (layout_named a name kind) ∙ archive_digests m path a fits there
+content_digests m path name (archive a) kind index fits there = ap (digests_read m path) (layout_index a name kind) ∙ archive_digests m path a fits there
 
 -- ---- by the catalogue
 
@@ -104,7 +107,7 @@ module _ (catalogue : List Listed) (snapshots : List Snapshot) (same : map (λ x
 
     -- its index is read as its digests
     pub index_digests : (m : Files) (path : List ℕ) → StandsFor m snapshots → is_index_name i.name ≡ true → path_at i catalogue ≡ Some path
-        → digests_read m path (is_fixed_name i.name) ≡ Ok (digests_named k.key i.name snapshots)
+        → digests_read m path (kind_of_index i.name) ≡ Ok (digests_named k.key i.name snapshots)
     index_digests m path stands index found =
         let there : IsThere snapshots k.key i.name path = is_there i.name catalogue snapshots k.key path same (path_same ∙ found) in
         content_digests m path i.name (there.file).content (there_kind snapshots k.key i.name path there stands.each) index (there_fits snapshots k.key i.name path there stands.each)
@@ -120,7 +123,7 @@ ok_err : (x : Indexed) (r : Refusal) → ◌≡◌ {A = Result Indexed Refusal} 
 ok_err x r e = cc
 
 -- from the first byte on no range is refused
-only_unreadable : (m : Files) (path : List ℕ) (b : Bool) (r : Refusal) → index_at m path b 0 ≡ Err r → r ≡ Unreadable path
+only_unreadable : (m : Files) (path : List ℕ) (b : IndexKind) (r : Refusal) → index_at m path b 0 ≡ Err r → r ≡ Unreadable path
 only_unreadable m path b r is = by_text (get m path) refl
   where
     by_entries : (text : List ℕ) (o : Option (List Ended)) → get m path ≡ Some text → entries_in b text ≡ o → r ≡ Unreadable path
@@ -132,7 +135,7 @@ only_unreadable m path b r is = by_text (get m path) refl
     by_text None none = err_same r (Unreadable path) (sym is ∙ at_nothing m path b 0 none)
     by_text (Some text) there = by_entries text (entries_in b text) there refl
 
-pub unreadable_read : (m : Files) (path : List ℕ) (b : Bool) (r : Refusal) → index_at m path b 0 ≡ Err r → digests_read m path b ≡ Err (Unreadable path)
+pub unreadable_read : (m : Files) (path : List ℕ) (b : IndexKind) (r : Refusal) → index_at m path b 0 ≡ Err r → digests_read m path b ≡ Err (Unreadable path)
 unreadable_read m path b r is =
     read_as m path b (Err r) is ∙ ap (λ q. let x : Result (List (List ℕ)) Refusal = Err q in x) (only_unreadable m path b r is)
 
@@ -142,7 +145,7 @@ IsRefusal errors.NoMemory = ⊥
 IsRefusal errors.DiskFailed = ⊥
 
 -- the digests that were read
-pub digests_given : (m : Files) (path : List ℕ) (b : Bool) (x : Indexed) (ds : List (List ℕ)) → index_at m path b 0 ≡ Ok x → ds ≡ map (λ (e : Ended). e.digest) x.entries → digests_read m path b ≡ Ok ds
+pub digests_given : (m : Files) (path : List ℕ) (b : IndexKind) (x : Indexed) (ds : List (List ℕ)) → index_at m path b 0 ≡ Ok x → ds ≡ map (λ (e : Ended). e.digest) x.entries → digests_read m path b ≡ Ok ds
 digests_given m path b x ds is same = read_as m path b (Ok x) is ∙ ap (λ q. let r : Result (List (List ℕ)) Refusal = Ok q in r) (sym same)
 
 -- ---- the digests of entries
@@ -154,29 +157,19 @@ abbrev digest_in : Ended → List ℕ
 digest_in e = e.digest
 
 -- one entry more
-pub digests_more : (xs : List (Digest32 × ℕ)) (i : ℕ) (x : Digest32 × ℕ) (before after_ : List Digest32) → i < length xs → x ≡ get_or xs i x → after_ ≡ before ++ x.0 ∷ []
-    → map bytes before ≡ map digest_in (ends_of (take i xs)) → map bytes after_ ≡ map digest_in (ends_of (take (i + 1) xs))
-digests_more xs i x before after_ lt at pushed so_far =
-    let more : take (i + 1) xs ≡ take i xs ++ x ∷ [] = take_more xs i x lt ∙ ap (λ y. take i xs ++ y ∷ []) (sym at) in
-    ap (map bytes) pushed
-    ∙ map_push bytes before x.0
-    ∙ ap (λ ds. ds ++ (x.0).0 ∷ []) so_far
-    ∙ sym (map_push digest_in (ends_of (take i xs)) (ended_of x))
-    ∙ sym (ap (map digest_in) (map_push ended_of (take i xs) x))
-    ∙ sym (ap (λ ys. map digest_in (ends_of ys)) more)
+pub digests_more : (es : List Ended) (e : Ended) (before after_ : List Digest32) (d : Digest32) → after_ ≡ before ++ d ∷ [] → d.0 ≡ e.digest
+    → map bytes before ≡ map digest_in es → map bytes after_ ≡ map digest_in (es ++ e ∷ [])
+digests_more es e before after_ d pushed same so_far =
+    ap (map bytes) pushed ∙ map_push bytes before d ∙ ap (λ ds. ds ++ d.0 ∷ []) so_far ∙ ap (λ x. map digest_in es ++ x ∷ []) same ∙ sym (map_push digest_in es e)
 
 -- they are as many as the entries
 pub digests_few : (entries : List Ended) (digests : List Digest32) (limit : ℕ) → map bytes digests ≡ map digest_in entries → length entries ≤ limit → length digests ≤ limit
 digests_few entries digests limit same few = let n = ap length same in omega (arith, few, n, length-map digests bytes, length-map entries digest_in)
 
--- all of them
-pub digests_all : (xs : List (Digest32 × ℕ)) (i : ℕ) (digests : List Digest32) → length xs ≤ i → map bytes digests ≡ map digest_in (ends_of (take i xs)) → map bytes digests ≡ map digest_in (ends_of xs)
-digests_all xs i digests le so_far = so_far ∙ ap (λ ys. map digest_in (ends_of ys)) (take_all i xs le)
-
 -- a refused read: no index stands there
-pub refused_read : (m : Files) (path q : List ℕ) (b : Bool) (e : Stop) (unread : Unread) → q ≡ path → unread ≡ unreads.Unreadable path → IsRefusal e → Gives shown_index (Err e) (index_at m q b 0)
+pub refused_read : (m : Files) (path q : List ℕ) (b : IndexKind) (e : Stop) (unread : Unread) → q ≡ path → unread ≡ unreads.Unreadable path → IsRefusal e → Gives (λ (p : IndexPages). p) (Err e) (index_opened m q b)
     → Reads (digests_read m path b) (Err unread)
 refused_read m path q b (errors.Refused r) unread same is refused gives =
-    subst (λ u. Reads (digests_read m path b) (Err u)) (sym is) (unreadable_read m path b r (ap (λ p. index_at m p b 0) (sym same) ∙ gives))
+    subst (λ u. Reads (digests_read m path b) (Err u)) (sym is) (unreadable_read m path b r (ap (λ p. index_at m p b 0) (sym same) ∙ unopened_at m q b r gives))
 refused_read m path q b errors.NoMemory unread same is refused gives = absurd refused
 refused_read m path q b errors.DiskFailed unread same is refused gives = absurd refused

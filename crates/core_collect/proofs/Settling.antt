@@ -11,11 +11,13 @@ use Rattle.disk_trait.specs.Files.{Files}
 use Rattle.store_types.specs.declared.names.Digest32.{Digest32}
 use Rattle.store_types.specs.declared.refusal.Refusal.{Refusal}
 use Rattle.store_types.specs.declared.refusal.Refusal.TheVariants as refusals
-use Rattle.store_types.specs.FileNames.{is_fixed_name, is_index_name}
+use Rattle.store_types.specs.FileNames.{is_index_name}
+use Rattle.paged_indexes.specs.declared.kinds.IndexKind.{IndexKind}
+use Rattle.snapshot_files.specs.Indexes.{kind_of_index}
 use Rattle.store_model.specs.Store.{Store}
 use Rattle.gc_plan.specs.Plan.{Plan, Stage, ends_at, index_in, is_over, left_of, mark_in, marked_at, marking, next_index, next_mark, sweeping, with_mark}
 use Rattle.gc_plan.specs.declared.IndexAt.{IndexAt}
-use Rattle.snapshot_files.proofs.OnlyReading.{reads_none, reads_then}
+use Rattle.disk_trait.proofs.OnlyReading.{reads_none, reads_then}
 use Rattle.store_history.specs.Sweeping.{Sweep}
 use Rattle.core_state.specs.declared.collector.Collector.{Collector}
 use Rattle.core_state.specs.declared.kept.Kept.{Kept}
@@ -72,9 +74,9 @@ standing_some : (path : List ℕ) (ds : List (List ℕ)) → (ds ≡ [] → ⊥)
 standing_some path [] some = absurd (some refl)
 standing_some path (d ∷ ds) some = refl
 
-standing_had : (m : Files) (b : Bool) (entries : List Digest32) (path : List ℕ) → (entries ≡ [] → ⊥) → standing_at m b entries (Some path) ≡ marked_next (map (λ (d : Digest32). d.0) entries)
-standing_had m b [] path some = absurd (some refl)
-standing_had m b (d ∷ ds) path some = refl
+standing_had : (m : Files) (kind : IndexKind) (entries : List Digest32) (path : List ℕ) → (entries ≡ [] → ⊥) → standing_at m kind entries (Some path) ≡ marked_next (map (λ (d : Digest32). d.0) entries)
+standing_had m kind [] path some = absurd (some refl)
+standing_had m kind (d ∷ ds) path some = refl
 
 bytes_some : (entries : List Digest32) → (entries ≡ [] → ⊥) → map (λ (d : Digest32). d.0) entries ≡ [] → ⊥
 bytes_some [] some e = some refl
@@ -152,24 +154,24 @@ module _ {D : Type 0} (d : Ghosts D) (parts : Parts D) where
   -- its snapshot was forgotten
   pub gone_settles : (old new : Collector) (i : IndexAt) → next_index old.plan ≡ Some i → path_at i catalogue ≡ None → PassesOver old new → SettlesNext d parts old new (Ok false)
   gone_settles old new i at missing over =
-      passed_settles old new i at over (λ honest. ap (standing_at m (is_fixed_name i.name) old.entries.items) missing) (inl missing)
+      passed_settles old new i at over (λ honest. ap (standing_at m (kind_of_index i.name) old.entries.items) missing) (inl missing)
       (λ s holds k kept. no_digests catalogue s.snapshots (holds.shows).catalogue ((holds.shows).sound).order i k kept missing)
 
   -- of a plain store it is read as its digests
   is_read : (c : Collector) (i : IndexAt) (path : List ℕ) (s : Store) → next_index c.plan ≡ Some i → path_at i catalogue ≡ Some path → Holds d parts s
-      → (k : Kept) → kept_at i.snapshot catalogue ≡ Some k → digests_read m path (is_fixed_name i.name) ≡ Ok (digests_named k.key i.name s.snapshots)
+      → (k : Kept) → kept_at i.snapshot catalogue ≡ Some k → digests_read m path (kind_of_index i.name) ≡ Ok (digests_named k.key i.name s.snapshots)
   is_read c i path s at found holds k kept =
       index_digests catalogue s.snapshots (holds.shows).catalogue ((holds.shows).sound).order i k kept m path (holds.files).snapshots
       (at_next (λ (j : IndexAt). is_index_name j.name ≡ true) (c.plan).indexes (c.plan).stage i (c.fits).named at) found
 
-  read_standing : (c : Collector) (i : IndexAt) (path : List ℕ) (r : Result (List (List ℕ)) Refusal) → path_at i catalogue ≡ Some path → c.entries.items ≡ [] → digests_read m path (is_fixed_name i.name) ≡ r
+  read_standing : (c : Collector) (i : IndexAt) (path : List ℕ) (r : Result (List (List ℕ)) Refusal) → path_at i catalogue ≡ Some path → c.entries.items ≡ [] → digests_read m path (kind_of_index i.name) ≡ r
       → standing m catalogue c.entries.items i ≡ standing_as path r
   read_standing c i path r found none read =
-      ap₂ (standing_at m (is_fixed_name i.name)) none found ∙ ap (standing_as path) read
+      ap₂ (standing_at m (kind_of_index i.name)) none found ∙ ap (standing_as path) read
 
   -- it has no entries
   pub empty_settles : (old new : Collector) (i : IndexAt) (path : List ℕ) → next_index old.plan ≡ Some i → path_at i catalogue ≡ Some path → old.entries.items ≡ []
-      → (d.honest parts.disk → digests_read m path (is_fixed_name i.name) ≡ Ok []) → PassesOver old new → SettlesNext d parts old new (Ok false)
+      → (d.honest parts.disk → digests_read m path (kind_of_index i.name) ≡ Ok []) → PassesOver old new → SettlesNext d parts old new (Ok false)
   empty_settles old new i path at found none read over =
       passed_settles old new i at over (λ honest. read_standing old i path (Ok []) found none (read honest)) (inr none)
       (λ s holds k kept. ok_same (digests_named k.key i.name s.snapshots) [] (sym (is_read old i path s at found holds k kept) ∙ read holds.honest))
@@ -232,7 +234,7 @@ module _ {D : Type 0} (d : Ghosts D) (parts : Parts D) where
   pub kept_settles : (c : Collector) (i : IndexAt) (path : List ℕ) → next_index c.plan ≡ Some i → path_at i catalogue ≡ Some path → (c.entries.items ≡ [] → ⊥) → SettlesNext d parts c c (Ok true)
   kept_settles c i path at found some =
       had_settles c c i path at found refl refl refl some had (λ _. refl)
-      (λ honest. ap (standing_at m (is_fixed_name i.name) c.entries.items) found ∙ standing_had m (is_fixed_name i.name) c.entries.items path some)
+      (λ honest. ap (standing_at m (kind_of_index i.name) c.entries.items) found ∙ standing_had m (kind_of_index i.name) c.entries.items path some)
     where
       had : IsHad c c i path
       had s sweep acts holds h k kept =
@@ -241,7 +243,7 @@ module _ {D : Type 0} (d : Ghosts D) (parts : Parts D) where
 
   -- they are read
   pub read_settles : (old new : Collector) (i : IndexAt) (path : List ℕ) → next_index old.plan ≡ Some i → path_at i catalogue ≡ Some path → new.plan ≡ old.plan → new.lane ≡ old.lane → new.ended ≡ old.ended
-      → old.entries.items ≡ [] → (new.entries.items ≡ [] → ⊥) → (d.honest parts.disk → digests_read m path (is_fixed_name i.name) ≡ Ok (bytes_of new.entries)) → SettlesNext d parts old new (Ok true)
+      → old.entries.items ≡ [] → (new.entries.items ≡ [] → ⊥) → (d.honest parts.disk → digests_read m path (kind_of_index i.name) ≡ Ok (bytes_of new.entries)) → SettlesNext d parts old new (Ok true)
   read_settles old new i path at found plan lane ended none some read =
       had_settles old new i path at found plan lane ended some
       (λ s sweep acts holds h k kept. ok_same (digests_named k.key i.name s.snapshots) (bytes_of new.entries) (sym (is_read old i path s at found holds k kept) ∙ read holds.honest))
@@ -250,7 +252,7 @@ module _ {D : Type 0} (d : Ghosts D) (parts : Parts D) where
 
   -- or they are not to be had
   pub unread_settles : (c : Collector) (i : IndexAt) (path : List ℕ) (unread : Unread) → next_index c.plan ≡ Some i → path_at i catalogue ≡ Some path → c.entries.items ≡ []
-      → IfUnreadable (λ name. name ≡ path) unread → (d.honest parts.disk → Reads (digests_read m path (is_fixed_name i.name)) (Err unread)) → SettlesNext d parts c c (Err unread)
+      → IfUnreadable (λ name. name ≡ path) unread → (d.honest parts.disk → Reads (digests_read m path (kind_of_index i.name)) (Err unread)) → SettlesNext d parts c c (Err unread)
   unread_settles c i path (Unreadable name) at found none same read = record {
     further = further_same c;
     shows = λ acts s sweep holds h.

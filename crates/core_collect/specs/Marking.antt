@@ -4,7 +4,6 @@ use Rattle.std.specs.declared.alloc.Global.{Global}
 use Rattle.disk_trait.specs.Files.{Files}
 use Rattle.disk_trait.specs.declared.disk.Disk.{Ghosts}
 use Rattle.store_types.specs.Chain.Refusing.{◌>>=◌}
-use Rattle.store_types.specs.FileNames.{is_fixed_name}
 use Rattle.store_types.specs.declared.names.Digest32.{Digest32}
 use Rattle.store_types.specs.declared.refusal.Refusal.{Refusal}
 use Rattle.store_types.specs.declared.refusal.Refusal.TheVariants as refusals
@@ -12,7 +11,8 @@ use Rattle.store_files.specs.Book.{Book}
 use Rattle.store_files.specs.DynamicIndex.{Ended}
 use Rattle.gc_plan.specs.Plan.{Plan, Stage, marking, sweeping, is_over, left_of, mark_limit, marked_at, next_index, next_mark, with_mark}
 use Rattle.gc_plan.specs.declared.IndexAt.{IndexAt}
-use Rattle.snapshot_files.specs.Indexes.{index_at}
+use Rattle.paged_indexes.specs.declared.kinds.IndexKind.{IndexKind}
+use Rattle.snapshot_files.specs.Indexes.{index_at, kind_of_index}
 use Rattle.store_files.specs.Archive.{Snapshot}
 use Rattle.store_model.specs.Store.{Store}
 use Rattle.store_history.specs.Sweeping.{Sweep, Unmarked}
@@ -35,8 +35,8 @@ abbrev pub path_at : IndexAt → List Listed → Option (List ℕ)
 path_at i catalogue = path_of_kept i.name (kept_at i.snapshot catalogue)
 
 -- the digests of the entries of the index at the path, or that there is none
-unfoldable pub digests_read : Files → List ℕ → Bool → Result (List (List ℕ)) Refusal
-digests_read m path is_fixed = index_at m path is_fixed 0 >>= λ x. Ok (map (λ e. e.digest) x.entries)
+unfoldable pub digests_read : Files → List ℕ → IndexKind → Result (List (List ℕ)) Refusal
+digests_read m path kind = index_at m path kind 0 >>= λ x. Ok (map (λ e. e.digest) x.entries)
 
 -- these are the entries' digests
 abbrev pub AreDigests : List Ended → Vec Digest32 Global → Type 0
@@ -52,8 +52,8 @@ Reads wanted (Err (Unreadable path)) = wanted ≡ Err (refusals.Unreadable path)
 Reads wanted (Err unread) = Unit {0}
 
 -- of an honest disk
-abbrev pub ReadsDigests : {D : Type 0} → Ghosts D → D → List ℕ → Bool → Result (Vec Digest32 Global) Unread → Type 0
-ReadsDigests d disk path is_fixed result = d.honest disk → Reads (digests_read (d.content disk) path is_fixed) result
+abbrev pub ReadsDigests : {D : Type 0} → Ghosts D → D → List ℕ → IndexKind → Result (Vec Digest32 Global) Unread → Type 0
+ReadsDigests d disk path kind result = d.honest disk → Reads (digests_read (d.content disk) path kind) result
 
 -- an index that is unreadable has this path
 abbrev pub IfUnreadable : (List ℕ → Type 0) → Unread → Type 0
@@ -74,13 +74,13 @@ standing_as path (Ok (d ∷ ds)) = marked_next (d ∷ ds)
 standing_as path (Err refusal) = unreadable path
 
 -- where digests are at hand it is not read
-abbrev pub standing_at : Files → Bool → List Digest32 → Option (List ℕ) → Standing
-standing_at m is_fixed entries None = passed_over
-standing_at m is_fixed [] (Some path) = standing_as path (digests_read m path is_fixed)
-standing_at m is_fixed (d ∷ ds) (Some path) = marked_next (map (λ x. x.0) (d ∷ ds))
+abbrev pub standing_at : Files → IndexKind → List Digest32 → Option (List ℕ) → Standing
+standing_at m kind entries None = passed_over
+standing_at m kind [] (Some path) = standing_as path (digests_read m path kind)
+standing_at m kind (d ∷ ds) (Some path) = marked_next (map (λ x. x.0) (d ∷ ds))
 
 abbrev pub standing : Files → List Listed → List Digest32 → IndexAt → Standing
-standing m catalogue entries i = standing_at m (is_fixed_name i.name) entries (path_at i catalogue)
+standing m catalogue entries i = standing_at m (kind_of_index i.name) entries (path_at i catalogue)
 
 abbrev pub unless_passed : Standing → Option (List ℕ) → Option (List ℕ)
 unless_passed passed_over later = later

@@ -2,7 +2,6 @@
 
 ghost use Rattle.std.specs.Prelude.{◌≡◌, ◌≤◌, IfErr, IfOk, IsErrOf, IsSome, length, option_map};
 ghost use Rattle.disk_trait.specs.Effects.{OnlyReads};
-ghost use Rattle.store_files.specs.Entries.{ends_of};
 ghost use Rattle.gc_plan.specs.Plan.{entry_limit, next_mark};
 ghost use Rattle.core_state.specs.Unchanged.{SameKept};
 ghost use Rattle.core_collect.specs.declared.marking.Unread.TheVariants.{DiskFailed, NoMemory, Unreadable};
@@ -12,7 +11,8 @@ use atime_book::Book;
 use core_state::{Catalogue, Collector, Parts, path_named, touch_each};
 use disk_trait::Disk;
 use gc_plan::{IndexAt, mark_size};
-use snapshot_files::{FilePath, read_index};
+use paged_indexes::{IndexEntry, IndexKind, TakesEntries};
+use snapshot_files::{FilePath, index_kind, open_index};
 use std::alloc::{AllocError, Global};
 use store_stops::Stop;
 use store_types::Digest32;
@@ -50,15 +50,19 @@ fn unreadable(alloc: Global, path: &FilePath) -> Result<Unread, AllocError>
     Ok(Unread::Unreadable(FilePath::from_string(text)))
 }
 
-/// The digests of an index's entries.
-fn digests_of(alloc: Global, entries: &[(Digest32, u64)]) -> Result<Vec<Digest32>, AllocError>
-    ensures { IfOk result (AreDigests (ends_of entries.now)) }
-{
-    let mut digests = Vec::with_capacity(alloc, entries.len())?;
-    for entry in entries {
-        digests.push(entry.0)?;
+/// The digests of an index's entries as they are read.
+#[derive(Drop)]
+struct Digests {
+    items: Vec<Digest32>,
+}
+
+impl TakesEntries for Digests {
+    ghost taken = { λ d base entries. AreDigests entries d.items };
+
+    fn take(&mut self, _start: u64, entry: &IndexEntry) -> Result<(), AllocError> {
+        self.items.push(entry.digest)?;
+        Ok(())
     }
-    Ok(digests)
 }
 
 /// The digests of the entries of the index at the path. It is unreadable where no such index stands there.
@@ -66,16 +70,19 @@ fn read_digests<D: Disk>(
     disk: &mut D,
     alloc: Global,
     path: &FilePath,
-    is_fixed: bool,
+    kind: IndexKind,
 ) -> Result<Vec<Digest32>, Unread>
     ensures reads { OnlyReads D.Disk disk.old disk.new (IsErrOf result DiskFailed) }
-    ensures exact { ReadsDigests D.Disk disk.old path.now is_fixed result }
+    ensures exact { ReadsDigests D.Disk disk.old path.now kind result }
     ensures few { IfOk result (λ digests. length digests.items ≤ entry_limit) }
     // on any disk
     ensures named { IfErr result (IfUnreadable (λ name. name ≡ path.now)) }
 {
-    match read_index(disk, alloc, path.as_str(), is_fixed, 0) {
-        Ok(index) => Ok(digests_of(alloc, &index.entries)?),
+    let mut digests = Digests {
+        items: Vec::new(alloc),
+    };
+    match open_index(disk, alloc, path.as_str(), kind, &mut digests) {
+        Ok(_) => Ok(digests.items),
         Err(Stop::Refused(_)) => Err(unreadable(alloc, path)?),
         Err(Stop::NoMemory) => Err(Unread::NoMemory),
         Err(Stop::DiskFailed) => Err(Unread::DiskFailed),
@@ -105,7 +112,7 @@ fn settle_next<D: Disk>(
     let Some(index) = collector.plan.index_next() else {
         return Ok(false);
     };
-    let is_fixed = index.name.is_fixed();
+    let kind = index_kind(&index.name);
     let Some(path) = path_of(&parts.catalogue, index) else {
         pass_over(collector);
         return Ok(false);
@@ -113,7 +120,7 @@ fn settle_next<D: Disk>(
     if !collector.entries.is_empty() {
         return Ok(true);
     }
-    collector.entries = read_digests(&mut parts.disk, alloc, path, is_fixed)?;
+    collector.entries = read_digests(&mut parts.disk, alloc, path, kind)?;
     if collector.entries.is_empty() {
         pass_over(collector);
         return Ok(false);

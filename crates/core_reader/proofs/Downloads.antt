@@ -22,6 +22,7 @@ use Rattle.store_model.specs.ReaderSteps.{download, reader_files, note, content_
 use Rattle.store_model.specs.Stands.{FitsContent, names_content}
 use Rattle.store_model.specs.Steps.{outcome}
 use Rattle.restore_reader.specs.Session.{Reading}
+use Rattle.paged_indexes.specs.declared.kinds.IndexKind.{IndexKind}
 use Rattle.snapshot_files.specs.Parts.{part_at, part_from}
 use Rattle.snapshot_files.specs.Indexes.{Indexed, index_at}
 use Rattle.snapshot_files.proofs.Archives.{archive_at}
@@ -86,7 +87,7 @@ module _ (s : Store) (lane m : ℕ) (name : List ℕ) (offset : ℕ) where
 -- ---- what is kept
 
 -- a file of the reader's snapshot, and how it is read
-pub record IsAsked (file : List ℕ) (session : Session) (catalogue : List Listed) (path : List ℕ) (whole : Option Bool) : Type 0 where
+pub record IsAsked (file : List ℕ) (session : Session) (catalogue : List Listed) (path : List ℕ) (whole : Option IndexKind) : Type 0 where
   pub reading : Reading
   pub reads : reader_in session ≡ Ok reading
   pub named : is_file_name file ≡ true
@@ -111,13 +112,13 @@ module _ (file : List ℕ) (offset : ℕ) (session : Session) (catalogue : List 
   unfolding file_asked
   file_there r path at good found = rw (at, good, found) refl
 
-  pub file_is : (path : List ℕ) (whole : Option Bool) → file_asked file offset session catalogue ≡ Ok (record { path = path; way = from_offset whole offset }) → IsAsked file session catalogue path whole
+  pub file_is : (path : List ℕ) (whole : Option IndexKind) → file_asked file offset session catalogue ≡ Ok (record { path = path; way = from_offset whole offset }) → IsAsked file session catalogue path whole
   file_is path whole e = by_reader (reader_in session) refl
     where
       same : (a b : Asked) → ◌≡◌ {A = Result Asked Refusal} (Ok a) (Ok b) → a ≡ b
       same a b e = cc
 
-      ways : (v w : Option Bool) → from_offset v offset ≡ from_offset w offset → v ≡ w
+      ways : (v w : Option IndexKind) → from_offset v offset ≡ from_offset w offset → v ≡ w
       ways v w e = cc
 
       apart : (refusal : Refusal) (a : Asked) → ◌≡◌ {A = Result Asked Refusal} (Err refusal) (Ok a) → ⊥
@@ -257,15 +258,15 @@ module _ {D : Type 0} (d : Ghosts D) (old : Parts D) (s : Store) (lane m : ℕ) 
       ∙ ap (with_part s lane v) (sym part_there ∙ gives) ∙ ap (λ t. Ok (t, part)) stays
 
   -- an archive's index, read whole
-  record IsIndex (is_fixed : Bool) : Type 0 where
+  record IsIndex (of_kind : IndexKind) : Type 0 where
     pub one : Archive
     pub is_one_of : stored ≡ archive one
-    pub read : index_at (d.content old.disk) path is_fixed offset ≡ read_index (file_text stored) offset (ends_from 0 one.pieces)
+    pub read : index_at (d.content old.disk) path of_kind offset ≡ read_index (file_text stored) offset (ends_from 0 one.pieces)
 
-  index_there : (is_fixed : Bool) → whole_for r name ≡ Some is_fixed → IsIndex is_fixed
+  index_there : (of_kind : IndexKind) → whole_for r name ≡ Some of_kind → IsIndex of_kind
   unfolding file_text
-  index_there is_fixed whole =
-      let w = whole_archive s.snapshots v name stored is_fixed kind_there (ap (λ x. whole_for x name) is ∙ whole) in
+  index_there of_kind whole =
+      let w = whole_archive s.snapshots v name stored of_kind kind_there (ap (λ x. whole_for x name) is ∙ whole) in
       let a = w.0 in
       let fits : FitsContent (archive a) = subst FitsContent w.1 (there_fits s.snapshots v.key name path there ((h.shows).sound).each) in
       let text : get (d.content old.disk) path ≡ Some (file_text (archive a)) = text_there ∙ ap (λ x. Some (file_text x)) w.1 in
@@ -278,19 +279,19 @@ module _ {D : Type 0} (d : Ghosts D) (old : Parts D) (s : Store) (lane m : ℕ) 
             ∙ ap (λ x. read_index (file_text x) offset (ends_from 0 a.pieces)) (sym w.1);
       }
 
-  pub index_refused : (refusal : Refusal) (is_fixed : Bool) → whole_for r name ≡ Some is_fixed → index_at (d.content old.disk) path is_fixed offset ≡ Err refusal → outcome s lane m (Download name offset) ≡ Err refusal
-  index_refused refusal is_fixed whole tells =
-      let x = index_there is_fixed whole in
+  pub index_refused : (refusal : Refusal) (of_kind : IndexKind) → whole_for r name ≡ Some of_kind → index_at (d.content old.disk) path of_kind offset ≡ Err refusal → outcome s lane m (Download name offset) ≡ Err refusal
+  index_refused refusal of_kind whole tells =
+      let x = index_there of_kind whole in
       refused_there refusal (refused_part (part_from (file_text stored) offset) (ends_from 0 (x.one).pieces) refusal (sym x.read ∙ tells))
 
   -- it is given, and noted
-  pub index_given : (new : Parts D) (x : Indexed) (is_fixed : Bool) (noted : Session) → lane < 64 → whole_for r name ≡ Some is_fixed → index_at (d.content old.disk) path is_fixed offset ≡ Ok x
+  pub index_given : (new : Parts D) (x : Indexed) (of_kind : IndexKind) (noted : Session) → lane < 64 → whole_for r name ≡ Some of_kind → index_at (d.content old.disk) path of_kind offset ≡ Ok x
       → ((a : Archive) → content_at (files_named v.key s.snapshots) name ≡ Some (archive a) → x.entries ≡ ends_from 0 a.pieces → noted ≡ shown_session s.snapshots (reader (note name (archive a) v)))
       → (d.honest old.disk → d.content new.disk ≡ d.content old.disk) → new.catalogue.listed ≡ old.catalogue.listed → new.sessions.items ≡ set old.sessions.items lane noted → new.locks ≡ old.locks
       → (after_it : Store) × (outcome s lane m (Download name offset) ≡ Ok (after_it, x.part)) × Shows new after_it × IsOnDisk (d.content new.disk) after_it
-  index_given new x is_fixed noted lt whole tells notes same c l k =
+  index_given new x of_kind noted lt whole tells notes same c l k =
       let sound = (h.shows).sound in
-      let i = index_there is_fixed whole in
+      let i = index_there of_kind whole in
       let a = i.one in
       let told = indexed (part_from (file_text stored) offset) (ends_from 0 a.pieces) x (sym i.read ∙ tells) in
       let w = note name (archive a) v in
@@ -307,13 +308,13 @@ module _ {D : Type 0} (d : Ghosts D) (old : Parts D) (s : Store) (lane m : ℕ) 
 
 -- ---- by what was asked for
 
-pub asked_as : (r : Reading) (file : List ℕ) (offset : ℕ) (path text name : List ℕ) (whole : Option Bool) → text ≡ path → whole ≡ whole_for r name → name ≡ file
+pub asked_as : (r : Reading) (file : List ℕ) (offset : ℕ) (path text name : List ℕ) (whole : Option IndexKind) → text ≡ path → whole ≡ whole_for r name → name ≡ file
     → ◌≡◌ {A = Result Asked Refusal} (Ok (asked_at r file offset path)) (Ok (record { path = text; way = from_offset whole offset }))
 asked_as r file offset path text name whole is one two =
     ap (λ p. let a : Asked = record { path = p; way = from_offset (whole_for r file) offset } in Ok a) (sym is)
     ∙ ap (λ w. let a : Asked = record { path = text; way = from_offset w offset } in Ok a) (ap (whole_for r) (sym two) ∙ sym one)
 
-module _ {D : Type 0} (d : Ghosts D) (old : Parts D) (s : Store) (lane m : ℕ) (file path : List ℕ) (offset : ℕ) (whole : Option Bool) (lt : lane < 64)
+module _ {D : Type 0} (d : Ghosts D) (old : Parts D) (s : Store) (lane m : ℕ) (file path : List ℕ) (offset : ℕ) (whole : Option IndexKind) (lt : lane < 64)
     (asked : IsAsked file (session_at old lane) old.catalogue.listed path whole) (h : Holds d old s) where
   pub asked_part_refused : (q : List ℕ) (refusal : Refusal) → q ≡ path → part_at (d.content old.disk) q offset ≡ Err refusal → outcome s lane m (Download file offset) ≡ Err refusal
   asked_part_refused q refusal same gives =
@@ -325,21 +326,21 @@ module _ {D : Type 0} (d : Ghosts D) (old : Parts D) (s : Store) (lane m : ℕ) 
       let (v, at, is) = reader_shown old s lane asked.reading h.shows lt asked.reads in
       part_given d old s lane m file path offset v asked.reading at is asked.named h asked.found part (asked.whole_is ∙ is_none) (ap (λ p. part_at (d.content old.disk) p offset) (sym same) ∙ gives)
 
-  pub asked_index_refused : (q : List ℕ) (is_fixed : Bool) (refusal : Refusal) → q ≡ path → whole ≡ Some is_fixed → index_at (d.content old.disk) q is_fixed offset ≡ Err refusal → outcome s lane m (Download file offset) ≡ Err refusal
-  asked_index_refused q is_fixed refusal same some gives =
+  pub asked_index_refused : (q : List ℕ) (of_kind : IndexKind) (refusal : Refusal) → q ≡ path → whole ≡ Some of_kind → index_at (d.content old.disk) q of_kind offset ≡ Err refusal → outcome s lane m (Download file offset) ≡ Err refusal
+  asked_index_refused q of_kind refusal same some gives =
       let (v, at, is) = reader_shown old s lane asked.reading h.shows lt asked.reads in
-      index_refused d old s lane m file path offset v asked.reading at is asked.named h asked.found refusal is_fixed (asked.whole_is ∙ some) (ap (λ p. index_at (d.content old.disk) p is_fixed offset) (sym same) ∙ gives)
+      index_refused d old s lane m file path offset v asked.reading at is asked.named h asked.found refusal of_kind (asked.whole_is ∙ some) (ap (λ p. index_at (d.content old.disk) p of_kind offset) (sym same) ∙ gives)
 
-  pub asked_index_given : (new : Parts D) (x : Indexed) (is_fixed : Bool) (q name : List ℕ) (before noted : Session) → q ≡ path → name ≡ file → whole ≡ Some is_fixed → index_at (d.content old.disk) q is_fixed offset ≡ Ok x
+  pub asked_index_given : (new : Parts D) (x : Indexed) (of_kind : IndexKind) (q name : List ℕ) (before noted : Session) → q ≡ path → name ≡ file → whole ≡ Some of_kind → index_at (d.content old.disk) q of_kind offset ≡ Ok x
       → before ≡ get_or old.sessions.items lane before
       → ((snapshots : List Snapshot) (r : model.Reader) (a : Archive) → before ≡ shown_session snapshots (reader r) → content_at (files_named r.key snapshots) name ≡ Some (archive a) → x.entries ≡ ends_from 0 a.pieces
       → noted ≡ shown_session snapshots (reader (note name (archive a) r)))
       → (d.honest old.disk → d.content new.disk ≡ d.content old.disk) → new.catalogue.listed ≡ old.catalogue.listed → new.sessions.items ≡ set old.sessions.items lane noted → new.locks ≡ old.locks
       → (after_it : Store) × (outcome s lane m (Download file offset) ≡ Ok (after_it, x.part)) × Shows new after_it × IsOnDisk (d.content new.disk) after_it
-  asked_index_given new x is_fixed q name before noted same named some gives here notes content c l k =
+  asked_index_given new x of_kind q name before noted same named some gives here notes content c l k =
       let (v, at, is) = reader_shown old s lane asked.reading h.shows lt asked.reads in
       let shown = at_lane old.sessions.items s lane before (h.shows).sessions ((h.shows).sound).lanes lt here in
-      index_given d old s lane m file path offset v asked.reading at is asked.named h asked.found new x is_fixed noted lt (asked.whole_is ∙ some) (ap (λ p. index_at (d.content old.disk) p is_fixed offset) (sym same) ∙ gives)
+      index_given d old s lane m file path offset v asked.reading at is asked.named h asked.found new x of_kind noted lt (asked.whole_is ∙ some) (ap (λ p. index_at (d.content old.disk) p of_kind offset) (sym same) ∙ gives)
       (λ a there ends. subst (λ n. noted ≡ shown_session s.snapshots (reader (note n (archive a) v))) named
       (notes s.snapshots v a (shown ∙ ap (shown_session s.snapshots) at) (subst (λ n. content_at (files_named v.key s.snapshots) n ≡ Some (archive a)) (sym named) there) ends))
       content c l k

@@ -5,7 +5,7 @@ use Rattle.std.proofs.lemmas.Slice.Eq.{bytes_eq-Decides}
 use Rattle.std.specs.List.{list_any}
 use Rattle.std.specs.Str.{bytes_eq}
 use Rattle.store_types.specs.FileNames.{is_id, is_fixed_name, is_dynamic_name, is_blob_name, has_ending, fixed_ending, dynamic_ending, blob_ending}
-use Rattle.store_files.specs.Archive.{Layout, dynamic, fixed, Archive, Content, archive, blob, File, Snapshot}
+use Rattle.store_files.specs.Archive.{Archive, Content, archive, blob, File, Snapshot}
 use Rattle.store_model.specs.Store as model
 use Rattle.store_model.specs.Store.{reader}
 use Rattle.store_model.specs.ReaderSteps.{is_noted, note}
@@ -13,11 +13,12 @@ use Rattle.store_model.specs.Stands.{names_content}
 use Rattle.restore_reader.specs.Session.{Reading}
 use Rattle.restore_reader.specs.Shown.{shown, shown_noted}
 use Rattle.restore_reader.specs.Steps.{is_downloaded}
-use Rattle.snapshot_files.specs.Indexes.{is_fixed_layout}
+use Rattle.paged_indexes.specs.declared.kinds.IndexKind.{IndexKind}
+use Rattle.paged_indexes.specs.declared.kinds.IndexKind.TheVariants.{Fixed, Dynamic}
+use Rattle.snapshot_files.specs.Indexes.{kind_named, layout_kind}
 use Rattle.snapshot_files.proofs.Archives.{layout_named}
 use Rattle.store_files.specs.DynamicIndex.{Ended}
 use Rattle.core_state.specs.Named.{is_named}
-use Rattle.core_state.specs.Unreadables.{whole_by}
 use Rattle.core_state.specs.Shown.{files_named, shown_session, shown_reader}
 use Rattle.core_state.specs.declared.kept.Session.{Session}
 use Rattle.core_state.specs.declared.kept.Session.TheVariants.{Idle, Writer, Reader}
@@ -39,32 +40,21 @@ and_none false b c e = refl
 abbrev last_five : List ℕ → List ℕ
 last_five name = drop (length name - 5) name
 
-blob_whole : (name : List ℕ) → is_blob_name name ≡ true → whole_by name ≡ None
+blob_whole : (name : List ℕ) → is_blob_name name ≡ true → kind_named name ≡ None
 blob_whole name h =
     let ending = (and_parts (is_id name) (has_ending blob_ending name) h).1 in
     let five : bytes_eq blob_ending (last_five name) ≡ true = (and_parts (bytes_eq blob_ending (last_five name)) (nat_lt 5 (length name)) ending).0 in
     let no_fixed : is_fixed_name name ≡ false = and_none (is_id name) (bytes_eq fixed_ending (last_five name)) (nat_lt 5 (length name)) (not_both blob_ending fixed_ending (last_five name) refl five) in
     let no_dynamic : is_dynamic_name name ≡ false = and_none (is_id name) (bytes_eq dynamic_ending (last_five name)) (nat_lt 5 (length name)) (not_both blob_ending dynamic_ending (last_five name) refl five) in
-    ap (λ b. if b then Some true else (if is_dynamic_name name then Some false else None)) no_fixed
-    ∙ ap (λ b. if b then Some false else None) no_dynamic
+    ap (λ b. if b then Some Fixed else (if is_dynamic_name name then Some Dynamic else None)) no_fixed
+    ∙ ap (λ b. if b then Some Dynamic else None) no_dynamic
 
 -- ---- which files are read whole
 
--- an archive is, by its layout
-archive_whole : (a : Archive) (name : List ℕ) → names_content (archive a) name ≡ true → whole_by name ≡ Some (is_fixed_layout a.layout)
-archive_whole a name kind = by_layout a.layout kind (layout_named a name kind)
-  where
-    by_layout : (l : Layout) → (elim l [ dynamic ↦ is_dynamic_name name | fixed size chunk_size ↦ is_fixed_name name ]) ≡ true → is_fixed_name name ≡ is_fixed_layout l
-        → whole_by name ≡ Some (is_fixed_layout l)
-    by_layout dynamic kind same =
-        ap (λ b. if b then Some true else (if is_dynamic_name name then Some false else None)) same
-        ∙ ap (λ b. if b then Some false else None) kind
-    by_layout (fixed size chunk_size) kind same = ap (λ b. if b then Some true else (if is_dynamic_name name then Some false else None)) same
-
-none_whole : (b : Bool) → None ≡ Some b → ⊥
+none_whole : (b : IndexKind) → None ≡ Some b → ⊥
 none_whole b e = cc
 
-some_whole : (a b : Bool) → Some a ≡ Some b → a ≡ b
+some_whole : (a b : IndexKind) → Some a ≡ Some b → a ≡ b
 some_whole a b e = cc
 
 any_noted : (files : List File) (name : List ℕ) (names : List (List ℕ)) → list_any (λ x. bytes_eq name x.name) (map (shown_noted files) names) ≡ list_any (bytes_eq name) names
@@ -75,24 +65,24 @@ any_noted files name (n ∷ ns) = ap (λ b. bytes_eq name n || b) (any_noted fil
 pub note_none : (ss : List Snapshot) (r : model.Reader) (name : List ℕ) (c : Content) → names_content c name ≡ true → whole_for (shown_reader ss r) name ≡ None → note name c r ≡ r
 note_none ss r name (blob bytes) kind whole = refl
 note_none ss r name (archive a) kind whole =
-    by_test (is_noted r name) (ap (λ b. if b then None else whole_by name) (sym (any_noted (files_named r.key ss) name r.noted)) ∙ whole)
+    by_test (is_noted r name) (ap (λ b. if b then None else kind_named name) (sym (any_noted (files_named r.key ss) name r.noted)) ∙ whole)
   where
-    by_test : (b : Bool) → (if b then None else whole_by name) ≡ None → cond b r (record r { noted = r.noted ++ name ∷ [] }) ≡ r
+    by_test : (b : Bool) → (if b then None else kind_named name) ≡ None → cond b r (record r { noted = r.noted ++ name ∷ [] }) ≡ r
     by_test true e = refl
-    by_test false e = absurd (none_whole (is_fixed_layout a.layout) (sym e ∙ archive_whole a name kind))
+    by_test false e = absurd (none_whole (layout_kind a.layout) (sym e ∙ layout_named a name kind))
 
 -- what is read whole is an archive of that layout
-pub whole_archive : (ss : List Snapshot) (r : model.Reader) (name : List ℕ) (c : Content) (is_fixed : Bool) → names_content c name ≡ true → whole_for (shown_reader ss r) name ≡ Some is_fixed
-    → (a : Archive) × (c ≡ archive a) × (is_fixed ≡ is_fixed_layout a.layout)
-whole_archive ss r name c is_fixed kind whole = by_content c kind (by_test (is_downloaded (shown_reader ss r) name) whole)
+pub whole_archive : (ss : List Snapshot) (r : model.Reader) (name : List ℕ) (c : Content) (of_kind : IndexKind) → names_content c name ≡ true → whole_for (shown_reader ss r) name ≡ Some of_kind
+    → (a : Archive) × (c ≡ archive a) × (of_kind ≡ layout_kind a.layout)
+whole_archive ss r name c of_kind kind whole = by_content c kind (by_test (is_downloaded (shown_reader ss r) name) whole)
   where
-    by_test : (b : Bool) → (if b then None else whole_by name) ≡ Some is_fixed → whole_by name ≡ Some is_fixed
-    by_test true e = absurd (none_whole is_fixed e)
+    by_test : (b : Bool) → (if b then None else kind_named name) ≡ Some of_kind → kind_named name ≡ Some of_kind
+    by_test true e = absurd (none_whole of_kind e)
     by_test false e = e
 
-    by_content : (c : Content) → names_content c name ≡ true → whole_by name ≡ Some is_fixed → (a : Archive) × (c ≡ archive a) × (is_fixed ≡ is_fixed_layout a.layout)
-    by_content (blob bytes) kind e = absurd (none_whole is_fixed (sym (blob_whole name kind) ∙ e))
-    by_content (archive a) kind e = (a, refl, some_whole is_fixed (is_fixed_layout a.layout) (sym e ∙ archive_whole a name kind))
+    by_content : (c : Content) → names_content c name ≡ true → kind_named name ≡ Some of_kind → (a : Archive) × (c ≡ archive a) × (of_kind ≡ layout_kind a.layout)
+    by_content (blob bytes) kind e = absurd (none_whole of_kind (sym (blob_whole name kind) ∙ e))
+    by_content (archive a) kind e = (a, refl, some_whole of_kind (layout_kind a.layout) (sym e ∙ layout_named a name kind))
 
 -- ---- noting
 

@@ -1,6 +1,6 @@
 -- A VERIFY's read of a chunk is the store's.
 use Rattle.disk_trait.specs.declared.disk.Disk.{Ghosts}
-use Rattle.std.proofs.Common.{◌≡◌, ◌<◌, ◌≤◌, ℕ, zero, suc, Bool, true, false, nat_lt, if◌then◌else◌, List, [], ◌∷◌, length, slice_get, Option, Some, None, Result, Ok, Err, IsErrAnd, IsTrue, refl, sym, ap, subst, ◌∙◌, arith}
+use Rattle.std.proofs.Common.{◌≡◌, ◌<◌, ◌≤◌, ℕ, zero, suc, ◌+◌, Bool, true, false, nat_lt, if◌then◌else◌, List, [], ◌∷◌, length, slice_get, Option, Some, None, Result, Ok, Err, IsErrAnd, IsTrue, refl, sym, ap, subst, ◌∙◌, arith}
 use Rattle.std.proofs.lemmas.Bool.{le-ltb, or_from}
 use Rattle.std.proofs.lemmas.List.Elements.{All-head, All-tail}
 use Rattle.std.specs.FinMap.{get}
@@ -17,7 +17,7 @@ use Rattle.store_types.specs.declared.refusal.Refusal.TheVariants.{BadRange, Dam
 use Rattle.store_types.specs.Chain.Refusing.{◌>>=◌, or_else}
 use Rattle.store_types.specs.FileNames.{is_dynamic_name, is_fixed_name, is_index_name}
 use Rattle.blob_codec.specs.Blob.{blob as blob_of, blob_limit}
-use Rattle.store_files.specs.Archive.{Archive, Content, File, archive, blob, archive_text, digest_of, file_named, file_text, pieces_of}
+use Rattle.store_files.specs.Archive.{Archive, Content, File, archive, blob, archive_text, digest_of, ends_from, file_named, file_text, pieces_of}
 use Rattle.store_files.specs.Folder.{chunk_name}
 use Rattle.wire_frames.specs.Frames.{body_limit}
 use Rattle.wire_commands.specs.declared.reply.Reply.{Reply}
@@ -28,12 +28,13 @@ use Rattle.store_model.specs.Store.{Store, Outcome, reader, session, want_reader
 use Rattle.store_model.specs.ReaderSteps.{read_chunk, reader_files}
 use Rattle.store_model.specs.Stands.{FitsContent, HoldsPieces, IsSnapshot, names_content}
 use Rattle.restore_reader.specs.Session.{Reading}
-use Rattle.snapshot_files.specs.Entry.{entry_at}
-use Rattle.snapshot_files.specs.Indexes.{is_fixed_layout}
+use Rattle.paged_indexes.specs.declared.kinds.IndexKind.{IndexKind}
+use Rattle.snapshot_files.specs.Entry.{entry_at, entry_in}
+use Rattle.snapshot_files.specs.Indexes.{kind_of_index, layout_kind}
 use Rattle.snapshot_files.specs.Parts.{RefusesPart}
 use Rattle.store_stops.specs.declared.stop.Stop.{Stop}
-use Rattle.snapshot_files.proofs.Archives.{blob_no_dynamic, blob_no_fixed, layout_named}
-use Rattle.snapshot_files.proofs.EntryLemmas.{archive_entry}
+use Rattle.snapshot_files.proofs.Archives.{archive_read, blob_no_dynamic, blob_no_fixed, layout_index}
+use Rattle.snapshot_files.proofs.EntryLemmas.{digest_among, entry_told_of}
 use Rattle.chunk_store.specs.Pieces.{IsHeld}
 use Rattle.core_state.specs.declared.kept.Listed.{Listed}
 use Rattle.core_state.specs.declared.kept.Session.{Session}
@@ -107,10 +108,29 @@ module _ {D : Type 0} (parts : Parts D) (s : Store) (lane : ℕ) (name : List �
 -- ---- what stands there
 
 -- a file of an index's name is an archive of its layout
-index_archive : (c : Content) (name : List ℕ) → names_content c name ≡ true → is_index_name name ≡ true → (a : Archive) × (c ≡ archive a) × (is_fixed_name name ≡ is_fixed_layout a.layout)
+index_archive : (c : Content) (name : List ℕ) → names_content c name ≡ true → is_index_name name ≡ true → (a : Archive) × (c ≡ archive a) × (kind_of_index name ≡ layout_kind a.layout)
 index_archive (blob bytes) name kind good =
     absurd (true_false (sym good ∙ or_from (is_fixed_name name) (is_dynamic_name name) (blob_no_fixed name kind) (blob_no_dynamic name kind)))
-index_archive (archive a) name kind good = (a, refl, layout_named a name kind)
+index_archive (archive a) name kind good = (a, refl, layout_index a name kind)
+
+pieces_named : (start : ℕ) (ps : List (List ℕ)) (place : ℕ) → digest_among (ends_from start ps) place ≡ option_map digest_of (slice_get ps place)
+pieces_named start [] place = refl
+pieces_named start (p ∷ ps) zero = refl
+pieces_named start (p ∷ ps) (suc place) = pieces_named (start + length p) ps place
+
+length-pieces : (start : ℕ) (ps : List (List ℕ)) → length (ends_from start ps) ≡ length ps
+length-pieces start [] = refl
+length-pieces start (p ∷ ps) = ap suc (length-pieces (start + length p) ps)
+
+-- what is read of an archive's file is the digest of its piece there, or there is none
+archive_entry : (content : Files) (path : List ℕ) (a : Archive) (place : ℕ) → FitsContent (archive a) → get content path ≡ Some (archive_text a)
+    → entry_at content path (layout_kind a.layout) place ≡ or_else (BadRange (length a.pieces)) (option_map digest_of (slice_get a.pieces place))
+unfolding entry_at
+archive_entry content path a place fits is =
+    ap (λ (o : Option (List ℕ)). or_else (Unreadable path) o >>= λ text. entry_in path (layout_kind a.layout) text place) is
+    ∙ entry_told_of path (layout_kind a.layout) (archive_text a) (ends_from 0 a.pieces) place (archive_read a fits)
+    ∙ ap (λ n. or_else (BadRange n) (digest_among (ends_from 0 a.pieces) place)) (length-pieces 0 a.pieces)
+    ∙ ap (or_else (BadRange (length a.pieces))) (pieces_named 0 a.pieces place)
 
 at_place : {A : Type 0} (P : A → Type 0) (xs : List A) (i : ℕ) (x : A) → All P xs → slice_get xs i ≡ Some x → P x
 at_place P [] i x all e = absurd (none_some e)
@@ -147,7 +167,7 @@ told_piece count (Some p) digest e = (p, refl, sym (same e))
 -- the file of the reader's snapshot is an archive, whose pieces stand on the disk
 record HasIndex (m : Files) (s : Store) (lane : ℕ) (name path : List ℕ) (place : ℕ) : Type 0 where
   pub one : Archive
-  pub entry_is : entry_at m path (is_fixed_name name) place ≡ or_else (BadRange (length one.pieces)) (option_map digest_of (slice_get one.pieces place))
+  pub entry_is : entry_at m path (kind_of_index name) place ≡ or_else (BadRange (length one.pieces)) (option_map digest_of (slice_get one.pieces place))
   pub step_is : read_chunk s lane name place ≡ piece_then s (length one.pieces) (slice_get one.pieces place)
   pub held : All (IsHeld m) one.pieces
 
@@ -176,18 +196,18 @@ module _ {D : Type 0} (d : Ghosts D) (old : Parts D) (s : Store) (lane : ℕ) (n
         held = subst (λ c. All (IsHeld content) (pieces_of c)) archived pieces;
       }
 
-  module _ (q : List ℕ) (is_fixed : Bool) (here : q ≡ path) (kind : is_fixed ≡ is_fixed_name name) where
-    entry_same : entry_at content path (is_fixed_name name) place ≡ entry_at content q is_fixed place
-    entry_same = ap (λ p. entry_at content p (is_fixed_name name) place) (sym here) ∙ ap (λ b. entry_at content q b place) (sym kind)
+  module _ (q : List ℕ) (of_kind : IndexKind) (here : q ≡ path) (kind : of_kind ≡ kind_of_index name) where
+    entry_same : entry_at content path (kind_of_index name) place ≡ entry_at content q of_kind place
+    entry_same = ap (λ p. entry_at content p (kind_of_index name) place) (sym here) ∙ ap (λ b. entry_at content q b place) (sym kind)
 
     -- there is no such entry
-    pub entry_refused : (refusal : Refusal) → entry_at content q is_fixed place ≡ Err refusal → read_chunk s lane name place ≡ Err refusal
+    pub entry_refused : (refusal : Refusal) → entry_at content q of_kind place ≡ Err refusal → read_chunk s lane name place ≡ Err refusal
     entry_refused refusal tells =
         let i = has_index in
         i.step_is ∙ told_refused s (length (i.one).pieces) (slice_get (i.one).pieces place) refusal (sym i.entry_is ∙ entry_same ∙ tells)
 
     -- the blob of its piece is given, which stands there
-    pub entry_given : (digest : Digest32) → entry_at content q is_fixed place ≡ Ok digest
+    pub entry_given : (digest : Digest32) → entry_at content q of_kind place ≡ Ok digest
         → (p : List ℕ) × IsHeld content p × (digest ≡ digest_of p) × (read_chunk s lane name place ≡ Ok (s, Data (blob_of p)))
     entry_given digest tells =
         let i = has_index in
@@ -323,17 +343,17 @@ module _ {D : Type 0} (d : Ghosts D) (disk : D) (asked : Option Asked) (a : Aske
       by_stop NoMemory h = tells_failed d disk asked disks.NoMemory
       by_stop DiskFailed h = tells_failed d disk asked disks.Failed
 
-module _ (m : Files) (path q name : List ℕ) (place : ℕ) (is_fixed : Bool) (here : q ≡ path) (kind : is_fixed ≡ is_fixed_name name) where
+module _ (m : Files) (path q name : List ℕ) (place : ℕ) (of_kind : IndexKind) (here : q ≡ path) (kind : of_kind ≡ kind_of_index name) where
   abbrev asked_of : Result Digest32 Refusal → Result Reply Refusal
   asked_of o = o >>= λ digest. Ok Done
 
-  pub entry_here : entry_at m q is_fixed place ≡ entry_at m path (is_fixed_name name) place
-  entry_here = ap (λ p. entry_at m p is_fixed place) here ∙ ap (λ b. entry_at m path b place) kind
+  pub entry_here : entry_at m q of_kind place ≡ entry_at m path (kind_of_index name) place
+  entry_here = ap (λ p. entry_at m p of_kind place) here ∙ ap (λ b. entry_at m path b place) kind
 
-  pub entry_got : (digest : Digest32) → entry_at m q is_fixed place ≡ Ok digest → part_read m (as_entry name place path) ≡ Ok Done
+  pub entry_got : (digest : Digest32) → entry_at m q of_kind place ≡ Ok digest → part_read m (as_entry name place path) ≡ Ok Done
   entry_got digest gives = ap asked_of (sym entry_here ∙ gives)
 
-  pub entry_stop : (e : Stop) → Gives {A = Digest32} (λ digest. digest) (Err e) (entry_at m q is_fixed place)
+  pub entry_stop : (e : Stop) → Gives {A = Digest32} (λ digest. digest) (Err e) (entry_at m q of_kind place)
       → Gives {A = Reply} (λ part. part) (Err e) (part_read m (as_entry name place path))
   entry_stop (Refused refusal) gives = ap asked_of (sym entry_here ∙ gives)
   entry_stop NoMemory gives = tt
@@ -344,15 +364,15 @@ module _ (m : Files) (path q name : List ℕ) (place : ℕ) (is_fixed : Bool) (h
   abbrev damage_in : Result Digest32 Refusal → Option (Digest32 × ChunkFault)
   damage_in o = elim o [ Ok digest ↦ bytes_damage digest (get m (chunk_name digest.0)) | Err refusal ↦ None ]
 
-  pub damage_unread : (asked : Option Asked) (refusal : Refusal) → asked ≡ Some (as_entry name place path) → entry_at m q is_fixed place ≡ Err refusal → asked_damage m asked ≡ None
+  pub damage_unread : (asked : Option Asked) (refusal : Refusal) → asked ≡ Some (as_entry name place path) → entry_at m q of_kind place ≡ Err refusal → asked_damage m asked ≡ None
   damage_unread asked refusal is gives = ap (asked_damage m) is ∙ ap damage_in (sym entry_here ∙ gives)
 
-  damage_read : (asked : Option Asked) (digest : Digest32) → asked ≡ Some (as_entry name place path) → entry_at m q is_fixed place ≡ Ok digest
+  damage_read : (asked : Option Asked) (digest : Digest32) → asked ≡ Some (as_entry name place path) → entry_at m q of_kind place ≡ Ok digest
       → asked_damage m asked ≡ bytes_damage digest (get m (chunk_name digest.0))
   damage_read asked digest is gives = ap (asked_damage m) is ∙ ap damage_in (sym entry_here ∙ gives)
 
   -- what is told of the bytes is what they are
-  pub damage_told : (asked : Option Asked) (digest : Digest32) (found : ChunkFault) (n : Files) → asked ≡ Some (as_entry name place path) → entry_at m q is_fixed place ≡ Ok digest → n ≡ m
+  pub damage_told : (asked : Option Asked) (digest : Digest32) (found : ChunkFault) (n : Files) → asked ≡ Some (as_entry name place path) → entry_at m q of_kind place ≡ Ok digest → n ≡ m
       → bytes_at n digest ≡ Err (Damaged digest found) → asked_damage m asked ≡ Some (digest, found)
   damage_told asked digest found n is gives same tells =
       damage_read asked digest is gives ∙ by_bytes (get m (chunk_name digest.0)) (ap (λ f. bytes_at f digest) (sym same) ∙ tells)
@@ -373,7 +393,7 @@ module _ (m : Files) (path q name : List ℕ) (place : ℕ) (is_fixed : Bool) (h
       by_bytes (Some bytes) e = by_test bytes (nat_lt blob_limit (length bytes)) e
 
   -- and bytes that are given are not damaged
-  pub damage_none : (asked : Option Asked) (digest : Digest32) (given : List ℕ) (n : Files) → asked ≡ Some (as_entry name place path) → entry_at m q is_fixed place ≡ Ok digest → n ≡ m
+  pub damage_none : (asked : Option Asked) (digest : Digest32) (given : List ℕ) (n : Files) → asked ≡ Some (as_entry name place path) → entry_at m q of_kind place ≡ Ok digest → n ≡ m
       → bytes_at n digest ≡ Ok given → asked_damage m asked ≡ None
   damage_none asked digest given n is gives same tells =
       damage_read asked digest is gives ∙ by_bytes (get m (chunk_name digest.0)) (ap (λ f. bytes_at f digest) (sym same) ∙ tells)

@@ -19,7 +19,8 @@ use Rattle.store_model.specs.ReaderSteps.{note, read_file}
 use Rattle.store_model.specs.Steps.{outcome}
 use Rattle.store_files.specs.Archive.{file_text}
 use Rattle.restore_reader.specs.Session.{Reading}
-use Rattle.snapshot_files.specs.Parts.{FillsPart, IsPart, RefusesPart, part_at, part_from}
+use Rattle.snapshot_files.specs.Parts.{FillsPart, RefusesPart, part_at, part_from, part_reply}
+use Rattle.snapshot_files.specs.declared.parts.FilePart.{FilePart}
 use Rattle.store_stops.specs.declared.stop.Stop.{Stop}
 use Rattle.core_state.specs.declared.kept.Listed.{Listed}
 use Rattle.core_state.specs.declared.kept.Session.{Session}
@@ -189,10 +190,10 @@ read_error_answers path NoMemory h = tt
 read_error_answers path DiskFailed h = tt
 
 -- a part is not empty before the file's end
-pub filled_answers : (offset : ℕ) (reply : Reply) → IsPart reply → FillsPart offset reply → answers_part offset reply ≡ true
-filled_answers offset (Part total bytes) h fills =
+pub filled_answers : (offset : ℕ) (part : FilePart) → FillsPart offset part → answers_part offset (part_reply part) ≡ true
+filled_answers offset part fills =
+    let size = length part.bytes in
     ⊎_elim
-    (λ (before : offset < total). or_right (nat_le total offset) (nat_lt 0 (length bytes)) (lt-ltb 0 (length bytes) (fills before)))
-    (λ (behind : total ≤ offset). or_left (nat_le total offset) (nat_lt 0 (length bytes)) (le-leb total offset behind))
-    (cases_lt offset total)
-filled_answers offset _ h fills = absurd h
+    (λ (before : offset < part.total). or_right (nat_le part.total offset) (nat_lt 0 size) (lt-ltb 0 size (fills before)))
+    (λ (behind : part.total ≤ offset). or_left (nat_le part.total offset) (nat_lt 0 size) (le-leb part.total offset behind))
+    (cases_lt offset part.total)

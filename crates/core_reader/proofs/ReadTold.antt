@@ -1,14 +1,17 @@
 -- A VERIFY's reads answer what stands on an honest disk.
 use Rattle.disk_trait.specs.declared.disk.Disk.{Ghosts}
-use Rattle.std.proofs.Common.{◌≡◌, ℕ, Bool, true, false, List, Result, Ok, Err, IfOk, sym, ap, subst, ◌∙◌}
+use Rattle.std.proofs.Common.{◌≡◌, ℕ, true, false, List, Result, Ok, Err, IfOk, sym, ap, subst, ◌∙◌}
 use Rattle.disk_trait.specs.Files.{Files}
 use Rattle.store_types.specs.declared.names.Digest32.{Digest32}
 use Rattle.store_types.specs.declared.refusal.Refusal.{Refusal}
 use Rattle.store_types.specs.declared.refusal.Refusal.TheVariants.{NoFile}
 use Rattle.store_types.specs.Chain.Refusing.{◌>>=◌}
-use Rattle.store_types.specs.FileNames.{is_fixed_name, is_index_name}
+use Rattle.store_types.specs.FileNames.{is_index_name}
 use Rattle.wire_commands.specs.declared.reply.Reply.{Reply}
 use Rattle.wire_commands.specs.declared.reply.Reply.TheVariants.{Data}
+use Rattle.paged_indexes.specs.declared.kinds.IndexKind.{IndexKind}
+use Rattle.snapshot_files.specs.Parts.{part_reply}
+use Rattle.snapshot_files.specs.Indexes.{kind_of_index}
 use Rattle.snapshot_files.specs.Entry.{entry_at}
 use Rattle.snapshot_files.specs.Parts.{part_at}
 use Rattle.store_stops.specs.declared.stop.Stop.{Stop}
@@ -25,6 +28,7 @@ use Rattle.core_reader.specs.Asked.{index_of, place_of}
 use Rattle.core_reader.specs.Chunks.{bytes_at}
 use Rattle.core_reader.proofs.ReadEntry.{entry_here, index_there, index_unnamed, index_unplaced}
 use Rattle.core_reader.proofs.ReadPart.{IsPlaced}
+use Rattle.core_reader.proofs.Telling.{as_reply}
 
 -- ---- how a read stops
 
@@ -65,11 +69,11 @@ module _ {D : Type 0} (d : Ghosts D) (old : Parts D) (at : Place) (name : List �
     part_wanted = ap (λ (o : Result (List ℕ) Refusal). o >>= part_in) there ∙ ap part_in (sym here)
 
     -- it is refused by what stands there
-    pub part_unread : (e : Stop) (result : Result Reply Stop) → Stops result e → (d.honest old.disk → Gives {A = Reply} (λ part. part) (Err e) (part_in q))
+    pub part_unread : (e : Stop) (result : Result Reply Stop) → Stops result e → (d.honest old.disk → Gives part_reply (Err e) (part_in q))
         → ActReads d (part_told name offset) old at result
     part_unread e result stops gives = λ honest.
         stop_told part_here e result stops
-        (subst (λ w. Gives {A = Reply} (λ reply. reply) (Err e) w) (sym part_wanted) (gives honest))
+        (subst (λ w. Gives {A = Reply} (λ reply. reply) (Err e) w) (sym part_wanted) (as_reply e _ (gives honest)))
 
     -- it is given
     pub part_answers : (part : Reply) → (d.honest old.disk → part_in q ≡ Ok part) → ActReads d (part_told name offset) old at (Ok part)
@@ -91,7 +95,7 @@ module _ {D : Type 0} (d : Ghosts D) (old : Parts D) (at : Place) (name : List �
   bytes_in digest = bytes_at (d.content old.disk) digest >>= data_in
 
   abbrev chunk_in : List ℕ → Result Reply Refusal
-  chunk_in path = entry_at (d.content old.disk) path (is_fixed_name name) place >>= bytes_in
+  chunk_in path = entry_at (d.content old.disk) path (kind_of_index name) place >>= bytes_in
 
   -- there is no such file
   pub chunk_missing : (stop : Stop) (result : Result Reply Stop) → Stops result stop → Gives {A = List ℕ} (λ path. path) (Err stop) (place_of name (session_at old at.lane) old.catalogue.listed)
@@ -109,14 +113,14 @@ module _ {D : Type 0} (d : Ghosts D) (old : Parts D) (at : Place) (name : List �
     chunk_unindexed bad = λ honest.
         sym (ap reply_told (ap (λ (o : Result (List ℕ) Refusal). o >>= chunk_in) (index_unnamed name place (session_at old at.lane) old.catalogue.listed there.reading there.reads bad)))
 
-    module _ (good : is_index_name name ≡ true) (q : List ℕ) (is_fixed : Bool) (here : q ≡ path) (kind : is_fixed ≡ is_fixed_name name) where
+    module _ (good : is_index_name name ≡ true) (q : List ℕ) (of_kind : IndexKind) (here : q ≡ path) (kind : of_kind ≡ kind_of_index name) where
       abbrev entry : Result Digest32 Refusal
-      entry = entry_at (d.content old.disk) q is_fixed place
+      entry = entry_at (d.content old.disk) q of_kind place
 
       chunk_wanted : chunk_here ≡ (entry >>= bytes_in)
       chunk_wanted =
           ap (λ (o : Result (List ℕ) Refusal). o >>= chunk_in) (index_there name place (session_at old at.lane) old.catalogue.listed there.reading path there.reads good there.found)
-          ∙ ap (λ (o : Result Digest32 Refusal). o >>= bytes_in) (sym (entry_here (d.content old.disk) path q name place is_fixed here kind))
+          ∙ ap (λ (o : Result Digest32 Refusal). o >>= bytes_in) (sym (entry_here (d.content old.disk) path q name place of_kind here kind))
 
       -- the entry is refused by what stands there
       pub entry_unread : (e : Stop) (result : Result Reply Stop) → Stops result e → (d.honest old.disk → Gives {A = Digest32} (λ digest. digest) (Err e) entry)

@@ -1,7 +1,8 @@
 -- What a DOWNLOAD tells of the file that is asked for.
 use Rattle.disk_trait.specs.declared.disk.Disk.{Ghosts}
-use Rattle.std.proofs.Common.{◌≡◌, ℕ, true, false, Bool, List, Option, Some, None, Result, Ok, Err, IsErrAnd, IsErrOf, IsTrue, refl, sym, ap, subst, ◌∙◌}
+use Rattle.std.proofs.Common.{◌≡◌, ℕ, true, false, List, Option, Some, None, Result, Ok, Err, IsErrAnd, IsErrOf, IsTrue, refl, sym, ap, subst, ◌∙◌}
 use Rattle.disk_trait.specs.Effects.{OnlyReads}
+use Rattle.disk_trait.proofs.OnlyReading.{reads_as}
 use Rattle.disk_trait.specs.Files.{Files}
 use Rattle.disk_trait.specs.declared.disk.DiskError.TheVariants as disks
 use Rattle.store_types.specs.Chain.Refusing.{◌>>=◌}
@@ -9,9 +10,10 @@ use Rattle.store_types.specs.declared.refusal.Refusal.{Refusal}
 use Rattle.store_types.specs.declared.refusal.Refusal.TheVariants.{BadRange, Unreadable}
 use Rattle.wire_commands.specs.declared.reply.Reply.{Reply}
 use Rattle.wire_commands.specs.declared.reply.Reply.TheVariants as replies
+use Rattle.paged_indexes.specs.declared.kinds.IndexKind.{IndexKind}
 use Rattle.snapshot_files.specs.Reads.{StopHasText}
-use Rattle.snapshot_files.specs.Indexes.{Indexed, index_at, shown_index}
-use Rattle.snapshot_files.specs.Parts.{IsPart, RefusesPart, part_at}
+use Rattle.snapshot_files.specs.Indexes.{Indexed, index_at}
+use Rattle.snapshot_files.specs.Parts.{IsPart, RefusesPart, part_at, part_reply}
 use Rattle.store_stops.specs.declared.stop.Stop.{Stop}
 use Rattle.wire_commands.specs.declared.command.Command.TheVariants.{Download}
 use Rattle.store_history.specs.declared.act.Act.{Act}
@@ -33,6 +35,7 @@ use Rattle.core_state.specs.Unreadables.{Asked, TellsUnreadable, part_read, read
 use Rattle.core_state.specs.Unchanged.{SameKept, is_uncalled}
 use Rattle.store_stops.specs.declared.stop.Stop.TheVariants.{Refused, NoMemory, DiskFailed}
 use Rattle.core_state.proofs.Unreadables.{refusal_called, tells_failed, tells_other, tells_read}
+use Rattle.core_reader.specs.Asked.{shown_given}
 
 -- ---- what a read stops by
 
@@ -52,13 +55,6 @@ pub read_stops : {A B : Type 0} (f : A → B) (wanted : Result B Refusal) (P : R
 read_stops f wanted P (Refused refusal) gives so = so refusal gives
 read_stops f wanted P NoMemory gives so = tt
 read_stops f wanted P DiskFailed gives so = tt
-
-pub reads_as : {D : Type 0} (d : Ghosts D) (old new : D) (F G : Type 0) → (G → F) → OnlyReads d old new F → OnlyReads d old new G
-reads_as d old new F G why reads = record {
-  serves = record { kept = (reads.serves).kept; count = (reads.serves).count; cause = λ g. (reads.serves).cause (why g) };
-  crash = reads.crash;
-  same = reads.same;
-}
 
 pub short_unfailed : {F : Type 0} → IsErrOf {T = Reply} (Err NoMemory) DiskFailed → F
 short_unfailed e = cc
@@ -161,28 +157,34 @@ module _ {D : Type 0} (d : Ghosts D) (disk : D) where
 
 -- ---- what is asked for, and what is read
 
-part_asked : (m : Files) (path q : List ℕ) (offset : ℕ) (whole : Option Bool) → q ≡ path → whole ≡ None → part_at m q offset ≡ read_by whole m path offset
+part_asked : (m : Files) (path q : List ℕ) (offset : ℕ) (whole : Option IndexKind) → q ≡ path → whole ≡ None → part_at m q offset ≡ read_by whole m path offset
 part_asked m path q offset whole is none = ap (λ p. part_at m p offset) is ∙ ap (λ w. read_by w m path offset) (sym none)
 
-index_asked : (m : Files) (path q : List ℕ) (offset : ℕ) (is_fixed : Bool) (whole : Option Bool) → q ≡ path → whole ≡ Some is_fixed
-    → (index_at m q is_fixed offset >>= λ x. Ok x.part) ≡ read_by whole m path offset
-index_asked m path q offset is_fixed whole is some = ap (λ p. read_by (Some is_fixed) m p offset) is ∙ ap (λ w. read_by w m path offset) (sym some)
+index_asked : (m : Files) (path q : List ℕ) (offset : ℕ) (of_kind : IndexKind) (whole : Option IndexKind) → q ≡ path → whole ≡ Some of_kind
+    → (index_at m q of_kind offset >>= λ x. Ok x.part) ≡ read_by whole m path offset
+index_asked m path q offset of_kind whole is some = ap (λ p. read_by (Some of_kind) m p offset) is ∙ ap (λ w. read_by w m path offset) (sym some)
 
-pub part_stop : (m : Files) (path q : List ℕ) (offset : ℕ) (whole : Option Bool) (e : Stop) → q ≡ path → whole ≡ None → Gives {A = Reply} (λ part. part) (Err e) (part_at m q offset)
+-- no part, and so no reply
+pub as_reply : (e : Stop) (wanted : Result Reply Refusal) → Gives part_reply (Err e) wanted → Gives {A = Reply} (λ part. part) (Err e) wanted
+as_reply (Refused refusal) wanted is = is
+as_reply NoMemory wanted is = tt
+as_reply DiskFailed wanted is = tt
+
+pub part_stop : (m : Files) (path q : List ℕ) (offset : ℕ) (whole : Option IndexKind) (e : Stop) → q ≡ path → whole ≡ None → Gives part_reply (Err e) (part_at m q offset)
     → Gives {A = Reply} (λ part. part) (Err e) (read_by whole m path offset)
-part_stop m path q offset whole e is none gives = subst (λ w. Gives {A = Reply} (λ part. part) (Err e) w) (part_asked m path q offset whole is none) gives
+part_stop m path q offset whole e is none gives = subst (λ w. Gives {A = Reply} (λ part. part) (Err e) w) (part_asked m path q offset whole is none) (as_reply e _ gives)
 
-pub part_got : (m : Files) (path q : List ℕ) (offset : ℕ) (whole : Option Bool) (part : Reply) → q ≡ path → whole ≡ None → part_at m q offset ≡ Ok part → read_by whole m path offset ≡ Ok part
+pub part_got : (m : Files) (path q : List ℕ) (offset : ℕ) (whole : Option IndexKind) (part : Reply) → q ≡ path → whole ≡ None → part_at m q offset ≡ Ok part → read_by whole m path offset ≡ Ok part
 part_got m path q offset whole part is none gives = sym (part_asked m path q offset whole is none) ∙ gives
 
-pub index_stop : (m : Files) (path q : List ℕ) (offset : ℕ) (is_fixed : Bool) (whole : Option Bool) (e : Stop) → q ≡ path → whole ≡ Some is_fixed → Gives shown_index (Err e) (index_at m q is_fixed offset)
+pub index_stop : (m : Files) (path q : List ℕ) (offset : ℕ) (of_kind : IndexKind) (whole : Option IndexKind) (e : Stop) → q ≡ path → whole ≡ Some of_kind → Gives shown_given (Err e) (index_at m q of_kind offset)
     → Gives {A = Reply} (λ part. part) (Err e) (read_by whole m path offset)
-index_stop m path q offset is_fixed whole e is some gives = subst (λ w. Gives {A = Reply} (λ part. part) (Err e) w) (index_asked m path q offset is_fixed whole is some) (index_part e _ gives)
+index_stop m path q offset of_kind whole e is some gives = subst (λ w. Gives {A = Reply} (λ part. part) (Err e) w) (index_asked m path q offset of_kind whole is some) (index_part e _ gives)
   where
-    index_part : (e : Stop) (wanted : Result Indexed Refusal) → Gives shown_index (Err e) wanted → Gives {A = Reply} (λ part. part) (Err e) (wanted >>= λ x. Ok x.part)
+    index_part : (e : Stop) (wanted : Result Indexed Refusal) → Gives shown_given (Err e) wanted → Gives {A = Reply} (λ part. part) (Err e) (wanted >>= λ x. Ok x.part)
     index_part (Refused refusal) wanted is = ap (λ (w : Result Indexed Refusal). w >>= λ x. Ok x.part) is
     index_part NoMemory wanted is = tt
     index_part DiskFailed wanted is = tt
 
-pub index_got : (m : Files) (path q : List ℕ) (offset : ℕ) (is_fixed : Bool) (whole : Option Bool) (x : Indexed) → q ≡ path → whole ≡ Some is_fixed → index_at m q is_fixed offset ≡ Ok x → read_by whole m path offset ≡ Ok x.part
-index_got m path q offset is_fixed whole x is some gives = sym (index_asked m path q offset is_fixed whole is some) ∙ ap (λ (w : Result Indexed Refusal). w >>= λ x. Ok x.part) gives
+pub index_got : (m : Files) (path q : List ℕ) (offset : ℕ) (of_kind : IndexKind) (whole : Option IndexKind) (x : Indexed) → q ≡ path → whole ≡ Some of_kind → index_at m q of_kind offset ≡ Ok x → read_by whole m path offset ≡ Ok x.part
+index_got m path q offset of_kind whole x is some gives = sym (index_asked m path q offset of_kind whole is some) ∙ ap (λ (w : Result Indexed Refusal). w >>= λ x. Ok x.part) gives

@@ -6,7 +6,6 @@ use Rattle.lock_book.specs.Locks.{Locks}
 use Rattle.store_types.specs.declared.refusal.Refusal.{Refusal}
 use Rattle.store_types.specs.declared.refusal.Refusal.TheVariants.{Unreadable}
 use Rattle.store_types.specs.Chain.Refusing.{◌>>=◌, if_none}
-use Rattle.store_types.specs.FileNames.{is_fixed_name}
 use Rattle.wire_commands.specs.declared.command.Command.TheVariants.{OpenReader}
 use Rattle.wire_commands.specs.declared.reply.Reply.{Reply}
 use Rattle.wire_commands.specs.declared.reply.Reply.TheVariants.{Data, Done}
@@ -14,6 +13,7 @@ use Rattle.store_history.specs.declared.act.Act.{Act}
 use Rattle.store_history.specs.declared.act.Act.TheVariants.{Plain, ReadFile, ReadChunk}
 use Rattle.store_history.specs.declared.act.Answer.{Answer}
 use Rattle.snapshot_files.specs.Entry.{entry_at}
+use Rattle.snapshot_files.specs.Indexes.{kind_of_index}
 use Rattle.snapshot_files.specs.Parts.{part_at}
 use Rattle.core_state.specs.declared.entering.Place.{Place}
 use Rattle.core_state.specs.declared.kept.Kept.{Kept}
@@ -45,7 +45,7 @@ part_told name offset files lane session catalogue locks = place_of name session
 abbrev pub chunk_told : List ℕ → ℕ → Files → ℕ → Session → List Listed → Locks → Result Reply Refusal
 chunk_told name place files lane session catalogue locks = do
   path ← index_of name session catalogue
-  digest ← entry_at files path (is_fixed_name name) place
+  digest ← entry_at files path (kind_of_index name) place
   bytes ← bytes_at files digest
   Ok (Data bytes)
 

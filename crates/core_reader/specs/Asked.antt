@@ -1,18 +1,23 @@
 -- What a reader asks for.
-use Rattle.std.specs.Prelude.{◌≡◌, ℕ, Bool, List, Option, None, Some, option_map, if◌then◌else◌, Result, Ok, Err, String, string_bytes}
+use Rattle.std.specs.Prelude.{◌≡◌, ℕ, List, Option, None, Some, option_map, if◌then◌else◌, Result, Ok, Err, String, string_bytes}
 use Rattle.std.specs.declared.alloc.Global.{Global}
 use Rattle.std.specs.Result.{result_ok}
 use Rattle.store_types.specs.declared.refusal.Refusal.{Refusal}
 use Rattle.store_types.specs.declared.refusal.Refusal.TheVariants.{BadName, NoFile}
 use Rattle.store_types.specs.Chain.Refusing.{◌>>=◌, unless, or_else}
-use Rattle.store_types.specs.FileNames.{is_file_name, is_fixed_name, is_index_name}
+use Rattle.store_types.specs.FileNames.{is_file_name, is_index_name}
 use Rattle.wire_commands.specs.declared.command.Command.TheVariants.{Download, OpenReader}
 use Rattle.store_history.specs.declared.act.Act.{Act}
 use Rattle.store_history.specs.declared.act.Act.TheVariants.{Plain, ReadFile, ReadChunk}
 use Rattle.store_files.specs.DynamicIndex.{Ended}
+use Rattle.store_files.specs.Entries.{ends_of}
 use Rattle.store_files.specs.Archive.{Archive, Snapshot, archive, ends_from}
 use Rattle.store_model.specs.Store.{Reader as PlainReader, reader as reader_of}
 use Rattle.store_model.specs.ReaderSteps.{content_at, note as noted}
+use Rattle.paged_indexes.specs.declared.kinds.IndexKind.{IndexKind}
+use Rattle.snapshot_files.specs.Indexes.{Indexed, index_at, kind_named, kind_of_index}
+use Rattle.snapshot_files.specs.Parts.{part_reply}
+use Rattle.disk_trait.specs.declared.disk.Disk.{Ghosts}
 use Rattle.restore_reader.specs.declared.ranges.Part.{Part}
 use Rattle.restore_reader.specs.Session.{Reading}
 use Rattle.restore_reader.specs.Steps as steps
@@ -25,9 +30,10 @@ use Rattle.store_stops.specs.declared.stop.Stop.{Stop}
 use Rattle.core_state.specs.Found.{named_kept, path_in}
 use Rattle.core_state.specs.Shown.{files_named, shown_session}
 use Rattle.store_stops.specs.Stops.{Gives}
-use Rattle.core_state.specs.Unreadables.{Asked, at_entry, from_offset, known, whole_by}
+use Rattle.core_state.specs.Unreadables.{Asked, at_entry, from_offset, known}
 use Rattle.core_state.specs.Wanted.{reader_in, session_at, want_idle}
 use Rattle.core_reader.specs.declared.downloading.AskedFile.{AskedFile}
+use Rattle.core_reader.specs.declared.downloading.Given.{Given}
 
 -- ---- the snapshot
 
@@ -50,8 +56,8 @@ asked_open text session catalogue = damage_of (to_read text session catalogue)
 -- ---- files
 
 -- an index that was not downloaded before is read whole
-abbrev pub whole_for : Reading → List ℕ → Option Bool
-whole_for r file = if steps.is_downloaded r file then None else whole_by file
+abbrev pub whole_for : Reading → List ℕ → Option IndexKind
+whole_for r file = if steps.is_downloaded r file then None else kind_named file
 
 abbrev pub asked_at : Reading → List ℕ → ℕ → List ℕ → Asked
 asked_at r file offset path = record { path = path; way = from_offset (whole_for r file) offset }
@@ -95,7 +101,7 @@ index_of name session catalogue = do
   or_else NoFile (path_in r.key name catalogue)
 
 abbrev pub as_entry : List ℕ → ℕ → List ℕ → Asked
-as_entry name place path = record { path = path; way = at_entry (is_fixed_name name) place }
+as_entry name place path = record { path = path; way = at_entry (kind_of_index name) place }
 
 abbrev pub asked_entry : List ℕ → ℕ → Session → List Listed → Option Asked
 asked_entry name place session catalogue = option_map (as_entry name place) (result_ok (index_of name session catalogue))
@@ -116,6 +122,15 @@ asked_from offset a = record { path = string_bytes a.path; way = from_offset a.w
 abbrev pub GivesFile : {D : Type 0} → Parts D → ℕ → List ℕ → Result AskedFile Stop → Type 0
 GivesFile parts lane file result =
     (offset : ℕ) → Gives (asked_from offset) result (file_asked file offset (session_at parts lane) parts.catalogue.listed)
+
+-- ---- an index that is read whole
+
+abbrev pub shown_given : Given → Indexed
+shown_given g = record { part = part_reply g.part; entries = ends_of g.entries.items.items }
+
+-- of an honest disk: the part and the entries are those of the index at the path, or the refusal
+abbrev pub ReadsEntries : {D : Type 0} → Ghosts D → D → List ℕ → IndexKind → ℕ → Result Given Stop → Type 0
+ReadsEntries d disk path of_kind offset result = d.honest disk → Gives shown_given result (index_at (d.content disk) path of_kind offset)
 
 -- the reader with an archive noted, unless one of the name is
 abbrev pub noting : List ℕ → List Ended → Session → Session

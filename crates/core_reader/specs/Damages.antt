@@ -1,6 +1,6 @@
 -- When a chunk is told to be damaged.
 use Rattle.disk_trait.specs.declared.disk.Disk.{Ghosts}
-use Rattle.std.specs.Prelude.{◌≡◌, ℕ, Bool, List, [], ◌∷◌, length, map, nat_lt, Option, None, Some, if◌then◌else◌, Result, Ok, Err}
+use Rattle.std.specs.Prelude.{◌≡◌, ℕ, List, [], ◌∷◌, length, map, nat_lt, Option, None, Some, if◌then◌else◌, Result, Ok, Err}
 use Rattle.std.specs.FinMap.{get}
 use Rattle.std.specs.List.{Contains}
 use Rattle.disk_trait.specs.Files.{Files}
@@ -8,6 +8,7 @@ use Rattle.store_types.specs.declared.names.Digest32.{Digest32}
 use Rattle.store_types.specs.declared.refusal.ChunkFault.{ChunkFault}
 use Rattle.store_types.specs.declared.refusal.ChunkFault.TheVariants.{Nothing, NotABlob}
 use Rattle.store_files.specs.Folder.{chunk_name}
+use Rattle.paged_indexes.specs.declared.kinds.IndexKind.{IndexKind}
 use Rattle.snapshot_files.specs.Entry.{entry_at}
 use Rattle.store_types.specs.declared.refusal.Refusal.{Refusal}
 use Rattle.store_types.specs.declared.refusal.Refusal.TheVariants.{Damaged}
@@ -65,12 +66,12 @@ abbrev pub bytes_damage : Digest32 → Option (List ℕ) → Option (Digest32 ×
 bytes_damage digest None = Some (digest, Nothing)
 bytes_damage digest (Some bytes) = if nat_lt blob_limit (length bytes) then Some (digest, NotABlob) else None
 
-abbrev pub entry_damage : Files → List ℕ → Bool → ℕ → Option (Digest32 × ChunkFault)
-entry_damage files path is_fixed place =
-    elim (entry_at files path is_fixed place) [ Ok digest ↦ bytes_damage digest (get files (chunk_name digest.0)) | Err refusal ↦ None ]
+abbrev pub entry_damage : Files → List ℕ → IndexKind → ℕ → Option (Digest32 × ChunkFault)
+entry_damage files path of_kind place =
+    elim (entry_at files path of_kind place) [ Ok digest ↦ bytes_damage digest (get files (chunk_name digest.0)) | Err refusal ↦ None ]
 
 abbrev pub damage_so : Way → Files → List ℕ → Option (Digest32 × ChunkFault)
-damage_so (at_entry is_fixed place) files path = entry_damage files path is_fixed place
+damage_so (at_entry of_kind place) files path = entry_damage files path of_kind place
 damage_so way files path = None
 
 abbrev pub asked_damage : Files → Option Asked → Option (Digest32 × ChunkFault)

@@ -1,17 +1,22 @@
 //! DOWNLOAD.
 
-ghost use Rattle.std.specs.Prelude.{◌≡◌, ◌<◌, ◌≤◌, IfOk, IsErrOf, OnOk, OnErr, Some, length, string_bytes};
+ghost use Rattle.std.specs.Prelude.{◌≡◌, ◌<◌, ◌≤◌, IfErr, IfOk, IsErrOf, MatchResult, OnOk, OnErr, Some, length, string_bytes};
 ghost use Rattle.wire_commands.specs.declared.command.Command.TheVariants.{Download};
 ghost use Rattle.store_files.specs.Entries.{FitsIndex, ends_of};
 ghost use Rattle.core_state.specs.Commands.{PlainDoes, PlainLeaves};
 ghost use Rattle.core_state.specs.Unreadables.{ActUnreadable};
 ghost use Rattle.store_stops.specs.declared.stop.Stop.TheVariants.{DiskFailed};
-ghost use Rattle.core_reader.specs.Asked.{GivesFile, NotesPlainly, asked_download, noting, whole_for};
+ghost use Rattle.disk_trait.specs.Effects.{OnlyReads};
+ghost use Rattle.snapshot_files.specs.Parts.{PartHasText, RefusesPart};
+ghost use Rattle.snapshot_files.specs.Reads.{StopHasText};
+ghost use Rattle.store_stops.specs.Stops.{IfRefused};
+ghost use Rattle.core_reader.specs.Asked.{GivesFile, NotesPlainly, ReadsEntries, asked_download, noting, whole_for};
 
 use core_state::{Parts, Place, Session};
 use disk_trait::Disk;
+use paged_indexes::{IndexEntry, IndexKind, TakesEntries};
 use restore_reader::Reader;
-use snapshot_files::{read_index, read_part};
+use snapshot_files::{FilePart, kind_of, read_index, read_part};
 use std::alloc::{AllocError, Global};
 use store_stops::Stop;
 use store_types::{Digest32, FileName, Refusal};
@@ -36,20 +41,14 @@ fn note(
     reader.downloaded(alloc, name, entries)
 }
 
-/// Whether the file is read whole, as an index that was not downloaded before, and then whether as a fixed one.
-fn whole_index(reader: &Reader, name: &FileName) -> Option<bool>
+/// Whether the file is read whole, as an index that was not downloaded before, and then of which kind.
+fn whole_index(reader: &Reader, name: &FileName) -> Option<IndexKind>
     ensures { result ≡ whole_for reader.now name.now }
 {
     if reader.is_downloaded(name) {
         return None;
     }
-    if name.is_fixed() {
-        return Some(true);
-    }
-    if name.is_dynamic() {
-        return Some(false);
-    }
-    None
+    kind_of(name)
 }
 
 /// A file that is asked for.
@@ -58,8 +57,8 @@ struct AskedFile {
     name: FileName,
     /// Where it stands.
     path: String,
-    /// Of an index that is read whole, whether as a fixed one.
-    whole: Option<bool>,
+    /// Of an index that is read whole, its kind.
+    whole: Option<IndexKind>,
 }
 
 /// The file of the reader's snapshot, by what is kept. The disk is not called.
@@ -82,6 +81,54 @@ fn asked_file<D>(parts: &Parts<D>, alloc: Global, lane: u32, file: &[u8]) -> Res
     Ok(AskedFile { name, path, whole })
 }
 
+/// The entries of an index as they are read: of each piece the digest, and where it ends.
+#[derive(Drop)]
+struct Entries {
+    items: Vec<(Digest32, u64)>,
+}
+
+impl TakesEntries for Entries {
+    ghost taken = { λ e base entries. ends_of e.items.items ≡ entries };
+
+    fn take(&mut self, _start: u64, entry: &IndexEntry) -> Result<(), AllocError> {
+        self.items.push((entry.digest, entry.end))?;
+        Ok(())
+    }
+}
+
+/// A part of an index, and its entries.
+#[derive(Drop)]
+struct Given {
+    part: FilePart,
+    entries: Entries,
+}
+
+/// A part of an index that is read whole, page by page, and its entries.
+fn read_entries<D: Disk>(
+    disk: &mut D,
+    alloc: Global,
+    path: &str,
+    kind: IndexKind,
+    offset: u64,
+) -> Result<Given, Stop>
+    requires { length path.now ≤ 255 }
+    ensures reads { OnlyReads D.Disk disk.old disk.new (IsErrOf result DiskFailed) }
+    ensures exact { ReadsEntries D.Disk disk.old path.now kind offset result }
+    ensures kind { IfErr result (IfRefused (RefusesPart path.now)) }
+    ensures text { MatchResult result (λ g. PartHasText g.part) StopHasText }
+    // on any disk
+    ensures fits { IfOk result (λ g. FitsIndex (ends_of g.entries.items.items)) }
+{
+    let mut entries = Entries {
+        items: Vec::new(alloc),
+    };
+    let index = read_index(disk, alloc, path, kind, offset, &mut entries)?;
+    Ok(Given {
+        part: index.part,
+        entries,
+    })
+}
+
 /// A part of a file of the reader's snapshot.
 ///
 /// The refusals, in the order in which they are tested: the lane has no reader; the text is no file's name; the snapshot
@@ -102,22 +149,22 @@ pub fn download<D: Disk>(
     ensures unreadable { ActUnreadable D.Disk (asked_download file.now offset) parts.old at result }
 {
     let asked = asked_file(parts, alloc, at.lane, file)?;
-    let Some(is_fixed) = asked.whole else {
+    let Some(kind) = asked.whole else {
         let part = read_part(&mut parts.disk, alloc, asked.path.as_str(), offset)?;
-        return Ok(part);
+        return Ok(Reply::Part {
+            total: part.total,
+            bytes: part.bytes,
+        });
     };
-    let index = read_index(
-        &mut parts.disk,
-        alloc,
-        asked.path.as_str(),
-        is_fixed,
-        offset,
-    )?;
+    let index = read_entries(&mut parts.disk, alloc, asked.path.as_str(), kind, offset)?;
     note(
         &mut parts.sessions[at.lane as usize],
         alloc,
         asked.name,
-        &index.entries,
+        &index.entries.items,
     )?;
-    Ok(index.part)
+    Ok(Reply::Part {
+        total: index.part.total,
+        bytes: index.part.bytes,
+    })
 }

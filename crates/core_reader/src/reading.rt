@@ -13,7 +13,7 @@ ghost use Rattle.core_reader.specs.Damages.{ActDamaged};
 use crate::loading::read_bytes;
 use core_state::{Parts, Place};
 use disk_trait::Disk;
-use snapshot_files::{read_entry, read_part};
+use snapshot_files::{index_kind, read_entry, read_part};
 use std::alloc::Global;
 use store_stops::Stop;
 use store_types::{FileName, Refusal};
@@ -58,7 +58,10 @@ pub fn read_file<D: Disk>(
 {
     let path = path_of(parts, alloc, at.lane, name)?;
     let part = read_part(&mut parts.disk, alloc, path.as_str(), offset)?;
-    Ok(part)
+    Ok(Reply::Part {
+        total: part.total,
+        bytes: part.bytes,
+    })
 }
 
 /// The bytes of the chunk at an entry of an index of the reader's snapshot, as they stand on the disk: whether they are
@@ -90,7 +93,7 @@ pub fn read_chunk<D: Disk>(
         &mut parts.disk,
         alloc,
         path.as_str(),
-        name.is_fixed(),
+        index_kind(name),
         entry,
     )?;
     let bytes = read_bytes(&mut parts.disk, alloc, &digest)?;

@@ -79,7 +79,10 @@ fn part<E: Disk>(
     };
     let path = path_of(alloc, &key, name)?;
     match read_part(remote, alloc, path.as_str(), offset) {
-        Ok(part) => Ok(part),
+        Ok(part) => Ok(Reply::Part {
+            total: part.total,
+            bytes: part.bytes,
+        }),
         Err(Stop::Refused(refusal)) => Ok(Reply::Refused(refusal)),
         Err(Stop::NoMemory) => Err(DiskError::NoMemory),
         Err(Stop::DiskFailed) => Err(DiskError::Failed),

@@ -8,7 +8,7 @@ use Rattle.store_types.specs.declared.order.Entry.{Entry}
 use Rattle.store_types.specs.declared.order.TheConstants.{REMOTE_FAULT_KIND}
 use Rattle.store_files.specs.Archive.{Snapshot}
 use Rattle.store_model.specs.Stands.{StandsFor as Stands}
-use Rattle.snapshot_files.proofs.OnlyReading.{same_then}
+use Rattle.disk_trait.proofs.OnlyReading.{same_then}
 use Rattle.core_state.specs.declared.state.Core.{Core}
 use Rattle.core_state.specs.Remotes.{IsRead, RemoteServes, RemoteStays, ShowsRemote, failed_reads, faults_of}
 

@@ -1,16 +1,16 @@
 -- When a file of a snapshot is told to be unreadable.
 use Rattle.disk_trait.specs.declared.disk.Disk.{Ghosts}
-use Rattle.std.specs.Prelude.{◌≡◌, ℕ, Bool, true, false, List, Option, None, Some, option_map, if◌then◌else◌, Result, Ok, Err}
+use Rattle.std.specs.Prelude.{◌≡◌, ℕ, List, Option, None, Some, option_map, Result, Ok, Err}
 use Rattle.std.specs.FinMap.{get}
 use Rattle.disk_trait.specs.Files.{Files}
 use Rattle.store_types.specs.Chain.Refusing.{◌>>=◌, or_else}
-use Rattle.store_types.specs.FileNames.{is_fixed_name, is_dynamic_name}
 use Rattle.store_types.specs.declared.refusal.Refusal.{Refusal}
 use Rattle.store_types.specs.declared.refusal.Refusal.TheVariants.{Unreadable}
 use Rattle.store_types.specs.declared.order.TheConstants.{COMMAND_KIND}
 use Rattle.wire_commands.specs.declared.reply.Reply.{Reply}
 use Rattle.wire_commands.specs.declared.reply.Reply.TheVariants.{Done, Refused}
 use Rattle.store_history.specs.declared.act.Answer.{Answer}
+use Rattle.paged_indexes.specs.declared.kinds.IndexKind.{IndexKind}
 use Rattle.snapshot_files.specs.Parts.{part_from}
 use Rattle.snapshot_files.specs.Indexes.{index_at}
 use Rattle.snapshot_files.specs.Entry.{entry_at}
@@ -27,10 +27,10 @@ use Rattle.core_state.specs.Wanted.{session_at}
 
 -- how a file is read that an act asks for
 pub data Way : Type 0 where
-  -- a part of it from an offset; of an index that is read whole, and then whether as a fixed one
-  from_offset : Option Bool → ℕ → Way
-  -- an entry of an index, of a fixed one or a dynamic one
-  at_entry : Bool → ℕ → Way
+  -- a part of it from an offset; of an index that is read whole, and then of which kind
+  from_offset : Option IndexKind → ℕ → Way
+  -- an entry of an index of a kind
+  at_entry : IndexKind → ℕ → Way
   -- whole, as a manifest
   as_listing : Way
   -- not at all: it makes its snapshot damaged, which was found at opening
@@ -41,17 +41,13 @@ pub record Asked : Type 0 where
   pub path : List ℕ
   pub way : Way
 
--- a file of this name is read whole where it is an index's
-abbrev pub whole_by : List ℕ → Option Bool
-whole_by name = if is_fixed_name name then Some true else (if is_dynamic_name name then Some false else None)
-
-abbrev pub read_by : Option Bool → Files → List ℕ → ℕ → Result Reply Refusal
+abbrev pub read_by : Option IndexKind → Files → List ℕ → ℕ → Result Reply Refusal
 read_by None m path offset = or_else (Unreadable path) (get m path) >>= λ text. part_from text offset
-read_by (Some is_fixed) m path offset = index_at m path is_fixed offset >>= λ x. Ok x.part
+read_by (Some kind) m path offset = index_at m path kind offset >>= λ x. Ok x.part
 
 abbrev pub read_so : Way → Files → List ℕ → Result Reply Refusal
 read_so (from_offset whole offset) m path = read_by whole m path offset
-read_so (at_entry is_fixed place) m path = entry_at m path is_fixed place >>= λ digest. Ok Done
+read_so (at_entry kind place) m path = entry_at m path kind place >>= λ digest. Ok Done
 read_so as_listing m path = or_else (Unreadable path) (listing_at m path) >>= λ read. Ok Done
 read_so known m path = Err (Unreadable path)
 

@@ -75,7 +75,8 @@ impl Catalogue {
     fn place_after(&self, key: &SnapshotKey) -> usize
         ensures value { result ≡ position_or_len (λ x. key_lt key.now x.kept.key) self.now.listed }
         ensures bound { result ≤ length self.now.listed }
-        ensures rest { drop result self.now.listed ≡ filter (λ x. key_lt key.now x.kept.key) self.now.listed }
+        ensures rest { drop result self.now.listed
+            ≡ filter (λ x. key_lt key.now x.kept.key) self.now.listed }
     {
         let listed = self.listed.as_slice();
         listed.partition_point(|x| !(*key < x.kept.key))
@@ -83,7 +84,8 @@ impl Catalogue {
 
     /// The snapshots behind a key, or all.
     pub fn after(&self, key: Option<&SnapshotKey>) -> &[Listed]
-        ensures value { result.now ≡ filter (λ x. is_behind (lent_key key.entry) x.kept) self.now.listed }
+        ensures value { result.now
+            ≡ filter (λ x. is_behind (lent_key key.entry) x.kept) self.now.listed }
         ensures named { IsTrue (list_all is_named_snapshot result.now) }
     {
         match key {

@@ -408,7 +408,7 @@ static UNDECODED: Case<'static> = Case {
 
 /// Its manifest lists `a.fidx` of a chunk that is not there and `de`, `b.didx` of nothing, and `c.didx`, 2,000 times of a chunk that is not
 /// there and then of `abc`.
-const OF_THREE: &[u8] =
+pub(crate) const OF_THREE: &[u8] =
     b"B\xab8\x07\xbe\x83p\xa1F\xc9|U{\"backup-id\":\"a\",\"backup-time\":1579069803,\"backup-type\":\"host\",\"files\":[{\"crypt-mode\":\"none\",\"csum\":\"158dc14dcc37cc5ced2faf6a70203d3bef51e9539c2bba779913df3fb22fb8d1\",\"filename\":\"a.fidx\",\"size\":4098},{\"crypt-mode\":\"none\",\"csum\":\"e3b0c44298fc1c149afbf4c8996fb92427ae41e4649b934ca495991b7852b855\",\"filename\":\"b.didx\",\"size\":0},{\"crypt-mode\":\"none\",\"csum\":\"b3c36c6bc929896d1f0c38eef424c1bcdea31c99abdd036adca4240e42e98b90\",\"filename\":\"c.didx\",\"size\":8192003}]}";
 
 /// The indexes of each snapshot are marked one after another, fixed ones too, and one without entries has no act of its own. Chunks that are

@@ -45,7 +45,7 @@ static OPENED: [Row; 1] = [(5, Step::Send(READ_FIRST), DONE, 0)];
 const DOWNLOAD: &[u8] = b"\x15\x09root.didxP\x10\0\0\0\0\0\0";
 
 /// GET_CHUNK of `abc`, and a RANGE of it.
-const GET_ABC: &[u8] =
+pub(crate) const GET_ABC: &[u8] =
     b"\x16\xbax\x16\xbf\x8f\x01\xcf\xeaAA@\xde]\xae\"#\xb0\x03a\xa3\x96\x17z\x9c\xb4\x10\xffa\xf2\0\x15\xad";
 
 const ABC_RANGE: &[u8] = b"\x17\x09root.didx\0\0\0\0\0\0\0\0\x03\0\0\0";
@@ -81,7 +81,7 @@ static IN_ORDER: [Row; 8] = [
 ];
 
 /// `abc`'s and `de`'s chunks as they stand on the disk.
-const ABC_DATA: &[u8] = b"\x10\0\0\0\0B\xab8\x07\xbe\x83p\xa1\xc2A$5abc";
+pub(crate) const ABC_DATA: &[u8] = b"\x10\0\0\0\0B\xab8\x07\xbe\x83p\xa1\xc2A$5abc";
 
 const TORN_DATA: &[u8] = b"\x10\0\0\0\0B\xab8\x07\xbe\x83p\xa1\xc2A$5abd";
 

@@ -41,17 +41,18 @@ const NOT_MARKED: Kept = (1_000_000, Some(5), Some(4), 0);
 
 const SWEPT: Kept = (1_000_000, Some(1_000_000), None, 0);
 
-/// A mark asks for the index's size and reads it; the first visit lists the chunks and removes `de`; the second has no call; the end
+/// A mark asks for the index's size, and reads its front and its page; the first visit lists the chunks and removes `de`; the second has no call; the end
 /// installs the book. In the end no call is left to fail.
-static FAULTS: [Fault; 9] = [
+static FAULTS: [Fault; 10] = [
     (WHOLE, 0, [3, 5, 5, 5, 5, 5], NOT_MARKED),
     (WHOLE, 1, [3, 5, 5, 5, 5, 5], NOT_MARKED),
-    (WHOLE, 2, [3, 1, 5, 5, 5, 5], MARKED),
+    (WHOLE, 2, [3, 5, 5, 5, 5, 5], NOT_MARKED),
     (WHOLE, 3, [3, 1, 5, 5, 5, 5], MARKED),
-    (WHOLE, 4, [3, 1, 1, 1, 5, 5], SWEPT),
+    (WHOLE, 4, [3, 1, 5, 5, 5, 5], MARKED),
     (WHOLE, 5, [3, 1, 1, 1, 5, 5], SWEPT),
     (WHOLE, 6, [3, 1, 1, 1, 5, 5], SWEPT),
-    (WHOLE, 7, [3, 1, 1, 1, 4, 0], SWEPT),
+    (WHOLE, 7, [3, 1, 1, 1, 5, 5], SWEPT),
+    (WHOLE, 8, [3, 1, 1, 1, 4, 0], SWEPT),
     (SHORT, 0, [3, 2, 5, 5, 5, 6], NOT_MARKED),
 ];
 

@@ -26,6 +26,8 @@ mod fixtures;
 #[cfg(test)]
 mod folders;
 #[cfg(test)]
+mod indexes;
+#[cfg(test)]
 mod opening;
 #[cfg(test)]
 mod reader;

@@ -1,6 +1,6 @@
 -- PREVIOUS is the store's: what is read of the base's file, and the pieces that the writer may name then.
 use Rattle.disk_trait.specs.declared.disk.Disk.{Ghosts}
-use Rattle.std.proofs.Common.{◌≡◌, ◌↔◌, ◌⊎◌, inl, inr, ⊎_elim, ◌<◌, ◌+◌, ◌-◌, ℕ, Bool, true, false, ◌&&◌, ◌||◌, cond, List, [], ◌∷◌, length, nat_lt, nat_le, drop, find, map, set, Option, Some, None, Result, Ok, Err, OnOk, OnErr, IsErrOf, IsErrAnd, refl, sym, ap, ap₂, subst, ◌∙◌, arith}
+use Rattle.std.proofs.Common.{◌≡◌, ◌↔◌, ◌⊎◌, inl, inr, ⊎_elim, ◌<◌, ◌+◌, ◌-◌, ℕ, Bool, true, false, ◌&&◌, cond, List, [], ◌∷◌, length, nat_lt, nat_le, drop, find, map, set, Option, Some, None, Result, Ok, Err, OnOk, OnErr, IsErrOf, IsErrAnd, refl, sym, ap, ap₂, subst, ◌∙◌, arith}
 use Rattle.std.proofs.lemmas.Bool.{and_parts, and_from}
 use Rattle.std.proofs.Math.ListN.{get_or-append}
 use Rattle.std.proofs.lemmas.List.{length-append, get_or-append-add}
@@ -15,8 +15,8 @@ use Rattle.store_types.specs.declared.refusal.Refusal.{Refusal}
 use Rattle.store_types.specs.declared.refusal.Refusal.TheVariants.{WrongState, BadName, NoSnapshot, NoFile, BadRange, Unreadable}
 use Rattle.store_types.specs.declared.refusal.SessionState.{SessionState}
 use Rattle.store_types.specs.Chain.Refusing.{◌>>=◌, unless, or_else}
-use Rattle.store_types.specs.FileNames.{is_file_name, is_id, is_index_name, is_fixed_name, is_dynamic_name, is_blob_name, fixed_ending, dynamic_ending, blob_ending}
-use Rattle.store_files.specs.Archive.{Layout, dynamic, fixed, Archive, Content, archive, blob, File, Snapshot, file_named, file_text, pieces_of, ends_from}
+use Rattle.store_types.specs.FileNames.{is_file_name, is_id, is_fixed_name, is_dynamic_name, is_blob_name, fixed_ending, dynamic_ending, blob_ending}
+use Rattle.store_files.specs.Archive.{Archive, Content, archive, blob, File, Snapshot, file_named, file_text, pieces_of, ends_from}
 use Rattle.wire_commands.specs.declared.command.Command.TheVariants.{Previous as PreviousCommand}
 use Rattle.wire_commands.specs.declared.reply.Reply.{Reply}
 use Rattle.wire_commands.specs.declared.reply.Reply.TheVariants.{Part}
@@ -26,13 +26,16 @@ use Rattle.store_model.specs.Stands.{FitsContent, HoldsPieces, names_content}
 use Rattle.store_files.specs.Folder.{IsPiece}
 use Rattle.store_model.specs.Steps.{outcome}
 use Rattle.store_model.specs.WriterSteps.{previous, base_of, goes_on, with_pool, part_of}
+use Rattle.store_files.specs.DynamicIndex.{Ended}
 use Rattle.dynamic_index.specs.Writing.{Known}
 use Rattle.dynamic_index.specs.Writing as indexes
 use Rattle.snapshot_files.specs.Reads.{StopHasText}
-use Rattle.snapshot_files.specs.Parts.{part_at, part_from, IsPart, RefusesPart}
+use Rattle.snapshot_files.specs.Parts.{part_at, part_from, part_reply, IsPart, RefusesPart}
 use Rattle.store_stops.specs.declared.stop.Stop.{Stop}
-use Rattle.snapshot_files.specs.Indexes.{index_at, is_fixed_layout, lengths_from, shown_index, Indexed}
-use Rattle.snapshot_files.proofs.Archives.{archive_at, lengths_of_pieces}
+use Rattle.paged_indexes.specs.declared.kinds.IndexKind.{IndexKind}
+use Rattle.paged_indexes.specs.declared.kinds.IndexKind.TheVariants.{Fixed, Dynamic}
+use Rattle.snapshot_files.specs.Indexes.{index_at, kind_named, layout_kind, lengths_from, Indexed}
+use Rattle.snapshot_files.proofs.Archives.{archive_at, layout_named, lengths_of_pieces}
 use Rattle.backup_session.specs.Session as backups
 use Rattle.backup_session.specs.Session.{Pool, settled}
 use Rattle.backup_session.specs.Steps as rows
@@ -54,12 +57,13 @@ use Rattle.store_stops.specs.Stops.{IfRefused, Gives}
 use Rattle.core_state.specs.Wanted as wants
 use Rattle.store_stops.specs.declared.stop.Stop.TheVariants.{Refused, NoMemory, DiskFailed}
 use Rattle.disk_trait.specs.Effects.{OnlyReads}
+use Rattle.disk_trait.proofs.OnlyReading.{reads_as}
 use Rattle.disk_trait.specs.declared.disk.DiskError.TheVariants as disks
 use Rattle.core_state.specs.Named.{has_text, is_named}
 use Rattle.core_state.specs.Shown.{shown_snapshot, shown_writer, shown_files}
 use Rattle.core_state.specs.Replies.{answers_previous, refuses_previous}
 use Rattle.core_state.specs.Unchanged.{SameKept, is_uncalled}
-use Rattle.core_state.specs.Unreadables.{Asked, TellsUnreadable, from_offset, whole_by, read_by}
+use Rattle.core_state.specs.Unreadables.{Asked, TellsUnreadable, from_offset, read_by}
 use Rattle.wire_commands.specs.HasText.{ReplyHasText}
 use Rattle.store_history.specs.declared.act.Act.{Act}
 use Rattle.store_history.specs.declared.act.Act.TheVariants.{Plain}
@@ -206,22 +210,13 @@ other_ending ending other name apart h =
     let both = (and_parts (is_id name) _ h).1 in
     and_none (is_id name) (bytes_eq other (last_five name)) (nat_lt 5 (length name)) (not_both ending other (last_five name) apart (and_parts (bytes_eq ending (last_five name)) _ both).0)
 
-whole_blob : (name : List ℕ) → is_blob_name name ≡ true → whole_by name ≡ None
+whole_blob : (name : List ℕ) → is_blob_name name ≡ true → kind_named name ≡ None
 whole_blob name h = by_tests (is_fixed_name name) (is_dynamic_name name) (other_ending blob_ending fixed_ending name refl h) (other_ending blob_ending dynamic_ending name refl h)
   where
-    by_tests : (a b : Bool) → a ≡ false → b ≡ false → cond a (Some true) (cond b (Some false) None) ≡ None
+    by_tests : (a b : Bool) → a ≡ false → b ≡ false → cond a (Some Fixed) (cond b (Some Dynamic) None) ≡ None
     by_tests false false e f = refl
     by_tests false true e f = cc
     by_tests true b e f = cc
-
-whole_archive : (layout : Layout) (name : List ℕ) → elim layout [ dynamic ↦ is_dynamic_name name | fixed size chunk_size ↦ is_fixed_name name ] ≡ true → whole_by name ≡ Some (is_fixed_layout layout)
-whole_archive dynamic name h = by_tests (is_fixed_name name) (is_dynamic_name name) (other_ending dynamic_ending fixed_ending name refl h) h
-  where
-    by_tests : (a b : Bool) → a ≡ false → b ≡ true → cond a (Some true) (cond b (Some false) None) ≡ Some false
-    by_tests false true e f = refl
-    by_tests false false e f = cc
-    by_tests true b e f = cc
-whole_archive (fixed size cut) name h = ap (λ b. cond b (Some true) (cond (is_dynamic_name name) (Some false) None)) h
 
 -- ---- what a file of the store gives
 
@@ -239,34 +234,34 @@ lengths_part : (a : Archive) (part : Result Reply Refusal)
 lengths_part a (Err e) = refl
 lengths_part a (Ok reply) = ap (λ ks. let r : Result Previous Refusal = Ok (record { part = reply; pieces = ks }) in r) (lengths_of_pieces 0 a.pieces)
 
-gives_archive : (m : Files) (path : List ℕ) (offset : ℕ) (a : Archive) → FitsContent (archive a) → get m path ≡ Some (file_text (archive a)) → previous_by (Some (is_fixed_layout a.layout)) m path offset ≡ gives (archive a) (part_from (file_text (archive a)) offset)
+gives_archive : (m : Files) (path : List ℕ) (offset : ℕ) (a : Archive) → FitsContent (archive a) → get m path ≡ Some (file_text (archive a)) → previous_by (Some (layout_kind a.layout)) m path offset ≡ gives (archive a) (part_from (file_text (archive a)) offset)
 unfolding file_text
 gives_archive m path offset a fits at =
     ap (λ q. q >>= λ x. let r : Result Previous Refusal = Ok (record { part = x.part; pieces = lengths_from 0 x.entries }) in r) (archive_at m path offset a fits at)
     ∙ lengths_part a (part_from (file_text (archive a)) offset)
 
 given : (m : Files) (path name : List ℕ) (offset : ℕ) (content : Content) → names_content content name ≡ true → FitsContent content → get m path ≡ Some (file_text content)
-    → previous_by (whole_by name) m path offset ≡ gives content (part_from (file_text content) offset)
+    → previous_by (kind_named name) m path offset ≡ gives content (part_from (file_text content) offset)
 given m path name offset (blob bytes) kind fits at = ap (λ o. previous_by o m path offset) (whole_blob name kind) ∙ gives_blob m path bytes offset at
-given m path name offset (archive a) kind fits at = ap (λ o. previous_by o m path offset) (whole_archive a.layout name kind) ∙ gives_archive m path offset a fits at
+given m path name offset (archive a) kind fits at = ap (λ o. previous_by o m path offset) (layout_named a name kind) ∙ gives_archive m path offset a fits at
 
 -- the part alone
-part_alone : (whole : Option Bool) (m : Files) (path : List ℕ) (offset : ℕ) → (previous_by whole m path offset >>= λ p. Ok p.part) ≡ read_by whole m path offset
+part_alone : (whole : Option IndexKind) (m : Files) (path : List ℕ) (offset : ℕ) → (previous_by whole m path offset >>= λ p. Ok p.part) ≡ read_by whole m path offset
 part_alone None m path offset = by_part (read_by None m path offset)
   where
     by_part : (r : Result Reply Refusal) → ((r >>= λ part. let q : Result Previous Refusal = Ok (record { part = part; pieces = [] }) in q) >>= λ p. Ok p.part) ≡ r
     by_part (Ok part) = refl
     by_part (Err e) = refl
-part_alone (Some is_fixed) m path offset = by_index (index_at m path is_fixed offset)
+part_alone (Some kind) m path offset = by_index (index_at m path kind offset)
   where
     by_index : (r : Result Indexed Refusal) → ((r >>= λ x. let q : Result Previous Refusal = Ok (record { part = x.part; pieces = lengths_from 0 x.entries }) in q) >>= λ p. Ok p.part) ≡ (r >>= λ x. Ok x.part)
     by_index (Ok x) = refl
     by_index (Err e) = refl
 
-pub part_is : (m : Files) (path : List ℕ) (whole : Option Bool) (offset : ℕ) (p : Previous) → previous_by whole m path offset ≡ Ok p → Ok p.part ≡ read_by whole m path offset
+pub part_is : (m : Files) (path : List ℕ) (whole : Option IndexKind) (offset : ℕ) (p : Previous) → previous_by whole m path offset ≡ Ok p → Ok p.part ≡ read_by whole m path offset
 part_is m path whole offset p is = sym (ap (λ r. r >>= λ p. Ok p.part) is) ∙ part_alone whole m path offset
 
-pub refusal_is : (m : Files) (path : List ℕ) (whole : Option Bool) (offset : ℕ) (r : Refusal) → previous_by whole m path offset ≡ Err r → Err r ≡ read_by whole m path offset
+pub refusal_is : (m : Files) (path : List ℕ) (whole : Option IndexKind) (offset : ℕ) (r : Refusal) → previous_by whole m path offset ≡ Err r → Err r ≡ read_by whole m path offset
 refusal_is m path whole offset r is = sym (ap (λ q. q >>= λ p. Ok p.part) is) ∙ part_alone whole m path offset
 
 -- ---- what is kept
@@ -356,7 +351,7 @@ module _ {D : Type 0} (d : Ghosts D) (old new : Parts D) (s : Store) (lane m : �
   fits : FitsContent file
   fits = there_fits s.snapshots b.key name path b.there ((h.shows).sound).each
 
-  read_is : previous_by (whole_by name) (d.content old.disk) path offset ≡ gives file (part_from (file_text file) offset)
+  read_is : previous_by (kind_named name) (d.content old.disk) path offset ≡ gives file (part_from (file_text file) offset)
   read_is =
       given (d.content old.disk) path name offset file (there_kind s.snapshots b.key name path b.there ((h.shows).sound).each) fits
       (there_text (d.content old.disk) s.snapshots b.key name path b.there ((h.files).snapshots).files)
@@ -365,11 +360,11 @@ module _ {D : Type 0} (d : Ghosts D) (old new : Parts D) (s : Store) (lane m : �
   outcome_is = reads_it s lane name offset m w path b at good
 
   -- the part is refused
-  pub part_refused : (r : Refusal) → previous_by (whole_by name) (d.content old.disk) path offset ≡ Err r → outcome s lane m (PreviousCommand name offset) ≡ Err r
+  pub part_refused : (r : Refusal) → previous_by (kind_named name) (d.content old.disk) path offset ≡ Err r → outcome s lane m (PreviousCommand name offset) ≡ Err r
   part_refused r is = outcome_is ∙ refused_by s lane name offset w file r (part_from (file_text file) offset) (sym read_is ∙ is)
 
   -- it is given, and its pieces may be named
-  pub part_done : (p : Previous) (y : Session) → lane < 64 → previous_by (whole_by name) (d.content old.disk) path offset ≡ Ok p
+  pub part_done : (p : Previous) (y : Session) → lane < 64 → previous_by (kind_named name) (d.content old.disk) path offset ≡ Ok p
       → (d.honest old.disk ↔ d.honest new.disk) → (d.honest old.disk → d.content new.disk ≡ d.content old.disk) → new.catalogue.listed ≡ old.catalogue.listed → new.sessions.items ≡ set old.sessions.items lane y → new.locks ≡ old.locks
       → ((shown : List (List ℕ)) → p.pieces ≡ map known_of shown → y ≡ kept.Writer (shown_writer (with_pool shown w)))
       → (after : Store) × (outcome s lane m (PreviousCommand name offset) ≡ Ok (after, p.part)) × Shows new after × IsOnDisk (d.content new.disk) after
@@ -453,13 +448,6 @@ stop_gives f wanted Q (Refused r) so g = so r g
 stop_gives f wanted Q NoMemory so g = tt
 stop_gives f wanted Q DiskFailed so g = tt
 
-reads_as : {D : Type 0} (d : Ghosts D) (old new : D) (failed by : Type 0) → (by → failed) → OnlyReads d old new failed → OnlyReads d old new by
-reads_as d old new failed by why x = record {
-  serves = record { kept = (x.serves).kept; count = (x.serves).count; cause = λ f. (x.serves).cause (why f) };
-  crash = x.crash;
-  same = x.same;
-}
-
 -- and of one without a fault
 pub reads_short : {D : Type 0} (d : Ghosts D) (old new : D) (failed : Type 0) → OnlyReads d old new failed → OnlyReads d old new (IsErrOf {T = Given} (Err NoMemory) DiskFailed)
 reads_short d old new failed x = reads_as d old new failed _ never x
@@ -503,22 +491,22 @@ module _ {D : Type 0} (d : Ghosts D) (disk : D) (name : List ℕ) (offset : ℕ)
   -- the file was read
   module _ (w : Writing) (path : List ℕ) (at : found ≡ kept.Writer w) (good : is_file_name name ≡ true) (there : base_file ((w.session).writer).base name catalogue ≡ Ok path) where
     abbrev a : Asked
-    a = record { path = path; way = from_offset (whole_by name) offset }
+    a = record { path = path; way = from_offset (kind_named name) offset }
 
     asked_is : asks ≡ Some a
     asked_is = asked_writer name offset found w catalogue (Ok path) at good there
 
     pub tells_unread : (e : Stop) (result : Result Reply Stop) → IsErrAnd result (λ x. x ≡ e) → IfRefused (RefusesPart path) e
-        → (d.honest disk → Gives shown_given (Err e) (previous_by (whole_by name) (d.content disk) path offset)) → TellsSo d disk asks result
+        → (d.honest disk → Gives shown_given (Err e) (previous_by (kind_named name) (d.content disk) path offset)) → TellsSo d disk asks result
     tells_unread e result is kind exact = by_stop d disk asks result e is (by_error e kind exact)
       where
-        by_error : (e : Stop) → IfRefused (RefusesPart path) e → (d.honest disk → Gives shown_given (Err e) (previous_by (whole_by name) (d.content disk) path offset)) → TellsSo d disk asks (Err e)
-        by_error (Refused r) kind exact = tells_read d disk asks a (Err r) asked_is kind (λ honest. refusal_is (d.content disk) path (whole_by name) offset r (exact honest))
+        by_error : (e : Stop) → IfRefused (RefusesPart path) e → (d.honest disk → Gives shown_given (Err e) (previous_by (kind_named name) (d.content disk) path offset)) → TellsSo d disk asks (Err e)
+        by_error (Refused r) kind exact = tells_read d disk asks a (Err r) asked_is kind (λ honest. refusal_is (d.content disk) path (kind_named name) offset r (exact honest))
         by_error NoMemory kind exact = tells_failed d disk asks disks.NoMemory
         by_error DiskFailed kind exact = tells_failed d disk asks disks.Failed
 
-    pub tells_given : (g : Given) → IsPart g.part → (d.honest disk → previous_by (whole_by name) (d.content disk) path offset ≡ Ok (shown_given g)) → TellsSo d disk asks (Ok g.part)
-    tells_given g kind exact = tells_read d disk asks a (Ok g.part) asked_is kind (λ honest. part_is (d.content disk) path (whole_by name) offset (shown_given g) (exact honest))
+    pub tells_given : (g : Given) → IsPart (part_reply g.part) → (d.honest disk → previous_by (kind_named name) (d.content disk) path offset ≡ Ok (shown_given g)) → TellsSo d disk asks (Ok (part_reply g.part))
+    tells_given g kind exact = tells_read d disk asks a (Ok (part_reply g.part)) asked_is kind (λ honest. part_is (d.content disk) path (kind_named name) offset (shown_given g) (exact honest))
 
 pub base_of_shown : (v : Writer) (w : Writing) → shown_writer v ≡ w → v.base ≡ ((w.session).writer).base
 unfolding shown
@@ -542,54 +530,41 @@ shown_known v pieces =
 
 -- ---- what was read
 
-whole_index : (name : List ℕ) → is_index_name name ≡ true → Some (is_fixed_name name) ≡ whole_by name
-whole_index name h = by_tests (is_fixed_name name) (is_dynamic_name name) h
-  where
-    by_tests : (a b : Bool) → (a || b) ≡ true → Some a ≡ cond a (Some true) (cond b (Some false) None)
-    by_tests true b e = refl
-    by_tests false true e = refl
-    by_tests false false e = cc
-
-whole_none : (name : List ℕ) → is_index_name name ≡ false → None ≡ whole_by name
-whole_none name h = by_tests (is_fixed_name name) (is_dynamic_name name) h
-  where
-    by_tests : (a b : Bool) → (a || b) ≡ false → None ≡ cond a (Some true) (cond b (Some false) None)
-    by_tests false false e = refl
-    by_tests false true e = cc
-    by_tests true b e = cc
-
-pub whole_read : (m : Files) (path name : List ℕ) (offset : ℕ) (fixed_is : Bool) (P : Result Previous Refusal → Type 0) → is_index_name name ≡ true → fixed_is ≡ is_fixed_name name
-    → P (previous_by (Some fixed_is) m path offset) → P (previous_by (whole_by name) m path offset)
-whole_read m path name offset fixed_is P index is h = subst (λ o. P (previous_by o m path offset)) (ap (λ b. Some b) is ∙ whole_index name index) h
-
 -- a file that is no index
-plain_is : (m : Files) (path name : List ℕ) (offset : ℕ) → is_index_name name ≡ false → previous_by (whole_by name) m path offset ≡ (part_at m path offset >>= λ part. Ok (record { part = part; pieces = [] }))
-plain_is m path name offset plain = ap (λ o. previous_by o m path offset) (sym (whole_none name plain))
+plain_is : (m : Files) (path name : List ℕ) (offset : ℕ) → kind_named name ≡ None → previous_by (kind_named name) m path offset ≡ (part_at m path offset >>= λ part. Ok (record { part = part; pieces = [] }))
+plain_is m path name offset plain = ap (λ o. previous_by o m path offset) plain
 
-pub plain_read : (m : Files) (path name : List ℕ) (offset : ℕ) (g : Given) (part : Reply) → is_index_name name ≡ false → part_at m path offset ≡ Ok part → g.part ≡ part → g.pieces.items ≡ [] → Gives shown_given (Ok g) (previous_by (whole_by name) m path offset)
+pub plain_read : (m : Files) (path name : List ℕ) (offset : ℕ) (g : Given) (part : Reply) → kind_named name ≡ None → part_at m path offset ≡ Ok part → (part_reply g.part) ≡ part → g.pieces.items.items ≡ [] → Gives shown_given (Ok g) (previous_by (kind_named name) m path offset)
 plain_read m path name offset g part plain is same none =
     plain_is m path name offset plain ∙ ap (λ q. q >>= λ x. let p : Result Previous Refusal = Ok (record { part = x; pieces = [] }) in p) is
     ∙ ap (λ x. let p : Result Previous Refusal = Ok (record { part = x; pieces = [] }) in p) (sym same)
-    ∙ ap (λ xs. let p : Result Previous Refusal = Ok (record { part = g.part; pieces = map indexes.known_of xs }) in p) (sym none)
+    ∙ ap (λ xs. let p : Result Previous Refusal = Ok (record { part = (part_reply g.part); pieces = map indexes.known_of xs }) in p) (sym none)
 
-pub plain_unread : (m : Files) (path name : List ℕ) (offset : ℕ) (e : Stop) (result : Result Given Stop) → IsErrAnd result (λ x. x ≡ e) → is_index_name name ≡ false → Gives {A = Reply} (λ part. part) (Err e) (part_at m path offset)
-    → Gives shown_given result (previous_by (whole_by name) m path offset)
+pub plain_unread : (m : Files) (path name : List ℕ) (offset : ℕ) (e : Stop) (result : Result Given Stop) → IsErrAnd result (λ x. x ≡ e) → kind_named name ≡ None → Gives part_reply (Err e) (part_at m path offset)
+    → Gives shown_given result (previous_by (kind_named name) m path offset)
 plain_unread m path name offset e (Ok g) is plain gives = absurd is
-plain_unread m path name offset e (Err x) is plain gives = subst (λ y. Gives shown_given (Err y) (previous_by (whole_by name) m path offset)) (sym is) (by_error e gives)
+plain_unread m path name offset e (Err x) is plain gives = subst (λ y. Gives shown_given (Err y) (previous_by (kind_named name) m path offset)) (sym is) (by_error e gives)
   where
-    by_error : (e : Stop) → Gives {A = Reply} (λ part. part) (Err e) (part_at m path offset) → Gives shown_given (Err e) (previous_by (whole_by name) m path offset)
+    by_error : (e : Stop) → Gives part_reply (Err e) (part_at m path offset) → Gives shown_given (Err e) (previous_by (kind_named name) m path offset)
     by_error (Refused r) is = plain_is m path name offset plain ∙ ap (λ q. q >>= λ x. let p : Result Previous Refusal = Ok (record { part = x; pieces = [] }) in p) is
     by_error NoMemory is = tt
     by_error DiskFailed is = tt
 
 -- an index
-pub index_unread : (m : Files) (path : List ℕ) (is_fixed : Bool) (offset : ℕ) (e : Stop) (result : Result Given Stop) → IsErrAnd result (λ x. x ≡ e) → Gives shown_index (Err e) (index_at m path is_fixed offset)
-    → Gives shown_given result (previous_by (Some is_fixed) m path offset)
-index_unread m path is_fixed offset e (Ok g) is gives = absurd is
-index_unread m path is_fixed offset e (Err x) is gives = subst (λ y. Gives shown_given (Err y) (previous_by (Some is_fixed) m path offset)) (sym is) (by_error e gives)
+pub whole_given : (m : Files) (path q : List ℕ) (kind : IndexKind) (offset : ℕ) (part : Reply) (entries : List Ended) (pieces : List Known) → q ≡ path
+    → index_at m q kind offset ≡ Ok (record { part = part; entries = entries }) → pieces ≡ lengths_from 0 entries
+    → previous_by (Some kind) m path offset ≡ Ok (record { part = part; pieces = pieces })
+whole_given m path q kind offset part entries pieces same is are =
+    ap (λ r. r >>= λ x. let p : Result Previous Refusal = Ok (record { part = x.part; pieces = lengths_from 0 x.entries }) in p) (ap (λ p. index_at m p kind offset) (sym same) ∙ is)
+    ∙ ap (λ ks. let p : Result Previous Refusal = Ok (record { part = part; pieces = ks }) in p) (sym are)
+
+pub index_unread : (m : Files) (path q : List ℕ) (kind : IndexKind) (offset : ℕ) (e : Stop) (result : Result Given Stop) → IsErrAnd result (λ x. x ≡ e) → q ≡ path → IfRefused (λ r. index_at m q kind offset ≡ Err r) e
+    → Gives shown_given result (previous_by (Some kind) m path offset)
+index_unread m path q kind offset e (Ok g) is same gives = absurd is
+index_unread m path q kind offset e (Err x) is same gives = subst (λ y. Gives shown_given (Err y) (previous_by (Some kind) m path offset)) (sym is) (by_error e gives)
   where
-    by_error : (e : Stop) → Gives shown_index (Err e) (index_at m path is_fixed offset) → Gives shown_given (Err e) (previous_by (Some is_fixed) m path offset)
-    by_error (Refused r) is = ap (λ q. q >>= λ x. let p : Result Previous Refusal = Ok (record { part = x.part; pieces = lengths_from 0 x.entries }) in p) is
+    by_error : (e : Stop) → IfRefused (λ r. index_at m q kind offset ≡ Err r) e → Gives shown_given (Err e) (previous_by (Some kind) m path offset)
+    by_error (Refused r) is = ap (λ y. y >>= λ x. let p : Result Previous Refusal = Ok (record { part = x.part; pieces = lengths_from 0 x.entries }) in p) (ap (λ p. index_at m p kind offset) (sym same) ∙ is)
     by_error NoMemory is = tt
     by_error DiskFailed is = tt
 
@@ -639,9 +614,9 @@ module _ {D : Type 0} (d : Ghosts D) (parts : Parts D) (at : Place) (name : List
         stopped_leaves d parts new at act e result failed is read kept refl
         (stop_as (RefusesPart path) (λ r. is_uncalled r ≡ true → new.disk ≡ parts.disk) e (λ r k t. absurd (false_true (sym (refusal_called path r k) ∙ t))) kind) (λ closing. false_true closing)
 
-    pub given_leaves : (g : Given) → IsPart g.part → new.catalogue.listed ≡ parts.catalogue.listed → ActLeaves d parts new at act (Ok g.part)
+    pub given_leaves : (g : Given) → IsPart (part_reply g.part) → new.catalogue.listed ≡ parts.catalogue.listed → ActLeaves d parts new at act (Ok (part_reply g.part))
     given_leaves g kind c =
-        writes_leaves d parts new at act g.part (part_plain g.part kind) refl (λ h. read.same h) read.crash tt c (λ admin. absurd (false_true admin)) (adds_same d parts new act (Ok g.part) read.same) (λ ends. absurd (false_true ends)) (λ writes. absurd (false_true writes))
+        writes_leaves d parts new at act (part_reply g.part) (part_plain (part_reply g.part) kind) refl (λ h. read.same h) read.crash tt c (λ admin. absurd (false_true admin)) (adds_same d parts new act (Ok (part_reply g.part)) read.same) (λ ends. absurd (false_true ends)) (λ writes. absurd (false_true writes))
 
     module _ (w : Writing) (path : List ℕ) (lt : at.lane < 64) (writes : wants.want_writer (session_at parts at.lane) ≡ Ok w) (good : is_file_name name ≡ true) (there : base_file ((w.session).writer).base name parts.catalogue.listed ≡ Ok path) where
       based : (s : Store) (v : Writer) → Holds d parts s → shown_writer v ≡ w → HasBase s at.lane name offset v path
@@ -649,21 +624,21 @@ module _ {D : Type 0} (d : Ghosts D) (parts : Parts D) (at : Place) (name : List
 
       -- it is not read
       pub unread_does : (e : Stop) (result : Result Reply Stop) → IsErrAnd result (λ x. x ≡ e) → (IsErrOf {T = Given} (Err e) DiskFailed → failed) → SameKept parts new → StopHasText e → IfRefused (RefusesPart path) e
-          → (d.honest parts.disk → Gives shown_given (Err e) (previous_by (whole_by name) (d.content parts.disk) path offset)) → ActDoes d parts new at act result
+          → (d.honest parts.disk → Gives shown_given (Err e) (previous_by (kind_named name) (d.content parts.disk) path offset)) → ActDoes d parts new at act result
       unread_does e result is why kept text kind exact =
           stopped_does d {A = Given} parts new at act (Err e) e result is refl (reads_as d parts.disk new.disk failed _ why read) kept
           text (stop_as (RefusesPart path) (λ r. refuses_previous r ≡ true) e (λ r k. refusal_answers path r k) kind)
           (λ s h.
           let (v, v_at, v_is) = writer_shown parts s at.lane w h.shows lt writes in
-          stop_gives shown_given (previous_by (whole_by name) (d.content parts.disk) path offset) (λ r. outcome s at.lane at.moment (PreviousCommand name offset) ≡ Err r) e
+          stop_gives shown_given (previous_by (kind_named name) (d.content parts.disk) path offset) (λ r. outcome s at.lane at.moment (PreviousCommand name offset) ≡ Err r) e
           (λ r is. part_refused d parts new s at.lane at.moment name path offset v v_at good h (based s v h v_is) r is) (exact h.honest))
 
       -- it is given
-      pub given_does : (g : Given) (y found : Session) → IsPart g.part → ReplyHasText g.part → (d.honest parts.disk → previous_by (whole_by name) (d.content parts.disk) path offset ≡ Ok (shown_given g))
-          → new.catalogue.listed ≡ parts.catalogue.listed → new.sessions.items ≡ set parts.sessions.items at.lane y → new.locks ≡ parts.locks → found ≡ kept.Writer w → y ≡ with_known (map indexes.known_of g.pieces.items) found
-          → ActDoes d parts new at act (Ok g.part)
+      pub given_does : (g : Given) (y found : Session) → IsPart (part_reply g.part) → ReplyHasText (part_reply g.part) → (d.honest parts.disk → previous_by (kind_named name) (d.content parts.disk) path offset ≡ Ok (shown_given g))
+          → new.catalogue.listed ≡ parts.catalogue.listed → new.sessions.items ≡ set parts.sessions.items at.lane y → new.locks ≡ parts.locks → found ≡ kept.Writer w → y ≡ with_known (map indexes.known_of g.pieces.items.items) found
+          → ActDoes d parts new at act (Ok (part_reply g.part))
       given_does g y found kind text exact c l k found_is y_is =
-          writes_does d parts new at act g.part failed read.serves text (part_answers g.part kind) (part_plain g.part kind)
+          writes_does d parts new at act (part_reply g.part) failed read.serves text (part_answers (part_reply g.part) kind) (part_plain (part_reply g.part) kind)
           (λ safe s h.
           let (v, v_at, v_is) = writer_shown parts s at.lane w h.shows lt writes in
           part_done d parts new s at.lane at.moment name path offset v v_at good h (based s v h v_is) (shown_given g) y lt (exact h.honest) (read.serves).kept read.same c l k

@@ -1,5 +1,5 @@
 -- PREVIOUS, by what the core keeps and what the disk holds.
-use Rattle.std.specs.Prelude.{◌≡◌, ◌≤◌, ℕ, Bool, List, [], map, if◌then◌else◌, Option, None, Some, Result, Ok, Err, MatchResult}
+use Rattle.std.specs.Prelude.{◌≡◌, ◌≤◌, ℕ, List, [], map, if◌then◌else◌, Option, None, Some, Result, Ok, Err, MatchResult}
 use Rattle.std.specs.List.{AllByRecursion}
 use Rattle.std.specs.Borrow.{Bor}
 use Rattle.disk_trait.specs.declared.disk.Disk.{Ghosts}
@@ -11,7 +11,9 @@ use Rattle.store_types.specs.Chain.Refusing.{◌>>=◌, or_else}
 use Rattle.store_types.specs.FileNames.{is_file_name}
 use Rattle.wire_commands.specs.declared.reply.Reply.{Reply}
 use Rattle.dynamic_index.specs.Writing.{Known, known_of}
-use Rattle.snapshot_files.specs.Indexes.{index_at, lengths_from}
+use Rattle.paged_indexes.specs.declared.kinds.IndexKind.{IndexKind}
+use Rattle.snapshot_files.specs.Indexes.{index_at, kind_named, lengths_from}
+use Rattle.snapshot_files.specs.Parts.{part_reply}
 use Rattle.store_stops.specs.Stops.{Gives}
 use Rattle.store_stops.specs.declared.stop.Stop.{Stop}
 use Rattle.backup_session.specs.Session.{settled}
@@ -22,7 +24,7 @@ use Rattle.core_state.specs.declared.kept.Writing.{Writing}
 use Rattle.core_state.specs.declared.kept.Session.{Session}
 use Rattle.core_state.specs.declared.kept.Session.TheVariants.{Idle, Writer, Reader}
 use Rattle.core_state.specs.Found.{kept_named, path_named}
-use Rattle.core_state.specs.Unreadables.{Asked, from_offset, whole_by, read_by}
+use Rattle.core_state.specs.Unreadables.{Asked, from_offset, read_by}
 use Rattle.core_uploads.specs.declared.previous_files.Given.{Given}
 
 -- ---- the file of the base
@@ -43,7 +45,7 @@ LendsPath base name catalogue result =
     MatchResult result (λ path. base_file base name catalogue ≡ Ok path.now) (λ refusal. base_file base name catalogue ≡ Err refusal)
 
 abbrev pub asked_at : List ℕ → ℕ → Result (List ℕ) Refusal → Option Asked
-asked_at name offset (Ok path) = Some (record { path = path; way = from_offset (whole_by name) offset })
+asked_at name offset (Ok path) = Some (record { path = path; way = from_offset (kind_named name) offset })
 asked_at name offset (Err refusal) = None
 
 -- the file that a session's writer asks for
@@ -59,15 +61,15 @@ pub record Previous : Type 0 where
   pub part : Reply
   pub pieces : List Known
 
-abbrev pub previous_by : Option Bool → Files → List ℕ → ℕ → Result Previous Refusal
+abbrev pub previous_by : Option IndexKind → Files → List ℕ → ℕ → Result Previous Refusal
 previous_by None m path offset = read_by None m path offset >>= λ part. Ok (record { part = part; pieces = [] })
-previous_by (Some is_fixed) m path offset = index_at m path is_fixed offset >>= λ x. Ok (record { part = x.part; pieces = lengths_from 0 x.entries })
+previous_by (Some kind) m path offset = index_at m path kind offset >>= λ x. Ok (record { part = x.part; pieces = lengths_from 0 x.entries })
 
 abbrev pub shown_given : Given → Previous
-shown_given g = record { part = g.part; pieces = map known_of g.pieces.items }
+shown_given g = record { part = part_reply g.part; pieces = map known_of g.pieces.items.items }
 
 -- an honest disk gives it, or the refusal is told
-abbrev pub GivesPrevious : {D : Type 0} → Ghosts D → D → List ℕ → Option Bool → ℕ → Result Given Stop → Type 0
+abbrev pub GivesPrevious : {D : Type 0} → Ghosts D → D → List ℕ → Option IndexKind → ℕ → Result Given Stop → Type 0
 GivesPrevious d disk path whole offset result =
     d.honest disk → Gives shown_given result (previous_by whole (d.content disk) path offset)
 

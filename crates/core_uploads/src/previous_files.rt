@@ -6,29 +6,46 @@ ghost use Rattle.dynamic_index.specs.Writing.{known_of};
 ghost use Rattle.wire_commands.specs.HasText.{ReplyHasText};
 ghost use Rattle.wire_commands.specs.declared.command.Command.TheVariants.{Previous};
 ghost use Rattle.wire_commands.specs.declared.reply.Reply.TheVariants.{Refused};
-ghost use Rattle.snapshot_files.specs.Parts.{IsPart, RefusesPart};
+ghost use Rattle.snapshot_files.specs.Indexes.{kind_named, lengths_from};
+ghost use Rattle.snapshot_files.specs.Parts.{PartHasText, RefusesPart};
 ghost use Rattle.snapshot_files.specs.Reads.{StopHasText};
 ghost use Rattle.store_stops.specs.Stops.{IfRefused};
 ghost use Rattle.core_state.specs.Commands.{PlainDoes, PlainLeaves};
 ghost use Rattle.core_state.specs.Found.{lent_key};
 ghost use Rattle.core_state.specs.Replies.{refuses_previous};
-ghost use Rattle.core_state.specs.Unreadables.{ActUnreadable, whole_by};
+ghost use Rattle.core_state.specs.Unreadables.{ActUnreadable};
 ghost use Rattle.core_uploads.specs.Previous.{ArePieces, GivesPrevious, LendsPath, MayKnow, asked_of_base, with_known};
 
 use crate::names::file_name;
 use core_state::{Catalogue, Parts, Place, Session, path_named};
 use disk_trait::Disk;
-use snapshot_files::{FilePath, IndexPart, lengths_of, read_index, read_part};
+use paged_indexes::{IndexEntry, IndexKind, TakesEntries};
+use snapshot_files::{FilePart, FilePath, kind_of, read_index, read_part};
 use std::alloc::{AllocError, Global};
 use store_stops::Stop;
 use store_types::{Digest32, FileName, Refusal, SnapshotKey};
 use wire_commands::Reply;
 
-/// A part of a file of the base; and of each piece of an index the digest and the length in bytes.
+/// The pieces of an index as they are read: of each the digest and the length in bytes.
+#[derive(Drop)]
+struct Pieces {
+    items: Vec<(Digest32, u32)>,
+}
+
+impl TakesEntries for Pieces {
+    ghost taken = { λ p base entries. map known_of p.items.items ≡ lengths_from base entries };
+
+    fn take(&mut self, start: u64, entry: &IndexEntry) -> Result<(), AllocError> {
+        self.items.push((entry.digest, (entry.end - start) as u32))?;
+        Ok(())
+    }
+}
+
+/// A part of a file of the base, and the pieces of an index.
 #[derive(Drop)]
 struct Given {
-    part: Reply,
-    pieces: Vec<(Digest32, u32)>,
+    part: FilePart,
+    pieces: Pieces,
 }
 
 /// Where the base's file of that name stands.
@@ -47,24 +64,28 @@ fn base_file<'a>(
     path_named(kept.files.as_slice(), name).ok_or(Refusal::NoFile)
 }
 
-/// A part of an index that is read whole, and its pieces.
+/// A part of an index that is read whole, page by page, and its pieces.
 fn read_whole<D: Disk>(
     disk: &mut D,
     alloc: Global,
     path: &FilePath,
-    is_fixed: bool,
+    kind: IndexKind,
     offset: u64,
 ) -> Result<Given, Stop>
     ensures reads { OnlyReads D.Disk disk.old disk.new (IsErrOf result Stop.DiskFailed) }
-    ensures exact { GivesPrevious D.Disk disk.old path.now (Some is_fixed) offset result }
-    ensures kind { MatchResult result (λ g. IsPart g.part) (IfRefused (RefusesPart path.now)) }
-    ensures text { MatchResult result (λ g. ReplyHasText g.part) StopHasText }
-    ensures pieces { IfOk result (λ g. ArePieces (map known_of g.pieces.items)) }
+    ensures exact { GivesPrevious D.Disk disk.old path.now (Some kind) offset result }
+    ensures kind { IfErr result (IfRefused (RefusesPart path.now)) }
+    ensures text { MatchResult result (λ g. PartHasText g.part) StopHasText }
+    ensures pieces { IfOk result (λ g. ArePieces (map known_of g.pieces.items.items)) }
 {
-    let index = read_index(disk, alloc, path.as_str(), is_fixed, offset)?;
-    let IndexPart { part, entries } = index;
-    let pieces = lengths_of(alloc, &entries)?;
-    Ok(Given { part, pieces })
+    let mut pieces = Pieces {
+        items: Vec::new(alloc),
+    };
+    let index = read_index(disk, alloc, path.as_str(), kind, offset, &mut pieces)?;
+    Ok(Given {
+        part: index.part,
+        pieces,
+    })
 }
 
 /// A part of a file, and its pieces where it is an index.
@@ -76,19 +97,19 @@ fn read_file<D: Disk>(
     offset: u64,
 ) -> Result<Given, Stop>
     ensures reads { OnlyReads D.Disk disk.old disk.new (IsErrOf result Stop.DiskFailed) }
-    ensures exact { GivesPrevious D.Disk disk.old path.now (whole_by name.now) offset result }
-    ensures kind { MatchResult result (λ g. IsPart g.part) (IfRefused (RefusesPart path.now)) }
-    ensures text { MatchResult result (λ g. ReplyHasText g.part) StopHasText }
-    ensures pieces { IfOk result (λ g. ArePieces (map known_of g.pieces.items)) }
+    ensures exact { GivesPrevious D.Disk disk.old path.now (kind_named name.now) offset result }
+    ensures kind { IfErr result (IfRefused (RefusesPart path.now)) }
+    ensures text { MatchResult result (λ g. PartHasText g.part) StopHasText }
+    ensures pieces { IfOk result (λ g. ArePieces (map known_of g.pieces.items.items)) }
 {
-    if name.is_index() {
-        return read_whole(disk, alloc, path, name.is_fixed(), offset);
+    if let Some(kind) = kind_of(name) {
+        return read_whole(disk, alloc, path, kind, offset);
     }
     let part = read_part(disk, alloc, path.as_str(), offset)?;
-    Ok(Given {
-        part,
-        pieces: Vec::new(alloc),
-    })
+    let pieces = Pieces {
+        items: Vec::new(alloc),
+    };
+    Ok(Given { part, pieces })
 }
 
 /// The session's writer may name the pieces from now on. At want of memory the session is as before.
@@ -132,6 +153,9 @@ pub fn previous<D: Disk>(
     let path = base_file(&parts.catalogue, w.session.base(), &name)?;
     let given = read_file(&mut parts.disk, alloc, path, &name, offset)?;
     let session = &mut parts.sessions[at.lane as usize];
-    note(session, alloc, &given.pieces)?;
-    Ok(given.part)
+    note(session, alloc, &given.pieces.items)?;
+    Ok(Reply::Part {
+        total: given.part.total,
+        bytes: given.part.bytes,
+    })
 }

@@ -1,5 +1,5 @@
 -- The index of an archive that fits is read as the archive's pieces.
-use Rattle.std.proofs.Common.{◌≡◌, ℕ, suc, ◌+◌, ◌-◌, ◌≤◌, Bool, true, false, ◌&&◌, nat_lt, drop, IsTrue, List, [], ◌∷◌, length, map, Some, Ok, refl, sym, ap, ap₂, ◌∙◌, arith}
+use Rattle.std.proofs.Common.{◌≡◌, ℕ, suc, ◌+◌, ◌-◌, ◌≤◌, Bool, true, false, ◌&&◌, nat_lt, drop, IsTrue, List, [], ◌∷◌, ◌++◌, length, map, Option, Some, None, if◌then◌else◌, Ok, refl, sym, ap, ap₂, ◌∙◌, arith}
 use Rattle.std.specs.Prelude.{◌==◌}
 use Rattle.std.specs.List.{AllByRecursion}
 use Rattle.std.specs.FinMap.{get}
@@ -16,9 +16,14 @@ use Rattle.store_files.specs.Archive.{Layout, dynamic, fixed, Archive, archive, 
 use Rattle.store_model.specs.Stands.{fills_size, FitsLayout, FitsContent, names_content}
 use Rattle.fixed_index.proofs.Spelling.{fixed_of-fixed_text}
 use Rattle.dynamic_index.proofs.Spelling.{dynamic_of-dynamic_text}
+use Rattle.dynamic_index.specs.Pieces.{last_end}
 use Rattle.dynamic_index.specs.Writing.{Known}
 use Rattle.snapshot_files.specs.Parts.{part_from}
-use Rattle.snapshot_files.specs.Indexes.{fixed_ends_from, entries_in, is_fixed_layout, index_at, lengths_from}
+use Rattle.paged_indexes.specs.Fixed.{fixed_ends_from}
+use Rattle.paged_indexes.specs.declared.kinds.IndexKind.{IndexKind}
+use Rattle.paged_indexes.specs.declared.kinds.IndexKind.TheVariants.{Fixed, Dynamic}
+use Rattle.paged_indexes.specs.Index.{entries_in}
+use Rattle.snapshot_files.specs.Indexes.{index_at, kind_named, kind_of_index, layout_kind, lengths_from}
 use Rattle.snapshot_files.proofs.Indexed.{fixed_read, dynamic_read, index_with, at_text}
 
 -- pieces that fill the size end where a fixed index says
@@ -32,24 +37,24 @@ ends_fill size cut start (p ∷ ps) fills =
     ap (λ n. record { end = n; digest = sha256 p } ∷ fixed_ends_from size cut n (map sha256 ps)) same
     ∙ ap (λ (es : List Ended). record { end = end; digest = sha256 p } ∷ es) (ends_fill size cut end ps both.1)
 
-read_by : (layout : Layout) (a : Archive) → FitsLayout layout a → entries_in (is_fixed_layout layout) (text_by layout a) ≡ Some (ends_from 0 a.pieces)
+read_by : (layout : Layout) (a : Archive) → FitsLayout layout a → entries_in (layout_kind layout) (text_by layout a) ≡ Some (ends_from 0 a.pieces)
 read_by dynamic a fits = dynamic_read (text_by dynamic a) (dynamic_of_archive a) (dynamic_of-dynamic_text (dynamic_of_archive a) fits)
 read_by (fixed size cut) a fits =
     fixed_read (text_by (fixed size cut) a) (fixed_of_archive a size cut) (fixed_of-fixed_text (fixed_of_archive a size cut) fits.0)
     ∙ ap Some (ends_fill size cut 0 a.pieces fits.1)
 
 -- the entries are the archive's
-pub archive_read : (a : Archive) → FitsContent (archive a) → entries_in (is_fixed_layout a.layout) (archive_text a) ≡ Some (ends_from 0 a.pieces)
+pub archive_read : (a : Archive) → FitsContent (archive a) → entries_in (layout_kind a.layout) (archive_text a) ≡ Some (ends_from 0 a.pieces)
 unfolding archive_text
 archive_read a fits = read_by a.layout a fits.0
 
 -- and what is told of its file is a part of its text with these entries, or the refusal of the offset
 pub archive_at : (content : Files) (path : List ℕ) (offset : ℕ) (a : Archive) → FitsContent (archive a) → get content path ≡ Some (archive_text a) →
-    index_at content path (is_fixed_layout a.layout) offset ≡ (part_from (archive_text a) offset >>= λ part. Ok (record { part = part; entries = ends_from 0 a.pieces }))
+    index_at content path (layout_kind a.layout) offset ≡ (part_from (archive_text a) offset >>= λ part. Ok (record { part = part; entries = ends_from 0 a.pieces }))
 archive_at content path offset a fits there =
-    let is_fixed = is_fixed_layout a.layout in
-    at_text content path is_fixed offset (archive_text a) there
-    ∙ index_with path is_fixed (archive_text a) offset (Some (ends_from 0 a.pieces)) (archive_read a fits)
+    let kind = layout_kind a.layout in
+    at_text content path kind offset (archive_text a) there
+    ∙ index_with path kind (archive_text a) offset (Some (ends_from 0 a.pieces)) (archive_read a fits)
 
 -- ---- names
 
@@ -82,14 +87,28 @@ blob_no_dynamic name h =
     let five : bytes_eq blob_ending last ≡ true = (and_parts (bytes_eq blob_ending last) (nat_lt 5 (length name)) ending).0 in
     and_none (is_id name) (bytes_eq dynamic_ending last) (nat_lt 5 (length name)) (not_both blob_ending dynamic_ending last refl five)
 
+abbrev by_endings : Bool → Bool → Option IndexKind
+by_endings is_fixed is_dynamic = if is_fixed then Some Fixed else (if is_dynamic then Some Dynamic else None)
+
 named_by : (layout : Layout) (name : List ℕ) → IsTrue (elim layout [ dynamic ↦ is_dynamic_name name | fixed size chunk_size ↦ is_fixed_name name ]) →
-    is_fixed_name name ≡ is_fixed_layout layout
-named_by dynamic name h = dynamic_no_fixed name h
-named_by (fixed size cut) name h = h
+    kind_named name ≡ Some (layout_kind layout)
+named_by dynamic name h = ap₂ by_endings (dynamic_no_fixed name h) h
+named_by (fixed size cut) name h = ap (λ b. by_endings b (is_dynamic_name name)) h
 
 -- an archive's file name has the ending of its layout
-pub layout_named : (a : Archive) (name : List ℕ) → IsTrue (names_content (archive a) name) → is_fixed_name name ≡ is_fixed_layout a.layout
+pub layout_named : (a : Archive) (name : List ℕ) → IsTrue (names_content (archive a) name) → kind_named name ≡ Some (layout_kind a.layout)
 layout_named a name h = named_by a.layout name h
+
+abbrev by_ending : Bool → IndexKind
+by_ending is_fixed = if is_fixed then Fixed else Dynamic
+
+index_by : (layout : Layout) (name : List ℕ) → IsTrue (elim layout [ dynamic ↦ is_dynamic_name name | fixed size chunk_size ↦ is_fixed_name name ]) →
+    kind_of_index name ≡ layout_kind layout
+index_by dynamic name h = ap by_ending (dynamic_no_fixed name h)
+index_by (fixed size cut) name h = ap by_ending h
+
+pub layout_index : (a : Archive) (name : List ℕ) → IsTrue (names_content (archive a) name) → kind_of_index name ≡ layout_kind a.layout
+layout_index a name h = index_by a.layout name h
 
 -- ---- lengths
 
@@ -113,3 +132,8 @@ lengths_fit start (e ∷ es) fit =
 pub length-lengths : (start : ℕ) (es : List Ended) → length (lengths_from start es) ≡ length es
 length-lengths start [] = refl
 length-lengths start (e ∷ es) = ap suc (length-lengths e.end es)
+
+-- one more
+pub lengths_push : (start : ℕ) (es : List Ended) (e : Ended) → lengths_from start (es ++ e ∷ []) ≡ lengths_from start es ++ (e.digest, e.end - last_end start es) ∷ []
+lengths_push start [] e = refl
+lengths_push start (x ∷ es) e = ap (λ (ks : List Known). (x.digest, x.end - start) ∷ ks) (lengths_push x.end es e)

@@ -7,7 +7,7 @@ use Rattle.store_files.specs.DynamicIndex.{Ended, DynamicIndex, dynamic_of, step
 use Rattle.fixed_index.proofs.Reading.{fixed_of-fits}
 use Rattle.dynamic_index.proofs.Reading.{dynamic_of-fits}
 use Rattle.store_files.specs.Entries.{FitsIndex}
-use Rattle.snapshot_files.specs.Indexes.{fixed_ends_from, fixed_ends}
+use Rattle.paged_indexes.specs.Fixed.{fixed_ends_from, fixed_ends}
 
 -- ---- of a fixed index
 

@@ -2,6 +2,7 @@ mod Texts
 mod PartLemmas
 mod Entries
 pub mod Indexed
+pub mod Opened
 pub mod Archives
 pub mod EntryLemmas
 pub mod PathLengths
@@ -10,7 +11,6 @@ pub mod Losing
 pub mod Removals
 pub mod Leaving
 pub mod StandingLemmas
-pub mod OnlyReading
 pub mod Joined
 pub mod Damage
 pub mod FoundLemmas

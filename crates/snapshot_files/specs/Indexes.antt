@@ -1,47 +1,63 @@
 -- What is read of an index.
-use Rattle.std.specs.Prelude.{ℕ, ◌+◌, ◌-◌, Bool, true, false, List, [], ◌∷◌, Option, Some, None, option_map, Result, Ok, Err, Vec}
-use Rattle.std.specs.declared.alloc.Global.{Global}
+use Rattle.std.specs.Prelude.{◌≡◌, ◌⊎◌, ℕ, ◌-◌, List, [], ◌∷◌, Option, Some, None, if◌then◌else◌, Result, Ok, Err}
 use Rattle.std.specs.FinMap.{get}
 use Rattle.disk_trait.specs.declared.disk.Disk.{Ghosts}
 use Rattle.disk_trait.specs.Files.{Files}
-use Rattle.store_types.specs.declared.names.Digest32.{Digest32}
+use Rattle.store_types.specs.FileNames.{is_fixed_name, is_dynamic_name}
 use Rattle.store_types.specs.Chain.Refusing.{◌>>=◌, or_else}
 use Rattle.store_types.specs.declared.refusal.Refusal.{Refusal}
 use Rattle.store_types.specs.declared.refusal.Refusal.TheVariants.{Unreadable}
 use Rattle.wire_commands.specs.declared.reply.Reply.{Reply}
-use Rattle.store_files.specs.FixedIndex.{FixedIndex, fixed_of, piece_len}
-use Rattle.store_files.specs.DynamicIndex.{Ended, dynamic_of}
+use Rattle.store_files.specs.DynamicIndex.{Ended}
 use Rattle.store_files.specs.Archive.{Layout, dynamic, fixed}
 use Rattle.dynamic_index.specs.Writing.{Known}
-use Rattle.store_files.specs.Entries.{ends_of}
+use Rattle.index_pages.specs.declared.fault.PageFault.{PageFault}
+use Rattle.index_pages.specs.declared.fault.PageFault.TheVariants as faults
+use Rattle.paged_indexes.specs.declared.kinds.IndexKind.{IndexKind}
+use Rattle.paged_indexes.specs.declared.kinds.IndexKind.TheVariants.{Fixed, Dynamic}
+use Rattle.paged_indexes.specs.declared.index.IndexPages.{IndexPages}
+use Rattle.paged_indexes.specs.Handing.{HandsOn}
+use Rattle.paged_indexes.specs.Index.{entries_in, opened}
 use Rattle.snapshot_files.specs.declared.index.IndexPart.{IndexPart}
 use Rattle.store_stops.specs.declared.stop.Stop.{Stop}
-use Rattle.snapshot_files.specs.Parts.{part_from}
+use Rattle.store_stops.specs.declared.stop.Stop.TheVariants as stops
+use Rattle.snapshot_files.specs.Parts.{part_from, part_reply}
 use Rattle.store_stops.specs.Stops.{Gives}
 
--- ---- entries
+-- ---- kinds
 
--- of pieces of one length, the first of which begins at the start: each begins where the one before it ends
-abbrev pub fixed_ends_from : ℕ → ℕ → ℕ → List (List ℕ) → List Ended
-fixed_ends_from size chunk_size start [] = []
-fixed_ends_from size chunk_size start (d ∷ ds) =
-    record { end = start + piece_len size chunk_size start; digest = d } ∷ fixed_ends_from size chunk_size (start + piece_len size chunk_size start) ds
+-- of a file with this name
+abbrev pub kind_named : List ℕ → Option IndexKind
+kind_named name = if is_fixed_name name then Some Fixed else (if is_dynamic_name name then Some Dynamic else None)
 
-abbrev pub fixed_ends : FixedIndex → List Ended
-fixed_ends x = fixed_ends_from x.size x.chunk_size 0 x.digests
+-- of a file with this name of an index
+abbrev pub kind_of_index : List ℕ → IndexKind
+kind_of_index name = if is_fixed_name name then Fixed else Dynamic
 
--- of each piece the digest and where it ends, where the text is an index of this kind
-unfoldable pub entries_in : Bool → List ℕ → Option (List Ended)
-entries_in true text = elim (fixed_of text) [ Ok x ↦ Some (fixed_ends x) | Err cause ↦ None ]
-entries_in false text = elim (dynamic_of text) [ Ok x ↦ Some x.entries | Err cause ↦ None ]
+abbrev pub layout_kind : Layout → IndexKind
+layout_kind dynamic = Dynamic
+layout_kind (fixed size chunk_size) = Fixed
 
--- the entries that were read, where there are any
-abbrev pub ends_read : Option (Vec (Digest32 × ℕ) Global) → Option (List Ended)
-ends_read found = option_map (λ (entries : Vec (Digest32 × ℕ) Global). ends_of entries.items) found
+-- ---- an index that is opened
 
-abbrev pub is_fixed_layout : Layout → Bool
-is_fixed_layout dynamic = false
-is_fixed_layout (fixed size chunk_size) = true
+-- the call stops for this fault; memory may be wanting to tell it
+abbrev pub StopsBy : List ℕ → PageFault → Stop → Type 0
+StopsBy path faults.Failed stop = stop ≡ stops.DiskFailed
+StopsBy path faults.NoMemory stop = stop ≡ stops.NoMemory
+StopsBy path fault stop = (stop ≡ stops.NoMemory) ⊎ (stop ≡ stops.Refused (Unreadable path))
+
+-- what is kept, or that there is no index
+abbrev pub pages_at : List ℕ → Result IndexPages PageFault → Result IndexPages Refusal
+pages_at path (Ok pages) = Ok pages
+pages_at path (Err fault) = Err (Unreadable path)
+
+-- of the file that stands at the path
+unfoldable pub index_opened : Files → List ℕ → IndexKind → Result IndexPages Refusal
+index_opened content path kind = pages_at path (opened content path kind)
+
+-- on an honest disk it is opened so
+abbrev pub OpensIndex : {D : Type 0} → Ghosts D → D → List ℕ → IndexKind → Result IndexPages Stop → Type 0
+OpensIndex d disk path kind result = d.honest disk → Gives (λ (p : IndexPages). p) result (index_opened (d.content disk) path kind)
 
 -- ---- an index that is read
 
@@ -51,22 +67,31 @@ pub record Indexed : Type 0 where
   pub entries : List Ended
 
 -- the refusals in their order: the offset is beyond the text, the text is no index
-unfoldable pub index_in : List ℕ → Bool → List ℕ → ℕ → Result Indexed Refusal
-index_in path is_fixed text offset = do
+unfoldable pub index_in : List ℕ → IndexKind → List ℕ → ℕ → Result Indexed Refusal
+index_in path kind text offset = do
   part ← part_from text offset
-  entries ← or_else (Unreadable path) (entries_in is_fixed text)
+  entries ← or_else (Unreadable path) (entries_in kind text)
   Ok (record { part = part; entries = entries })
 
 -- of the file that stands at the path
-unfoldable pub index_at : Files → List ℕ → Bool → ℕ → Result Indexed Refusal
-index_at content path is_fixed offset = or_else (Unreadable path) (get content path) >>= λ text. index_in path is_fixed text offset
+unfoldable pub index_at : Files → List ℕ → IndexKind → ℕ → Result Indexed Refusal
+index_at content path kind offset = or_else (Unreadable path) (get content path) >>= λ text. index_in path kind text offset
 
-abbrev pub shown_index : IndexPart → Indexed
-shown_index p = record { part = p.part; entries = ends_of p.entries.items }
+-- the part is that of the index at the path, what is kept is the index's, and its entries are handed on
+pub record IsRead {T : Type 0} (content : Files) (path : List ℕ) (kind : IndexKind) (offset : ℕ) (taken : T → ℕ → List Ended → Type 0) (old new : T) (i : IndexPart) : Type 0 where
+  pub entries : List Ended
+  pub read : index_at content path kind offset ≡ Ok (record { part = part_reply i.part; entries = entries })
+  pub opened : index_opened content path kind ≡ Ok i.pages
+  pub hands : HandsOn taken 0 entries old new
 
--- of an honest disk: the part and the entries are those of the index at the path, or the refusal
-abbrev pub ReadsIndex : {D : Type 0} → Ghosts D → D → List ℕ → Bool → ℕ → Result IndexPart Stop → Type 0
-ReadsIndex d disk path is_fixed offset result = d.honest disk → Gives shown_index result (index_at (d.content disk) path is_fixed offset)
+-- it is read, or its refusal is told
+abbrev pub GivesIndex : {T : Type 0} → Files → List ℕ → IndexKind → ℕ → (T → ℕ → List Ended → Type 0) → T → T → Result IndexPart Stop → Type 0
+GivesIndex content path kind offset taken old new (Ok i) = IsRead content path kind offset taken old new i
+GivesIndex content path kind offset taken old new (Err (stops.Refused refusal)) = index_at content path kind offset ≡ Err refusal
+GivesIndex content path kind offset taken old new (Err stop) = Unit {0}
+
+abbrev pub ReadsIndex : {D T : Type 0} → Ghosts D → D → List ℕ → IndexKind → ℕ → (T → ℕ → List Ended → Type 0) → T → T → Result IndexPart Stop → Type 0
+ReadsIndex d disk path kind offset taken old new result = d.honest disk → GivesIndex (d.content disk) path kind offset taken old new result
 
 -- ---- lengths
 

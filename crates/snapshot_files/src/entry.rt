@@ -9,6 +9,7 @@ ghost use Rattle.store_stops.specs.Stops.{IfRefused};
 
 use crate::parts::unreadable;
 use disk_trait::Disk;
+use paged_indexes::IndexKind;
 use std::alloc::Global;
 use store_stops::Stop;
 use store_types::{Digest32, ENTRY_LIMIT, Refusal};
@@ -17,32 +18,34 @@ use store_types::{Digest32, ENTRY_LIMIT, Refusal};
 const HEADER_SIZE: u64 = 4096;
 
 /// How long an entry is, in bytes.
-fn entry_size(is_fixed: bool) -> u64
-    ensures value { result ≡ entry_len is_fixed }
+fn entry_size(kind: IndexKind) -> u64
+    ensures value { result ≡ entry_len kind }
     ensures some { 0 < result }
 {
-    if is_fixed { 32 } else { 40 }
+    match kind {
+        IndexKind::Fixed => 32,
+        IndexKind::Dynamic => 40,
+    }
 }
 
 /// Where the digest of an entry stands.
-fn digest_at(is_fixed: bool, place: u32) -> u64
-    ensures { result ≡ digest_offset is_fixed place }
+fn digest_at(kind: IndexKind, place: u32) -> u64
+    ensures { result ≡ digest_offset kind place }
 {
     let place = u64::from(place);
-    if is_fixed {
-        HEADER_SIZE + place * 32
-    } else {
-        HEADER_SIZE + place * 40 + 8
+    match kind {
+        IndexKind::Fixed => HEADER_SIZE + place * 32,
+        IndexKind::Dynamic => HEADER_SIZE + place * 40 + 8,
     }
 }
 
 /// How many entries the file of an index has that has so many bytes, or `None` where it is none by its size.
-pub fn entry_count(is_fixed: bool, size: u64) -> Option<u64>
-    ensures value { result ≡ count_in is_fixed size }
+fn entry_count(kind: IndexKind, size: u64) -> Option<u64>
+    ensures value { result ≡ count_in kind size }
     ensures limit { IfSome result (λ count. count ≤ 1_048_576) }
 {
     let entries = size.checked_sub(HEADER_SIZE)?;
-    let len = entry_size(is_fixed);
+    let len = entry_size(kind);
     if !entries.is_multiple_of(len) {
         return None;
     }
@@ -63,26 +66,26 @@ pub fn read_entry<D: Disk>(
     disk: &mut D,
     alloc: Global,
     path: &str,
-    is_fixed: bool,
+    kind: IndexKind,
     place: u32,
 ) -> Result<Digest32, Stop>
     requires { length path.now ≤ 255 }
     ensures reads { OnlyReads D.Disk disk.old disk.new (IsErrOf result Stop.DiskFailed) }
-    ensures exact { ReadsEntry D.Disk disk.old path.now is_fixed place result }
+    ensures exact { ReadsEntry D.Disk disk.old path.now kind place result }
     ensures kind { IfErr result (IfRefused (RefusesPart path.now)) }
     ensures text { IfErr result StopHasText }
 {
     let Some(size) = disk.size(path)? else {
         return Err(Stop::Refused(unreadable(alloc, path)?));
     };
-    let Some(count) = entry_count(is_fixed, size) else {
+    let Some(count) = entry_count(kind, size) else {
         return Err(Stop::Refused(unreadable(alloc, path)?));
     };
     if u64::from(place) >= count {
         return Err(Stop::Refused(Refusal::BadRange { size: count }));
     }
     let mut digest = [0u8; 32];
-    match disk.read_part(path, digest_at(is_fixed, place), &mut digest)? {
+    match disk.read_part(path, digest_at(kind, place), &mut digest)? {
         Some(32) => Ok(Digest32(digest)),
         _ => Err(Stop::Refused(unreadable(alloc, path)?)),
     }

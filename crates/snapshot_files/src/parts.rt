@@ -1,11 +1,11 @@
 //! Parts of files.
 
-ghost use Rattle.std.specs.Prelude.{◌≡◌, ◌≤◌, IfOk, MatchResult, IsErrOf, length};
+ghost use Rattle.std.specs.Prelude.{◌≡◌, ◌≤◌, IfErr, IfOk, MatchResult, IsErrOf, length};
 ghost use Rattle.disk_trait.specs.Effects.{OnlyReads};
 ghost use Rattle.store_types.specs.declared.refusal.Refusal.TheVariants.{Unreadable as UnreadableAt};
 ghost use Rattle.wire_commands.specs.HasText.{ReplyHasText};
 ghost use Rattle.wire_commands.specs.declared.reply.Reply.TheVariants.{Refused};
-ghost use Rattle.snapshot_files.specs.Parts.{FillsPart, IsPart, ReadsPart, RefusesPart};
+ghost use Rattle.snapshot_files.specs.Parts.{FillsPart, PartHasText, ReadsPart, RefusesPart};
 ghost use Rattle.snapshot_files.specs.Reads.{StopHasText};
 ghost use Rattle.store_stops.specs.Stops.{IfRefused};
 
@@ -13,7 +13,15 @@ use disk_trait::Disk;
 use std::alloc::{AllocError, Global};
 use store_stops::Stop;
 use store_types::{Bytes, PART_LIMIT, Refusal};
-use wire_commands::Reply;
+
+/// A part of a file.
+#[derive(Debug, Drop)]
+pub struct FilePart {
+    /// The file's size in bytes.
+    pub total: u64,
+    /// 4,194,304 bytes at most.
+    pub bytes: Bytes,
+}
 
 /// What was put at the path isn't there as it was.
 pub fn unreadable(alloc: Global, path: &str) -> Result<Refusal, AllocError>
@@ -43,13 +51,13 @@ pub fn read_part<D: Disk>(
     alloc: Global,
     path: &str,
     offset: u64,
-) -> Result<Reply, Stop>
+) -> Result<FilePart, Stop>
     requires { length path.now ≤ 255 }
     ensures reads { OnlyReads D.Disk disk.old disk.new (IsErrOf result Stop.DiskFailed) }
     ensures exact { ReadsPart D.Disk disk.old path.now offset result }
-    ensures kind { MatchResult result IsPart (IfRefused (RefusesPart path.now)) }
+    ensures kind { IfErr result (IfRefused (RefusesPart path.now)) }
     ensures filled { IfOk result (FillsPart offset) }
-    ensures text { MatchResult result ReplyHasText StopHasText }
+    ensures text { MatchResult result PartHasText StopHasText }
 {
     let Some(total) = disk.size(path)? else {
         return Err(Stop::Refused(unreadable(alloc, path)?));
@@ -60,7 +68,7 @@ pub fn read_part<D: Disk>(
     let wanted = PART_LIMIT.min(total - offset) as usize;
     let mut bytes = zeros(alloc, wanted)?;
     match disk.read_part(path, offset, &mut bytes)? {
-        Some(count) if count == wanted => Ok(Reply::Part {
+        Some(count) if count == wanted => Ok(FilePart {
             total,
             bytes: Bytes::from_vec(bytes),
         }),

@@ -1,17 +1,19 @@
 //! Files on a disk in memory.
 
-use crate::asserts::{must, same, same_at};
+ghost use Rattle.std.specs.Prelude.{◌≤◌, length};
+
+use crate::asserts::{must, same_at};
 use crate::faults::{Fault, refusal};
 use crate::fixtures::{NINES, ROOT, SEVENS};
 use disk_trait::{Disk, FailingDisk, MemoryDisk};
 use dynamic_index::DynamicWriter;
 use fixed_index::FixedWriter;
-use snapshot_files::{IndexPart, lengths_of, read_index, read_part};
-use std::alloc::Global;
+use paged_indexes::{IndexEntry, IndexKind, TakesEntries};
+use snapshot_files::{FilePart, read_index, read_part};
+use std::alloc::{AllocError, Global};
 use std::process::Abort;
 use store_stops::Stop;
 use store_types::{Digest32, Refusal};
-use wire_commands::Reply;
 
 const FIXED: &str = "host/a/2020-01-15T06:30:03Z/disk.fidx";
 
@@ -57,7 +59,49 @@ enum Read {
 }
 
 /// What is told: the file's size, the bytes from the offset on, and an index's entries, none for any file.
-type Told = (u64, &'static [u8], &'static [(Digest32, u64)]);
+type Told = (u64, &'static [u8], &'static [IndexEntry]);
+
+/// The entries of an index as they are read.
+#[derive(Drop)]
+struct Entries {
+    items: Vec<IndexEntry>,
+}
+
+impl TakesEntries for Entries {
+    ghost taken = { λ _ _ _. Unit {0} };
+
+    fn take(&mut self, _start: u64, entry: &IndexEntry) -> Result<(), AllocError> {
+        self.items.push(*entry)?;
+        Ok(())
+    }
+}
+
+/// A part of a file, and an index's entries, none for any file.
+#[derive(Drop)]
+struct Seen {
+    part: FilePart,
+    entries: Entries,
+}
+
+/// A part of an index, and its entries.
+fn read_entries<D: Disk>(
+    disk: &mut D,
+    alloc: Global,
+    path: &str,
+    kind: IndexKind,
+    offset: u64,
+) -> Result<Seen, Stop>
+    requires { length path.now ≤ 255 }
+{
+    let mut entries = Entries {
+        items: Vec::new(alloc),
+    };
+    let index = read_index(disk, alloc, path, kind, offset, &mut entries)?;
+    Ok(Seen {
+        part: index.part,
+        entries,
+    })
+}
 
 /// What is read, or the refusal.
 fn told<T: Drop>(rt: &impl Abort, read: Result<T, Stop>) -> Result<T, Refusal> {
@@ -75,11 +119,11 @@ fn index_at(
     disk: &mut MemoryDisk,
     alloc: Global,
     path: &str,
-    is_fixed: bool,
+    kind: IndexKind,
     offset: u64,
-) -> Result<IndexPart, Refusal> {
+) -> Result<Seen, Refusal> {
     assert!(rt; path.len() <= 255);
-    told(rt, read_index(disk, alloc, path, is_fixed, offset))
+    told(rt, read_entries(disk, alloc, path, kind, offset))
 }
 
 /// The part of any file, as that of an index without entries.
@@ -89,12 +133,14 @@ fn part_at(
     alloc: Global,
     path: &str,
     offset: u64,
-) -> Result<IndexPart, Refusal> {
+) -> Result<Seen, Refusal> {
     assert!(rt; path.len() <= 255);
     match told(rt, read_part(disk, alloc, path, offset)) {
-        Ok(part) => Ok(IndexPart {
+        Ok(part) => Ok(Seen {
             part,
-            entries: Vec::new(alloc),
+            entries: Entries {
+                items: Vec::new(alloc),
+            },
         }),
         Err(refusal) => Err(refusal),
     }
@@ -105,22 +151,22 @@ fn make(
     disk: &mut MemoryDisk,
     alloc: Global,
     read: Read,
-) -> Result<IndexPart, Refusal> {
+) -> Result<Seen, Refusal> {
     match read {
-        Read::Fixed(path, offset) => index_at(rt, disk, alloc, path, true, offset),
-        Read::Dynamic(path, offset) => index_at(rt, disk, alloc, path, false, offset),
+        Read::Fixed(path, offset) => index_at(rt, disk, alloc, path, IndexKind::Fixed, offset),
+        Read::Dynamic(path, offset) => index_at(rt, disk, alloc, path, IndexKind::Dynamic, offset),
         Read::Part(path, offset) => part_at(rt, disk, alloc, path, offset),
     }
 }
 
-fn is_part(reply: &Reply, size: u64, wanted: &[u8]) -> bool {
-    matches!(reply, Reply::Part { total, bytes } if *total == size && bytes.as_slice() == wanted)
+fn is_part(part: &FilePart, size: u64, wanted: &[u8]) -> bool {
+    part.total == size && part.bytes.as_slice() == wanted
 }
 
-fn try_told(rt: &impl Abort, number: usize, told: &IndexPart, wanted: &Told) {
+fn try_told(rt: &impl Abort, number: usize, told: &Seen, wanted: &Told) {
     let (size, text, entries) = wanted;
     same_at(rt, number, is_part(&told.part, *size, text), true);
-    same_at(rt, number, told.entries.as_slice(), *entries);
+    same_at(rt, number, told.entries.items.as_slice(), *entries);
 }
 
 fn try_read(
@@ -148,9 +194,27 @@ fn try_refused(
 }
 
 /// Where the pieces of both indexes end.
-const FIXED_ENDS: &[(Digest32, u64)] = &[(SEVENS, 4096), (NINES, 4097)];
+const FIXED_ENDS: &[IndexEntry] = &[
+    IndexEntry {
+        digest: SEVENS,
+        end: 4096,
+    },
+    IndexEntry {
+        digest: NINES,
+        end: 4097,
+    },
+];
 
-const DYNAMIC_ENDS: &[(Digest32, u64)] = &[(SEVENS, 3), (NINES, 5)];
+const DYNAMIC_ENDS: &[IndexEntry] = &[
+    IndexEntry {
+        digest: SEVENS,
+        end: 3,
+    },
+    IndexEntry {
+        digest: NINES,
+        end: 5,
+    },
+];
 
 /// From where the second entry begins, at the end, and of any file.
 static READ: [(Read, Told); 5] = [
@@ -192,8 +256,8 @@ fn parts_are_refused(rt: HostRuntime) {
     }
 }
 
-fn read_root(disk: &mut FailingDisk<MemoryDisk>, alloc: Global) -> Result<IndexPart, Stop> {
-    read_index(disk, alloc, ROOT, false, 4144)
+fn read_root(disk: &mut FailingDisk<MemoryDisk>, alloc: Global) -> Result<Seen, Stop> {
+    read_entries(disk, alloc, ROOT, IndexKind::Dynamic, 4144)
 }
 
 /// A disk that fails at its call of this number, and then no more.
@@ -216,17 +280,10 @@ fn try_fault(rt: &impl Abort, alloc: Global, number: u64) {
     try_root(rt, alloc, &mut disk)
 }
 
-/// The size is asked first, and then the text.
+/// The size is asked first, and then the part; then the size again, the front and each page.
 #[test]
 fn a_call_fails(rt: HostRuntime) {
-    let alloc = rt.alloc();
-    try_fault(&rt, alloc, 0);
-    try_fault(&rt, alloc, 1)
-}
-
-#[test]
-fn lengths(rt: HostRuntime) {
-    let pieces = must(&rt, lengths_of(rt.alloc(), DYNAMIC_ENDS));
-    let wanted = [(SEVENS, 3), (NINES, 2)];
-    same(&rt, pieces.as_slice(), wanted.as_slice());
+    for number in 0..5 {
+        try_fault(&rt, rt.alloc(), number);
+    }
 }

@@ -1,5 +1,5 @@
 use Rattle.std.proofs.Common.{◌≡◌, ◌∙◌, Some, None, Ok, Err, refl, subst, rules}
-use Rattle.store_types.specs.FileNames.{is_fixed_name}
+use Rattle.snapshot_files.specs.Indexes.{kind_of_index}
 use Rattle.gc_plan.specs.Plan.{next_index}
 use Rattle.core_collect.specs.Marking.{Reads, SettlesNext, digests_read, path_at}
 use Rattle.core_collect.proofs.MarkLemmas.{fits_read, mark_there}
@@ -49,7 +49,7 @@ returns-in_err-collector-clause-next g c =
     let unread = c.in_err-collector.field-0.0 in
     let at : next_index old.plan ≡ Some i = search rules in
     let found : path_at i parts.catalogue.listed ≡ Some path = search rules in
-    let fixed : c.is_fixed-is_fixed.result ≡ is_fixed_name i.name = search rules in
+    let fixed : c.index_kind-kind.result ≡ kind_of_index i.name = search rules in
     handed_on (SettlesNext g.D.Disk parts old old) _ unread c.from_residual.ensures.1
     (unread_settles g.D.Disk parts old i path unread at found (none_items old.entries c.is_empty.result c.is_empty.ensures c.if-not-is_empty.false) c.in_err-collector.ensures.named
     (λ honest. subst (λ b. Reads (digests_read ((g.D.Disk).content parts.disk) path b) (Err unread)) fixed (c.in_err-collector.ensures.exact honest)))
@@ -76,7 +76,7 @@ returns-then-is_empty-clause-next g c =
     let read = c.in_ok-collector.field-0 in
     let at : next_index old.plan ≡ Some i = search rules in
     let found : path_at i parts.catalogue.listed ≡ Some path = search rules in
-    let fixed : c.is_fixed-is_fixed.result ≡ is_fixed_name i.name = search rules in
+    let fixed : c.index_kind-kind.result ≡ kind_of_index i.name = search rules in
     let over = c.pass_over-then-is_empty.ensures in
     empty_settles g.D.Disk parts old c.pass_over-then-is_empty.new.collector i path at found (none_items old.entries c.is_empty.result c.is_empty.ensures c.if-not-is_empty.false)
     (λ honest. subst (λ b. Reads (digests_read ((g.D.Disk).content parts.disk) path b) (Ok read)) fixed (c.in_ok-collector.ensures.exact honest)
@@ -92,7 +92,7 @@ returns-clause-next g c =
     let read = c.in_ok-collector.field-0 in
     let at : next_index old.plan ≡ Some i = search rules in
     let found : path_at i parts.catalogue.listed ≡ Some path = search rules in
-    let fixed : c.is_fixed-is_fixed.result ≡ is_fixed_name i.name = search rules in
+    let fixed : c.index_kind-kind.result ≡ kind_of_index i.name = search rules in
     read_settles g.D.Disk parts old _ i path at found refl refl refl (none_items old.entries c.is_empty.result c.is_empty.ensures c.if-not-is_empty.false)
     (some_items read c.is_empty-2.result c.is_empty-2.ensures c.if-is_empty.false)
     (λ honest. subst (λ b. Reads (digests_read ((g.D.Disk).content parts.disk) path b) (Ok read)) fixed (c.in_ok-collector.ensures.exact honest))

@@ -1,7 +1,7 @@
 use Rattle.std.proofs.Common.{◌≡◌, ◌<◌, ◌^◌, true, false, inl, inr, refl, sym, ◌∙◌, length, arith, rules}
 use Rattle.disk_trait.specs.declared.disk.DiskError.TheVariants.{Failed}
 use Rattle.gc_plan.specs.Plan.{has_names}
-use Rattle.snapshot_files.proofs.OnlyReading.{reads_none}
+use Rattle.disk_trait.proofs.OnlyReading.{reads_none}
 use Rattle.core_collect.proofs.VisitAnswers.{lists_failed, ok_apart, ok_error, reads_so}
 use Rattle.core_collect.proofs.visiting.list_chunks.Goals as goal
 

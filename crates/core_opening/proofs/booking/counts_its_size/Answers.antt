@@ -2,7 +2,7 @@ use Rattle.std.proofs.Common.{◌≡◌, ◌<◌, ◌^◌, ◌+◌, ◌*◌, rep
 use Rattle.std.specs.Prelude.{◌==◌}
 use Rattle.std.specs.FinMap.{get}
 use Rattle.std.specs.Int.{w64, from_le_bytes}
-use Rattle.snapshot_files.proofs.OnlyReading.{reads_by, reads_call}
+use Rattle.disk_trait.proofs.OnlyReading.{reads_by, reads_call}
 use Rattle.store_history.specs.Saved.{book_name}
 use Rattle.core_opening.proofs.BookSizes.{told_none, told_both}
 use Rattle.core_opening.proofs.booking.counts_its_size.Goals as goal

@@ -1,5 +1,5 @@
 use Rattle.std.proofs.Common.{rules}
-use Rattle.snapshot_files.proofs.OnlyReading.{reads_by, reads_call}
+use Rattle.disk_trait.proofs.OnlyReading.{reads_by, reads_call}
 use Rattle.core_opening.proofs.booking.saved_book_of.Goals as goal
 
 pub returns-in_err-bytes-clause-reads : goal.returns-in_err-bytes-clause-reads

@@ -5,7 +5,8 @@ use Rattle.wire_commands.specs.declared.command.Command.TheVariants.{Download}
 use Rattle.wire_commands.specs.declared.reply.Reply.{Reply}
 use Rattle.store_history.specs.declared.act.Act.TheVariants.{Plain}
 use Rattle.store_files.specs.Entries.{ends_of}
-use Rattle.snapshot_files.specs.Indexes.{shown_index}
+use Rattle.snapshot_files.specs.Parts.{part_reply}
+use Rattle.core_reader.specs.Asked.{shown_given}
 use Rattle.core_state.specs.Named.{is_named}
 use Rattle.core_state.specs.Unreadables.{Asked, from_offset}
 use Rattle.core_state.specs.Wanted.{session_at}
@@ -54,7 +55,7 @@ returns-in_err-part-clause-does g c =
     let asked = file_is c.args.file.now c.args.offset (session_at old c.args.at.lane) old.catalogue.listed (string_bytes a.path) a.whole (c.in_ok-asked.ensures.value c.args.offset) in
     stops_does d old _ c.args.at (Plain (Download c.args.file.now c.args.offset)) c.read_part.result _ c.in_err-part.was _ c.from_residual-in_err-part.ensures.1
     c.read_part.ensures.reads (record { catalogue = refl; sessions = refl; locks = refl }) c.in_err-part.ensures.text (read_answers c.as_str.result.now _ c.in_err-part.ensures.kind)
-    (λ s h. read_stops {A = Reply} (λ part. part) _ _ _ (c.in_err-part.ensures.exact h.honest)
+    (λ s h. read_stops part_reply _ _ _ (c.in_err-part.ensures.exact h.honest)
     (λ r gives. asked_part_refused d old s c.args.at.lane c.args.at.moment c.args.file.now (string_bytes a.path) c.args.offset a.whole c.requires asked h c.as_str.result.now r path gives))
 
 pub returns-in_err-part-clause-leaves : goal.returns-in_err-part-clause-leaves
@@ -81,14 +82,14 @@ returns-in_default-clause-does g c =
     let path : c.as_str.result.now ≡ string_bytes a.path = c.as_str.ensures.value in
     let none : a.whole ≡ None = search rules in
     let asked = file_is c.args.file.now c.args.offset (session_at old c.args.at.lane) old.catalogue.listed (string_bytes a.path) a.whole (c.in_ok-asked.ensures.value c.args.offset) in
-    read_does d old _ c.args.at (Plain (Download c.args.file.now c.args.offset)) c.in_ok-part.part _ c.read_part.ensures.reads (record { catalogue = refl; sessions = refl; locks = refl })
-    c.in_ok-part.ensures.text (part_answers _ c.in_ok-part.ensures.kind) (part_plain _ c.in_ok-part.ensures.kind)
-    (λ s h. asked_part_given d old s c.args.at.lane c.args.at.moment c.args.file.now (string_bytes a.path) c.args.offset a.whole c.requires asked h c.as_str.result.now c.in_ok-part.part path none (c.in_ok-part.ensures.exact h.honest))
+    read_does d old _ c.args.at (Plain (Download c.args.file.now c.args.offset)) (part_reply c.in_ok-part.part) _ c.read_part.ensures.reads (record { catalogue = refl; sessions = refl; locks = refl })
+    c.in_ok-part.ensures.text (part_answers (part_reply c.in_ok-part.part) tt) (part_plain (part_reply c.in_ok-part.part) tt)
+    (λ s h. asked_part_given d old s c.args.at.lane c.args.at.moment c.args.file.now (string_bytes a.path) c.args.offset a.whole c.requires asked h c.as_str.result.now (part_reply c.in_ok-part.part) path none (c.in_ok-part.ensures.exact h.honest))
 
 pub returns-in_default-clause-leaves : goal.returns-in_default-clause-leaves
 returns-in_default-clause-leaves g c =
-    read_leaves g.D.Disk c.args.parts.now _ c.args.at (Plain (Download c.args.file.now c.args.offset)) c.in_ok-part.part _ c.read_part.ensures.reads (record { catalogue = refl; sessions = refl; locks = refl })
-    (record { plain = part_plain _ c.in_ok-part.ensures.kind; change = refl; listed = refl; goes_on = refl; writes = λ writes. cc }) (λ e. cc)
+    read_leaves g.D.Disk c.args.parts.now _ c.args.at (Plain (Download c.args.file.now c.args.offset)) (part_reply c.in_ok-part.part) _ c.read_part.ensures.reads (record { catalogue = refl; sessions = refl; locks = refl })
+    (record { plain = part_plain (part_reply c.in_ok-part.part) tt; change = refl; listed = refl; goes_on = refl; writes = λ writes. cc }) (λ e. cc)
 
 pub returns-in_default-clause-unreadable : goal.returns-in_default-clause-unreadable
 returns-in_default-clause-unreadable g c =
@@ -97,8 +98,8 @@ returns-in_default-clause-unreadable g c =
     let path : c.as_str.result.now ≡ string_bytes a.path = c.as_str.ensures.value in
     let none : a.whole ≡ None = search rules in
     let it : Asked = record { path = string_bytes a.path; way = from_offset a.whole c.args.offset } in
-    tells_given g.D.Disk old.disk _ it c.in_ok-part.part (ap (λ (x : Result Asked Refusal). result_ok x) (c.in_ok-asked.ensures.value c.args.offset)) c.in_ok-part.ensures.kind
-    (λ h. part_got (g.D.Disk.content old.disk) (string_bytes a.path) c.as_str.result.now c.args.offset a.whole c.in_ok-part.part path none (c.in_ok-part.ensures.exact h))
+    tells_given g.D.Disk old.disk _ it (part_reply c.in_ok-part.part) (ap (λ (x : Result Asked Refusal). result_ok x) (c.in_ok-asked.ensures.value c.args.offset)) tt
+    (λ h. part_got (g.D.Disk.content old.disk) (string_bytes a.path) c.as_str.result.now c.args.offset a.whole (part_reply c.in_ok-part.part) path none (c.in_ok-part.ensures.exact h))
 
 -- ---- an index
 
@@ -108,39 +109,39 @@ returns-in_err-index-clause-does g c =
     let old = c.args.parts.now in
     let a = c.in_ok-asked.asked in
     let path : c.as_str-2.result.now ≡ string_bytes a.path = c.as_str-2.ensures.value in
-    let some : a.whole ≡ Some c.in-Some.is_fixed = search rules in
+    let some : a.whole ≡ Some c.in-Some.kind = search rules in
     let asked = file_is c.args.file.now c.args.offset (session_at old c.args.at.lane) old.catalogue.listed (string_bytes a.path) a.whole (c.in_ok-asked.ensures.value c.args.offset) in
-    stops_does d old _ c.args.at (Plain (Download c.args.file.now c.args.offset)) c.read_index.result _ c.in_err-index.was _ c.from_residual-in_err-index.ensures.1
-    c.read_index.ensures.reads (record { catalogue = refl; sessions = refl; locks = refl }) c.in_err-index.ensures.text (read_answers c.as_str-2.result.now _ c.in_err-index.ensures.kind)
-    (λ s h. read_stops shown_index _ _ _ (c.in_err-index.ensures.exact h.honest)
-    (λ r gives. asked_index_refused d old s c.args.at.lane c.args.at.moment c.args.file.now (string_bytes a.path) c.args.offset a.whole c.requires asked h c.as_str-2.result.now c.in-Some.is_fixed r path some gives))
+    stops_does d old _ c.args.at (Plain (Download c.args.file.now c.args.offset)) c.read_entries.result _ c.in_err-index.was _ c.from_residual-in_err-index.ensures.1
+    c.read_entries.ensures.reads (record { catalogue = refl; sessions = refl; locks = refl }) c.in_err-index.ensures.text (read_answers c.as_str-2.result.now _ c.in_err-index.ensures.kind)
+    (λ s h. read_stops shown_given _ _ _ (c.in_err-index.ensures.exact h.honest)
+    (λ r gives. asked_index_refused d old s c.args.at.lane c.args.at.moment c.args.file.now (string_bytes a.path) c.args.offset a.whole c.requires asked h c.as_str-2.result.now c.in-Some.kind r path some gives))
 
 pub returns-in_err-index-clause-leaves : goal.returns-in_err-index-clause-leaves
 returns-in_err-index-clause-leaves g c =
-    stops_leaves g.D.Disk c.args.parts.now _ c.args.at (Plain (Download c.args.file.now c.args.offset)) c.read_index.result _ c.in_err-index.was _ c.as_str-2.result.now c.from_residual-in_err-index.ensures.1
-    c.read_index.ensures.reads (record { catalogue = refl; sessions = refl; locks = refl }) refl c.in_err-index.ensures.kind (λ e. cc)
+    stops_leaves g.D.Disk c.args.parts.now _ c.args.at (Plain (Download c.args.file.now c.args.offset)) c.read_entries.result _ c.in_err-index.was _ c.as_str-2.result.now c.from_residual-in_err-index.ensures.1
+    c.read_entries.ensures.reads (record { catalogue = refl; sessions = refl; locks = refl }) refl c.in_err-index.ensures.kind (λ e. cc)
 
 pub returns-in_err-index-clause-unreadable : goal.returns-in_err-index-clause-unreadable
 returns-in_err-index-clause-unreadable g c =
     let old = c.args.parts.now in
     let a = c.in_ok-asked.asked in
     let path : c.as_str-2.result.now ≡ string_bytes a.path = c.as_str-2.ensures.value in
-    let some : a.whole ≡ Some c.in-Some.is_fixed = search rules in
+    let some : a.whole ≡ Some c.in-Some.kind = search rules in
     let it : Asked = record { path = string_bytes a.path; way = from_offset a.whole c.args.offset } in
-    tells_stopped g.D.Disk old.disk {A = Reply} (λ part. part) _ it c.read_index.result _ c.in_err-index.was _ c.from_residual-in_err-index.ensures.1 (ap (λ (x : Result Asked Refusal). result_ok x) (c.in_ok-asked.ensures.value c.args.offset))
+    tells_stopped g.D.Disk old.disk {A = Reply} (λ part. part) _ it c.read_entries.result _ c.in_err-index.was _ c.from_residual-in_err-index.ensures.1 (ap (λ (x : Result Asked Refusal). result_ok x) (c.in_ok-asked.ensures.value c.args.offset))
     (read_at (string_bytes a.path) c.as_str-2.result.now _ path c.in_err-index.ensures.kind)
-    (λ h. index_stop (g.D.Disk.content old.disk) (string_bytes a.path) c.as_str-2.result.now c.args.offset c.in-Some.is_fixed a.whole _ path some (c.in_err-index.ensures.exact h))
+    (λ h. index_stop (g.D.Disk.content old.disk) (string_bytes a.path) c.as_str-2.result.now c.args.offset c.in-Some.kind a.whole _ path some (c.in_err-index.ensures.exact h))
 
 -- ---- memory is wanting for the note
 
 pub returns-in_err-note-clause-does : goal.returns-in_err-note-clause-does
 returns-in_err-note-clause-does g c =
-    short_does g.D.Disk c.args.parts.now _ c.args.at (Plain (Download c.args.file.now c.args.offset)) _ _ c.from_residual-in_err-note.ensures.1 c.read_index.ensures.reads
+    short_does g.D.Disk c.args.parts.now _ c.args.at (Plain (Download c.args.file.now c.args.offset)) _ _ c.from_residual-in_err-note.ensures.1 c.read_entries.ensures.reads
     (record { catalogue = refl; sessions = sessions_stay _ _ _ _ c.in_err-note.ensures.err c.index_mut.ensures.value; locks = refl })
 
 pub returns-in_err-note-clause-leaves : goal.returns-in_err-note-clause-leaves
 returns-in_err-note-clause-leaves g c =
-    short_leaves g.D.Disk c.args.parts.now _ c.args.at (Plain (Download c.args.file.now c.args.offset)) _ _ c.from_residual-in_err-note.ensures.1 c.read_index.ensures.reads
+    short_leaves g.D.Disk c.args.parts.now _ c.args.at (Plain (Download c.args.file.now c.args.offset)) _ _ c.from_residual-in_err-note.ensures.1 c.read_entries.ensures.reads
     (record { catalogue = refl; sessions = sessions_stay _ _ _ _ c.in_err-note.ensures.err c.index_mut.ensures.value; locks = refl }) refl (λ e. cc)
 
 pub returns-in_err-note-clause-unreadable : goal.returns-in_err-note-clause-unreadable
@@ -155,18 +156,18 @@ returns-clause-does g c =
     let a = c.in_ok-asked.asked in
     let index = c.in_ok-index.index in
     let path : c.as_str-2.result.now ≡ string_bytes a.path = c.as_str-2.ensures.value in
-    let some : a.whole ≡ Some c.in-Some.is_fixed = search rules in
+    let some : a.whole ≡ Some c.in-Some.kind = search rules in
     let asked = file_is c.args.file.now c.args.offset (session_at old c.args.at.lane) old.catalogue.listed (string_bytes a.path) a.whole (c.in_ok-asked.ensures.value c.args.offset) in
-    writes_does d old _ c.args.at (Plain (Download c.args.file.now c.args.offset)) index.part _ c.read_index.ensures.reads.serves
-    c.in_ok-index.ensures.text (part_answers _ c.in_ok-index.ensures.kind) (part_plain _ c.in_ok-index.ensures.kind)
-    (λ safe s h. asked_index_given d old s c.args.at.lane c.args.at.moment c.args.file.now (string_bytes a.path) c.args.offset a.whole c.requires asked h _ (shown_index index) c.in-Some.is_fixed c.as_str-2.result.now a.name
+    writes_does d old _ c.args.at (Plain (Download c.args.file.now c.args.offset)) (part_reply index.part) _ c.read_entries.ensures.reads.serves
+    c.in_ok-index.ensures.text (part_answers (part_reply index.part) tt) (part_plain (part_reply index.part) tt)
+    (λ safe s h. asked_index_given d old s c.args.at.lane c.args.at.moment c.args.file.now (string_bytes a.path) c.args.offset a.whole c.requires asked h _ (shown_given index) c.in-Some.kind c.as_str-2.result.now a.name
     c.index_mut.result.now c.note.new.session path c.in_ok-asked.ensures.name some (c.in_ok-index.ensures.exact h.honest) c.index_mut.ensures.value
     (λ snapshots r x shows there ends. c.in_ok-note.ensures.plain snapshots r x shows there (ap ends_of c.deref.ensures.value ∙ ends))
-    c.read_index.ensures.reads.same refl refl refl)
+    c.read_entries.ensures.reads.same refl refl refl)
 
 pub returns-clause-leaves : goal.returns-clause-leaves
 returns-clause-leaves g c =
-    noted_leaves g.D.Disk c.args.parts.now _ c.args.at c.args.file.now c.args.offset c.in_ok-index.index.part _ (part_plain _ c.in_ok-index.ensures.kind) c.read_index.ensures.reads refl
+    noted_leaves g.D.Disk c.args.parts.now _ c.args.at c.args.file.now c.args.offset (part_reply c.in_ok-index.index.part) _ (part_plain (part_reply c.in_ok-index.index.part) tt) c.read_entries.ensures.reads refl
 
 pub returns-clause-unreadable : goal.returns-clause-unreadable
 returns-clause-unreadable g c =
@@ -174,10 +175,10 @@ returns-clause-unreadable g c =
     let a = c.in_ok-asked.asked in
     let index = c.in_ok-index.index in
     let path : c.as_str-2.result.now ≡ string_bytes a.path = c.as_str-2.ensures.value in
-    let some : a.whole ≡ Some c.in-Some.is_fixed = search rules in
+    let some : a.whole ≡ Some c.in-Some.kind = search rules in
     let it : Asked = record { path = string_bytes a.path; way = from_offset a.whole c.args.offset } in
-    tells_given g.D.Disk old.disk _ it index.part (ap (λ (x : Result Asked Refusal). result_ok x) (c.in_ok-asked.ensures.value c.args.offset)) c.in_ok-index.ensures.kind
-    (λ h. index_got (g.D.Disk.content old.disk) (string_bytes a.path) c.as_str-2.result.now c.args.offset c.in-Some.is_fixed a.whole (shown_index index) path some (c.in_ok-index.ensures.exact h))
+    tells_given g.D.Disk old.disk _ it (part_reply index.part) (ap (λ (x : Result Asked Refusal). result_ok x) (c.in_ok-asked.ensures.value c.args.offset)) tt
+    (λ h. index_got (g.D.Disk.content old.disk) (string_bytes a.path) c.as_str-2.result.now c.args.offset c.in-Some.kind a.whole (shown_given index) path some (c.in_ok-index.ensures.exact h))
 
 -- ---- the session
 

@@ -1,5 +1,5 @@
 use Rattle.core_reader.proofs.Loads.{bytes_given, bytes_stopped, load_at, load_failed}
-use Rattle.core_reader.proofs.Telling.{reads_as}
+use Rattle.disk_trait.proofs.OnlyReading.{reads_as}
 use Rattle.core_reader.proofs.loading.read_bytes.Goals as goal
 
 pub returns-in-Ok-clause-value : goal.returns-in-Ok-clause-value

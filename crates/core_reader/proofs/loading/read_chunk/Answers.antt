@@ -1,7 +1,7 @@
 use Rattle.std.proofs.Common.{ap, sym}
 use Rattle.store_types.specs.declared.names.Digest32.{Digest32}
 use Rattle.core_reader.proofs.Loads.{chunk_stopped, held_stopped, load_at, load_failed}
-use Rattle.core_reader.proofs.Telling.{reads_as}
+use Rattle.disk_trait.proofs.OnlyReading.{reads_as}
 use Rattle.core_reader.proofs.loading.read_chunk.Goals as goal
 
 pub returns-in-Err-clause-reads : goal.returns-in-Err-clause-reads

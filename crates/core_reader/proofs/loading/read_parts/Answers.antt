@@ -4,7 +4,7 @@ use Rattle.std.specs.declared.alloc.Global.{Global}
 use Rattle.restore_reader.specs.declared.ranges.Part.{Part}
 use Rattle.restore_reader.specs.Cutting.{cut, total_of}
 use Rattle.chunk_store.specs.Pieces.{IsHeld}
-use Rattle.snapshot_files.proofs.OnlyReading.{reads_none, reads_then}
+use Rattle.disk_trait.proofs.OnlyReading.{reads_none, reads_then}
 use Rattle.core_state.proofs.Commanding.{gives_by}
 use Rattle.core_reader.specs.Chunks.{part_chunk_at, parts_at}
 use Rattle.core_reader.proofs.Loads.{behind, none_behind, part_more, none_stopped, part_stopped, parts_done, total_more, held_joined, held_part, chunk_then, short_only}

@@ -5,7 +5,7 @@ use Rattle.store_types.specs.declared.refusal.Refusal.TheVariants.{NoFile}
 use Rattle.wire_commands.specs.declared.reply.Reply.{Reply}
 use Rattle.wire_commands.specs.declared.reply.Reply.TheVariants.{Data}
 use Rattle.store_history.specs.declared.act.Act.TheVariants.{ReadChunk}
-use Rattle.snapshot_files.proofs.OnlyReading.{reads_then}
+use Rattle.disk_trait.proofs.OnlyReading.{reads_then}
 use Rattle.core_state.specs.Wanted.{session_at}
 use Rattle.core_state.proofs.Commanding.{read_does, read_leaves, reads_none, refused_does, same_kept, stopped_does, stopped_leaves}
 use Rattle.core_state.proofs.Texts.{data_has_text, no_file_has_text}
@@ -110,7 +110,7 @@ returns-in_err-digest-clause-does g c =
     c.read_entry.ensures.reads (record { catalogue = refl; sessions = refl; locks = refl }) c.in_err-digest.ensures.text (entry_error_answers c.as_str.result.now _ c.in_err-digest.ensures.kind)
     (λ s h. read_stops {A = Digest32} (λ digest. digest) _ _ _ (c.in_err-digest.ensures.exact h.honest)
     (λ refusal gives. entry_refused d old s c.args.at.lane c.args.name.now path c.args.entry c.requires placed good h
-    c.as_str.result.now c.is_fixed.result c.as_str.ensures.value c.is_fixed.ensures refusal gives))
+    c.as_str.result.now c.index_kind.result c.as_str.ensures.value c.index_kind.ensures refusal gives))
 
 pub returns-in_err-digest-clause-leaves : goal.returns-in_err-digest-clause-leaves
 returns-in_err-digest-clause-leaves g c =
@@ -123,7 +123,7 @@ returns-in_err-digest-clause-by_disk g c =
     let path = string_bytes c.in_ok-path.path in
     let placed = place_is c.args.name.now (session_at old c.args.at.lane) old.catalogue.listed path c.in_ok-path.ensures.value in
     let good : is_index_name c.args.name.now ≡ true = search rules in
-    entry_unread g.D.Disk old c.args.at c.args.name.now c.args.entry path placed good c.as_str.result.now c.is_fixed.result c.as_str.ensures.value c.is_fixed.ensures _ _
+    entry_unread g.D.Disk old c.args.at c.args.name.now c.args.entry path placed good c.as_str.result.now c.index_kind.result c.as_str.ensures.value c.index_kind.ensures _ _
     c.from_residual-in_err-digest.ensures.1 c.in_err-digest.ensures.exact
 
 pub returns-in_err-digest-clause-unreadable : goal.returns-in_err-digest-clause-unreadable
@@ -136,7 +136,7 @@ returns-in_err-digest-clause-unreadable g c =
     tells_stopped d old.disk {A = Reply} (λ part. part) _ (as_entry c.args.name.now c.args.entry path) c.read_entry.result _ c.in_err-digest.was _ c.from_residual-in_err-digest.ensures.1
     (entry_asked c.args.name.now c.args.entry (session_at old c.args.at.lane) old.catalogue.listed path placed good)
     (read_at path c.as_str.result.now _ c.as_str.ensures.value c.in_err-digest.ensures.kind)
-    (λ h. entry_stop (d.content old.disk) path c.as_str.result.now c.args.name.now c.args.entry c.is_fixed.result c.as_str.ensures.value c.is_fixed.ensures _ (c.in_err-digest.ensures.exact h))
+    (λ h. entry_stop (d.content old.disk) path c.as_str.result.now c.args.name.now c.args.entry c.index_kind.result c.as_str.ensures.value c.index_kind.ensures _ (c.in_err-digest.ensures.exact h))
 
 pub returns-in_err-digest-clause-damaged : goal.returns-in_err-digest-clause-damaged
 returns-in_err-digest-clause-damaged g c =
@@ -150,7 +150,7 @@ returns-in_err-digest-clause-damaged g c =
     (unread_undamaged c.as_str.result.now _ (d.honest old.disk)
     (asked_damage (d.content old.disk) (asked_entry c.args.name.now c.args.entry (session_at old c.args.at.lane) old.catalogue.listed) ≡ None) _
     c.in_err-digest.ensures.kind c.in_err-digest.ensures.exact
-    (λ refusal honest gives. damage_unread (d.content old.disk) path c.as_str.result.now c.args.name.now c.args.entry c.is_fixed.result c.as_str.ensures.value c.is_fixed.ensures _ refusal asked gives))
+    (λ refusal honest gives. damage_unread (d.content old.disk) path c.as_str.result.now c.args.name.now c.args.entry c.index_kind.result c.as_str.ensures.value c.index_kind.ensures _ refusal asked gives))
 
 -- ---- the chunk is damaged, or was not read
 
@@ -167,7 +167,7 @@ returns-in_err-bytes-clause-does g c =
     (at_text digest _ c.in_err-bytes.ensures.damage) (chunk_answers digest _ c.in_err-bytes.ensures.damage)
     (λ s h.
     let (p, held, named, is) = entry_given d old s c.args.at.lane c.args.name.now path c.args.entry c.requires placed good h
-    c.as_str.result.now c.is_fixed.result c.as_str.ensures.value c.is_fixed.ensures digest (c.in_ok-digest.ensures.exact h.honest) in
+    c.as_str.result.now c.index_kind.result c.as_str.ensures.value c.index_kind.ensures digest (c.in_ok-digest.ensures.exact h.honest) in
     none_stops (d.content old.disk) (d.content c.read_entry.new.disk) p digest _ _ (c.read_entry.ensures.reads.same h.honest) held named
     (c.in_err-bytes.ensures.value (c.read_entry.ensures.reads.serves.kept.0 h.honest)))
 
@@ -186,7 +186,7 @@ returns-in_err-bytes-clause-by_disk g c = λ honest.
     let path = string_bytes c.in_ok-path.path in
     let placed = place_is c.args.name.now (session_at old c.args.at.lane) old.catalogue.listed path c.in_ok-path.ensures.value in
     let good : is_index_name c.args.name.now ≡ true = search rules in
-    chunk_stops d old c.args.at c.args.name.now c.args.entry path placed good c.as_str.result.now c.is_fixed.result c.as_str.ensures.value c.is_fixed.ensures
+    chunk_stops d old c.args.at c.args.name.now c.args.entry path placed good c.as_str.result.now c.index_kind.result c.as_str.ensures.value c.index_kind.ensures
     c.in_ok-digest.digest (d.content c.read_entry.new.disk) (c.in_ok-digest.ensures.exact honest) (c.read_entry.ensures.reads.same honest) _ _
     c.from_residual-in_err-bytes.ensures.1 (c.in_err-bytes.ensures.value (c.read_entry.ensures.reads.serves.kept.0 honest))
 
@@ -199,7 +199,7 @@ returns-in_err-bytes-clause-unreadable g c =
     let good : is_index_name c.args.name.now ≡ true = search rules in
     let asked = entry_asked c.args.name.now c.args.entry (session_at old c.args.at.lane) old.catalogue.listed path placed good in
     tells_unloaded d old.disk _ (as_entry c.args.name.now c.args.entry path) asked c.in_ok-digest.digest _ _ c.from_residual-in_err-bytes.ensures.1 c.in_err-bytes.ensures.damage
-    (λ h. entry_got (d.content old.disk) path c.as_str.result.now c.args.name.now c.args.entry c.is_fixed.result c.as_str.ensures.value c.is_fixed.ensures c.in_ok-digest.digest (c.in_ok-digest.ensures.exact h))
+    (λ h. entry_got (d.content old.disk) path c.as_str.result.now c.args.name.now c.args.entry c.index_kind.result c.as_str.ensures.value c.index_kind.ensures c.in_ok-digest.digest (c.in_ok-digest.ensures.exact h))
 
 pub returns-in_err-bytes-clause-damaged : goal.returns-in_err-bytes-clause-damaged
 returns-in_err-bytes-clause-damaged g c =
@@ -211,7 +211,7 @@ returns-in_err-bytes-clause-damaged g c =
     let good : is_index_name c.args.name.now ≡ true = search rules in
     let asked = entry_asked c.args.name.now c.args.entry (session_at old c.args.at.lane) old.catalogue.listed path placed good in
     damages_found d old.disk _ _ digest _ _ c.from_residual-in_err-bytes.ensures.1 c.in_err-bytes.ensures.damage tt
-    (λ honest fault is. damage_told (d.content old.disk) path c.as_str.result.now c.args.name.now c.args.entry c.is_fixed.result c.as_str.ensures.value c.is_fixed.ensures _ digest fault
+    (λ honest fault is. damage_told (d.content old.disk) path c.as_str.result.now c.args.name.now c.args.entry c.index_kind.result c.as_str.ensures.value c.index_kind.ensures _ digest fault
     (d.content c.read_entry.new.disk) asked (c.in_ok-digest.ensures.exact honest) (c.read_entry.ensures.reads.same honest)
     (gives_so digest fault _ _ is (c.in_err-bytes.ensures.value (c.read_entry.ensures.reads.serves.kept.0 honest))))
 
@@ -231,7 +231,7 @@ returns-clause-does g c =
     (data_has_text bytes (bytes_short bytes c.in_ok-bytes.ensures.size)) refl tt
     (λ s h.
     let (p, held, named, is) = entry_given d old s c.args.at.lane c.args.name.now path c.args.entry c.requires placed good h
-    c.as_str.result.now c.is_fixed.result c.as_str.ensures.value c.is_fixed.ensures digest (c.in_ok-digest.ensures.exact h.honest) in
+    c.as_str.result.now c.index_kind.result c.as_str.ensures.value c.index_kind.ensures digest (c.in_ok-digest.ensures.exact h.honest) in
     bytes_given s c.args.at.lane c.args.name.now c.args.entry (d.content old.disk) (d.content c.read_entry.new.disk) p bytes digest (c.read_entry.ensures.reads.same h.honest) held named
     (c.in_ok-bytes.ensures.value (c.read_entry.ensures.reads.serves.kept.0 h.honest)) is)
 
@@ -250,7 +250,7 @@ returns-clause-by_disk g c = λ honest.
     let path = string_bytes c.in_ok-path.path in
     let placed = place_is c.args.name.now (session_at old c.args.at.lane) old.catalogue.listed path c.in_ok-path.ensures.value in
     let good : is_index_name c.args.name.now ≡ true = search rules in
-    chunk_given d old c.args.at c.args.name.now c.args.entry path placed good c.as_str.result.now c.is_fixed.result c.as_str.ensures.value c.is_fixed.ensures
+    chunk_given d old c.args.at c.args.name.now c.args.entry path placed good c.as_str.result.now c.index_kind.result c.as_str.ensures.value c.index_kind.ensures
     c.in_ok-digest.digest (d.content c.read_entry.new.disk) (c.in_ok-digest.ensures.exact honest) (c.read_entry.ensures.reads.same honest)
     c.in_ok-bytes.bytes (c.in_ok-bytes.ensures.value (c.read_entry.ensures.reads.serves.kept.0 honest))
 
@@ -263,7 +263,7 @@ returns-clause-unreadable g c =
     let good : is_index_name c.args.name.now ≡ true = search rules in
     let asked = entry_asked c.args.name.now c.args.entry (session_at old c.args.at.lane) old.catalogue.listed path placed good in
     tells_readable d old.disk _ (as_entry c.args.name.now c.args.entry path) asked 0 (Some (Data c.in_ok-bytes.bytes)) (λ n e. cc)
-    (λ h. entry_got (d.content old.disk) path c.as_str.result.now c.args.name.now c.args.entry c.is_fixed.result c.as_str.ensures.value c.is_fixed.ensures c.in_ok-digest.digest (c.in_ok-digest.ensures.exact h))
+    (λ h. entry_got (d.content old.disk) path c.as_str.result.now c.args.name.now c.args.entry c.index_kind.result c.as_str.ensures.value c.index_kind.ensures c.in_ok-digest.digest (c.in_ok-digest.ensures.exact h))
 
 pub returns-clause-damaged : goal.returns-clause-damaged
 returns-clause-damaged g c =
@@ -275,6 +275,6 @@ returns-clause-damaged g c =
     let good : is_index_name c.args.name.now ≡ true = search rules in
     let asked = entry_asked c.args.name.now c.args.entry (session_at old c.args.at.lane) old.catalogue.listed path placed good in
     damages_none d old.disk _ _ 0 (Some (Data c.in_ok-bytes.bytes)) (λ d f e. cc)
-    (λ honest. damage_none (d.content old.disk) path c.as_str.result.now c.args.name.now c.args.entry c.is_fixed.result c.as_str.ensures.value c.is_fixed.ensures _ digest c.in_ok-bytes.bytes
+    (λ honest. damage_none (d.content old.disk) path c.as_str.result.now c.args.name.now c.args.entry c.index_kind.result c.as_str.ensures.value c.index_kind.ensures _ digest c.in_ok-bytes.bytes
     (d.content c.read_entry.new.disk) asked (c.in_ok-digest.ensures.exact honest) (c.read_entry.ensures.reads.same honest)
     (c.in_ok-bytes.ensures.value (c.read_entry.ensures.reads.serves.kept.0 honest)))

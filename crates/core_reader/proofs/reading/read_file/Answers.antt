@@ -1,6 +1,7 @@
 use Rattle.std.proofs.Common.{None, refl, string_bytes}
 use Rattle.wire_commands.specs.declared.reply.Reply.{Reply}
 use Rattle.store_history.specs.declared.act.Act.TheVariants.{ReadFile}
+use Rattle.snapshot_files.specs.Parts.{part_reply}
 use Rattle.core_state.specs.Wanted.{session_at}
 use Rattle.core_state.proofs.Commanding.{read_does, read_leaves, reads_none, same_kept, stopped_does}
 use Rattle.core_reader.specs.Asked.{as_part}
@@ -47,7 +48,7 @@ returns-in_err-part-clause-does g c =
     let placed = place_is name (session_at old c.args.at.lane) old.catalogue.listed path c.in_ok-path.ensures.value in
     stops_does d old _ c.args.at (ReadFile name c.args.offset) c.read_part.result _ c.in_err-part.was _ c.from_residual-in_err-part.ensures.1
     c.read_part.ensures.reads (record { catalogue = refl; sessions = refl; locks = refl }) c.in_err-part.ensures.text (read_error_answers c.as_str.result.now _ c.in_err-part.ensures.kind)
-    (λ s h. read_stops {A = Reply} (λ part. part) _ _ _ (c.in_err-part.ensures.exact h.honest)
+    (λ s h. read_stops part_reply _ _ _ (c.in_err-part.ensures.exact h.honest)
     (λ refusal gives. read_refused d old s c.args.at.lane name path c.as_str.result.now c.args.offset c.requires c.path_of.ensures.name placed c.as_str.ensures.value h refusal gives))
 
 pub returns-in_err-part-clause-leaves : goal.returns-in_err-part-clause-leaves
@@ -79,25 +80,25 @@ returns-clause-does g c =
     let name = c.args.name.now in
     let path = string_bytes c.in_ok-path.path in
     let placed = place_is name (session_at old c.args.at.lane) old.catalogue.listed path c.in_ok-path.ensures.value in
-    read_does d old _ c.args.at (ReadFile name c.args.offset) c.in_ok-part.part _ c.read_part.ensures.reads (record { catalogue = refl; sessions = refl; locks = refl })
-    c.in_ok-part.ensures.text (filled_answers c.args.offset _ c.in_ok-part.ensures.kind c.in_ok-part.ensures.filled) (part_plain _ c.in_ok-part.ensures.kind)
-    (λ s h. read_given d old s c.args.at.lane name path c.as_str.result.now c.args.offset c.requires c.path_of.ensures.name placed c.as_str.ensures.value h c.in_ok-part.part (c.in_ok-part.ensures.exact h.honest))
+    read_does d old _ c.args.at (ReadFile name c.args.offset) (part_reply c.in_ok-part.part) _ c.read_part.ensures.reads (record { catalogue = refl; sessions = refl; locks = refl })
+    c.in_ok-part.ensures.text (filled_answers c.args.offset c.in_ok-part.part c.in_ok-part.ensures.filled) (part_plain (part_reply c.in_ok-part.part) tt)
+    (λ s h. read_given d old s c.args.at.lane name path c.as_str.result.now c.args.offset c.requires c.path_of.ensures.name placed c.as_str.ensures.value h (part_reply c.in_ok-part.part) (c.in_ok-part.ensures.exact h.honest))
 
 pub returns-clause-leaves : goal.returns-clause-leaves
 returns-clause-leaves g c =
-    read_leaves g.D.Disk c.args.parts.now _ c.args.at (ReadFile c.args.name.now c.args.offset) c.in_ok-part.part _ c.read_part.ensures.reads (record { catalogue = refl; sessions = refl; locks = refl })
-    (record { plain = part_plain _ c.in_ok-part.ensures.kind; change = refl; listed = refl; goes_on = refl; writes = λ writes. cc }) (λ e. cc)
+    read_leaves g.D.Disk c.args.parts.now _ c.args.at (ReadFile c.args.name.now c.args.offset) (part_reply c.in_ok-part.part) _ c.read_part.ensures.reads (record { catalogue = refl; sessions = refl; locks = refl })
+    (record { plain = part_plain (part_reply c.in_ok-part.part) tt; change = refl; listed = refl; goes_on = refl; writes = λ writes. cc }) (λ e. cc)
 
 pub returns-clause-by_disk : goal.returns-clause-by_disk
 returns-clause-by_disk g c =
     part_answers g.D.Disk c.args.parts.now c.args.at c.args.name.now c.args.offset (string_bytes c.in_ok-path.path) c.as_str.result.now c.in_ok-path.ensures.value c.as_str.ensures.value
-    c.in_ok-part.part c.in_ok-part.ensures.exact
+    (part_reply c.in_ok-part.part) c.in_ok-part.ensures.exact
 
 pub returns-clause-unreadable : goal.returns-clause-unreadable
 returns-clause-unreadable g c =
     let d = g.D.Disk in
     let old = c.args.parts.now in
     let path = string_bytes c.in_ok-path.path in
-    tells_given d old.disk _ (as_part c.args.offset path) c.in_ok-part.part
-    (part_asked c.args.name.now c.args.offset (session_at old c.args.at.lane) old.catalogue.listed path c.in_ok-path.ensures.value) c.in_ok-part.ensures.kind
-    (λ h. part_got (d.content old.disk) path c.as_str.result.now c.args.offset None c.in_ok-part.part c.as_str.ensures.value refl (c.in_ok-part.ensures.exact h))
+    tells_given d old.disk _ (as_part c.args.offset path) (part_reply c.in_ok-part.part)
+    (part_asked c.args.name.now c.args.offset (session_at old c.args.at.lane) old.catalogue.listed path c.in_ok-path.ensures.value) tt
+    (λ h. part_got (d.content old.disk) path c.as_str.result.now c.args.offset None (part_reply c.in_ok-part.part) c.as_str.ensures.value refl (c.in_ok-part.ensures.exact h))

@@ -4,7 +4,7 @@ use Rattle.wire_commands.specs.declared.command.Command.TheVariants as commands
 use Rattle.store_history.specs.declared.act.Act.TheVariants.{Plain}
 use Rattle.store_stops.specs.Stops.{Gives}
 use Rattle.core_state.specs.Named.{is_named}
-use Rattle.core_state.specs.Unreadables.{whole_by}
+use Rattle.snapshot_files.specs.Indexes.{kind_named}
 use Rattle.core_state.proofs.Commanding.{unwritten_does, unwritten_leaves}
 use Rattle.core_state.proofs.NamedLemmas.{list_all-set, list_all-at}
 use Rattle.core_uploads.specs.Previous.{MayKnow, with_known, base_file, previous_by, shown_given}
@@ -76,7 +76,7 @@ returns-in_err-given-clause-does g c = let d = g.D.Disk in
     (found_wants old.sessions.items c.args.at.lane c.index.result.now c.in-Writer.w within c.index.ensures c.in-Writer.is) c.in_ok-name.ensures.name.1 found
     c.in_err-given.field-0.0 _ c.from_residual-in_err-given.ensures.1 (λ f. c.in_err-given.was ∙ f) (record { catalogue = refl; sessions = refl; locks = refl })
     c.in_err-given.ensures.text c.in_err-given.ensures.kind
-    (λ honest. subst (λ n. Gives shown_given (Err c.in_err-given.field-0.0) (previous_by (whole_by n) (d.content old.disk) c.in_ok-path.path.now c.args.offset)) named (c.in_err-given.ensures.exact honest))
+    (λ honest. subst (λ n. Gives shown_given (Err c.in_err-given.field-0.0) (previous_by (kind_named n) (d.content old.disk) c.in_ok-path.path.now c.args.offset)) named (c.in_err-given.ensures.exact honest))
 
 pub returns-in_err-given-clause-leaves : goal.returns-in_err-given-clause-leaves
 returns-in_err-given-clause-leaves g c =
@@ -92,7 +92,7 @@ returns-in_err-given-clause-unreadable g c = let d = g.D.Disk in
     tells_unread d old.disk c.args.name.now c.args.offset _ old.catalogue.listed c.in-Writer.w c.in_ok-path.path.now
     (found_at old.sessions.items c.args.at.lane c.index.result.now c.in-Writer.w within c.index.ensures c.in-Writer.is) c.in_ok-name.ensures.name.1 found
     c.in_err-given.field-0.0 _ c.from_residual-in_err-given.ensures.1 c.in_err-given.ensures.kind
-    (λ honest. subst (λ n. Gives shown_given (Err c.in_err-given.field-0.0) (previous_by (whole_by n) (d.content old.disk) c.in_ok-path.path.now c.args.offset)) named (c.in_err-given.ensures.exact honest))
+    (λ honest. subst (λ n. Gives shown_given (Err c.in_err-given.field-0.0) (previous_by (kind_named n) (d.content old.disk) c.in_ok-path.path.now c.args.offset)) named (c.in_err-given.ensures.exact honest))
 
 -- ---- it is given
 
@@ -132,15 +132,15 @@ returns-clause-does g c = let d = g.D.Disk in
     let again = found_again old.sessions.items c.args.at.lane c.index.result.now c.index_mut-session.result.now within c.index.ensures c.index_mut-session.ensures.value in
     let named : c.in_ok-name.name ≡ c.args.name.now = c.in_ok-name.ensures.name.0 in
     let found : base_file ((c.in-Writer.w).session).writer.base c.args.name.now old.catalogue.listed ≡ Ok c.in_ok-path.path.now = search rules in
-    let items : c.deref.result.now ≡ c.in_ok-given.given.pieces.items = search rules in
+    let items : c.deref.result.now ≡ c.in_ok-given.given.pieces.items.items = search rules in
     given_does d old c.args.at c.args.name.now c.args.offset _ _ c.read_file.ensures.reads c.in-Writer.w c.in_ok-path.path.now c.requires
     (found_wants old.sessions.items c.args.at.lane c.index.result.now c.in-Writer.w within c.index.ensures c.in-Writer.is) c.in_ok-name.ensures.name.1 found
-    c.in_ok-given.given c.note.new.session c.index_mut-session.result.now c.in_ok-given.ensures.kind c.in_ok-given.ensures.text
-    (λ honest. subst (λ n. previous_by (whole_by n) (d.content old.disk) c.in_ok-path.path.now c.args.offset ≡ Ok (shown_given c.in_ok-given.given)) named (c.in_ok-given.ensures.exact honest))
+    c.in_ok-given.given c.note.new.session c.index_mut-session.result.now tt c.in_ok-given.ensures.text
+    (λ honest. subst (λ n. previous_by (kind_named n) (d.content old.disk) c.in_ok-path.path.now c.args.offset ≡ Ok (shown_given c.in_ok-given.given)) named (c.in_ok-given.ensures.exact honest))
     refl refl refl (again ∙ c.in-Writer.is) (c.in_ok-note.ensures.ok ∙ ap (λ ks. with_known (map indexes.known_of ks) c.index_mut-session.result.now) items)
 
 pub returns-clause-leaves : goal.returns-clause-leaves
-returns-clause-leaves g c = given_leaves g.D.Disk c.args.parts.now c.args.at c.args.name.now c.args.offset _ _ c.read_file.ensures.reads c.in_ok-given.given c.in_ok-given.ensures.kind refl
+returns-clause-leaves g c = given_leaves g.D.Disk c.args.parts.now c.args.at c.args.name.now c.args.offset _ _ c.read_file.ensures.reads c.in_ok-given.given tt refl
 
 pub returns-clause-unreadable : goal.returns-clause-unreadable
 returns-clause-unreadable g c = let d = g.D.Disk in
@@ -150,5 +150,5 @@ returns-clause-unreadable g c = let d = g.D.Disk in
     let found : base_file ((c.in-Writer.w).session).writer.base c.args.name.now old.catalogue.listed ≡ Ok c.in_ok-path.path.now = search rules in
     tells_given d old.disk c.args.name.now c.args.offset _ old.catalogue.listed c.in-Writer.w c.in_ok-path.path.now
     (found_at old.sessions.items c.args.at.lane c.index.result.now c.in-Writer.w within c.index.ensures c.in-Writer.is) c.in_ok-name.ensures.name.1 found
-    c.in_ok-given.given c.in_ok-given.ensures.kind
-    (λ honest. subst (λ n. previous_by (whole_by n) (d.content old.disk) c.in_ok-path.path.now c.args.offset ≡ Ok (shown_given c.in_ok-given.given)) named (c.in_ok-given.ensures.exact honest))
+    c.in_ok-given.given tt
+    (λ honest. subst (λ n. previous_by (kind_named n) (d.content old.disk) c.in_ok-path.path.now c.args.offset ≡ Ok (shown_given c.in_ok-given.given)) named (c.in_ok-given.ensures.exact honest))

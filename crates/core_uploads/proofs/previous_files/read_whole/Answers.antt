@@ -1,12 +1,27 @@
-use Rattle.std.proofs.Common.{IsTrue, sym, subst}
-use Rattle.store_files.specs.DynamicIndex.{steps_fit}
-use Rattle.store_files.specs.Entries.{ends_of}
+use Rattle.std.proofs.Common.{◌≡◌, [], map, refl, sym, ap, subst}
+use Rattle.dynamic_index.specs.Writing.{known_of}
+use Rattle.snapshot_files.specs.Indexes.{lengths_from}
+use Rattle.snapshot_files.specs.Parts.{part_reply}
 use Rattle.snapshot_files.proofs.Archives.{lengths_fit}
+use Rattle.snapshot_files.proofs.Opened.{unread_index}
+use Rattle.core_uploads.specs.declared.previous_files.Pieces.{Pieces}
 use Rattle.core_uploads.specs.Previous.{ArePieces}
+use Rattle.core_uploads.proofs.PreviousLemmas.{index_unread, whole_given}
 use Rattle.core_uploads.proofs.previous_files.read_whole.Goals as goal
+
+pub returns-in_err-index-clause-exact : goal.returns-in_err-index-clause-exact
+returns-in_err-index-clause-exact g c = let d = g.D.Disk in λ h.
+    index_unread (d.content c.args.disk.now) c.args.path.now c.as_str.result.now c.args.kind c.args.offset c.in_err-index.field-0.0 _ c.from_residual.ensures.1 c.as_str.ensures.text
+    (unread_index {T = Pieces} (d.content c.args.disk.now) c.as_str.result.now c.args.kind c.args.offset (λ p base entries. map known_of p.items.items ≡ lengths_from base entries)
+    (record { items = c.new.result }) c.read_index.new.taker c.in_err-index.field-0.0 (c.in_err-index.ensures.exact h))
+
+pub returns-clause-exact : goal.returns-clause-exact
+returns-clause-exact g c = let d = g.D.Disk in λ h.
+    let x = c.in_ok-index.ensures.exact h in
+    whole_given (d.content c.args.disk.now) c.args.path.now c.as_str.result.now c.args.kind c.args.offset (part_reply c.in_ok-index.index.part) x.entries _ c.as_str.ensures.text x.read
+    (x.hands 0 [] (ap (map known_of) c.new.ensures.items) refl)
 
 pub returns-clause-pieces : goal.returns-clause-pieces
 returns-clause-pieces g c =
-    let fits = c.in_ok-index.ensures.entries in
-    let steps : IsTrue (steps_fit 0 (ends_of c.deref.result.now)) = subst (λ es. IsTrue (steps_fit 0 (ends_of es))) (sym c.deref.ensures.value) fits.steps in
-    subst ArePieces (sym c.in_ok-pieces.ensures) (lengths_fit 0 (ends_of c.deref.result.now) steps)
+    let some = c.in_ok-index.ensures.some in
+    subst ArePieces (sym (some.hands 0 [] (ap (map known_of) c.new.ensures.items) refl)) (lengths_fit 0 some.entries (some.fit).steps)

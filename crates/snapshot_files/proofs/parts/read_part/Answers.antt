@@ -3,7 +3,7 @@ use Rattle.std.specs.FinMap.{get}
 use Rattle.store_model.specs.WriterSteps.{part_limit}
 use Rattle.snapshot_files.proofs.Texts.{bad_range_has_text, part_has_text}
 use Rattle.snapshot_files.proofs.PartLemmas.{at_some, part_is, part_there, seam, some_of}
-use Rattle.snapshot_files.proofs.OnlyReading.{reads_by, reads_call}
+use Rattle.disk_trait.proofs.OnlyReading.{reads_by, reads_call}
 use Rattle.snapshot_files.proofs.parts.read_part.Goals as goal
 
 pub returns-then-offset-total-clause-text : goal.returns-then-offset-total-clause-text

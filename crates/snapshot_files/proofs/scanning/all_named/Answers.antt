@@ -4,7 +4,7 @@ use Rattle.std.proofs.lemmas.List.{take_more, map_push}
 use Rattle.std.proofs.lemmas.List.Elements.{All-nil, filter_map-append}
 use Rattle.disk_trait.specs.Files.{Files}
 use Rattle.snapshot_files.specs.Scanned.{HasNames, found_named}
-use Rattle.snapshot_files.proofs.OnlyReading.{reads_none, reads_then, reads_by}
+use Rattle.disk_trait.proofs.OnlyReading.{reads_none, reads_then, reads_by}
 use Rattle.snapshot_files.proofs.scanning.all_named.Goals as goal
 
 pub loop-name-init : goal.loop-name-init

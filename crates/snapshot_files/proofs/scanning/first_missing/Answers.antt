@@ -6,7 +6,7 @@ use Rattle.manifest.proofs.Ordered.{lesser-assoc}
 use Rattle.manifest.proofs.Uploads.{from_place}
 use Rattle.snapshot_files.specs.Scanned as scanned
 use Rattle.snapshot_files.specs.Scanned.{missing_name}
-use Rattle.snapshot_files.proofs.OnlyReading.{reads_none, reads_then, reads_by}
+use Rattle.disk_trait.proofs.OnlyReading.{reads_none, reads_then, reads_by}
 use Rattle.snapshot_files.proofs.scanning.first_missing.Goals as goal
 
 pub loop-file-init : goal.loop-file-init

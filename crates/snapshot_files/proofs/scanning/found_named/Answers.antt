@@ -2,9 +2,8 @@ use Rattle.std.proofs.Common.{◌∙◌, ap, sym, rules}
 use Rattle.std.specs.Prelude.{option_map}
 use Rattle.disk_trait.specs.Files.{Files}
 use Rattle.manifest.specs.Views.{manifest_view}
-use Rattle.store_model.specs.Load.{read_manifest}
 use Rattle.snapshot_files.specs.Scanned.{unreadable_by}
-use Rattle.snapshot_files.proofs.OnlyReading.{reads_by}
+use Rattle.disk_trait.proofs.OnlyReading.{reads_by}
 use Rattle.snapshot_files.proofs.FoundLemmas.{found_is, found_none}
 use Rattle.snapshot_files.proofs.scanning.found_named.Goals as goal
 

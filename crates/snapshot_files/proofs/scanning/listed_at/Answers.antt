@@ -1,6 +1,6 @@
 use Rattle.std.proofs.Common.{◌≡◌, length, option_map, Some, ◌∙◌, sym, rules}
 use Rattle.std.specs.FinMap.{get}
-use Rattle.snapshot_files.proofs.OnlyReading.{reads_by, reads_call}
+use Rattle.disk_trait.proofs.OnlyReading.{reads_by, reads_call}
 use Rattle.snapshot_files.proofs.FoundLemmas.{long_lists_none}
 use Rattle.snapshot_files.proofs.scanning.listed_at.Goals as goal
 

@@ -2,7 +2,7 @@ use Rattle.std.proofs.Common.{◌≡◌, ◌∙◌, string_bytes, ap, rules}
 use Rattle.std.specs.Prelude.{codes}
 use Rattle.disk_trait.specs.Files.{Files}
 use Rattle.snapshot_files.specs.Scanned.{names_under}
-use Rattle.snapshot_files.proofs.OnlyReading.{reads_by, reads_by3, reads_call}
+use Rattle.disk_trait.proofs.OnlyReading.{reads_by, reads_by3, reads_call}
 use Rattle.snapshot_files.proofs.Joined.{three}
 use Rattle.snapshot_files.proofs.scanning.names_in_folders.Goals as goal
 

@@ -1,7 +1,7 @@
 use Rattle.std.proofs.Common.{◌≡◌, ◌∙◌, IfOk, map, string_bytes, ap, sym, subst, rules}
 use Rattle.disk_trait.specs.Files.{Files}
 use Rattle.snapshot_files.specs.Scanned.{Lists, NamesManifests, folder_names}
-use Rattle.snapshot_files.proofs.OnlyReading.{reads_by}
+use Rattle.disk_trait.proofs.OnlyReading.{reads_by}
 use Rattle.snapshot_files.proofs.Ordered.{names_folders}
 use Rattle.snapshot_files.proofs.scanning.scan.Goals as goal
 
