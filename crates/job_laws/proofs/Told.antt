@@ -15,10 +15,8 @@ use Rattle.store_history.specs.declared.act.Act.{Act}
 use Rattle.store_history.specs.declared.act.Event.{Event}
 use Rattle.store_history.specs.Acts.{Class, stepping, reaching, starting, sweeping, wanting, ending, act_of_step, class_of}
 use Rattle.store_history.specs.History.{World, opened, step_kind, kind_of, act_outcome, after, after_all, lane, moment, kind, own, reply}
-use Rattle.store_history.specs.LaneRun.{Position, begin, next_at, goes_on, heard_as, position_after, Asks, AsksBy, Does, Runs}
+use Rattle.store_history.specs.LaneRun.{ahead, Position, begin, next_at, goes_on, heard_as, position_after, Asks, Does, Runs}
 use Rattle.store_history.specs.Legal.{Right, IsRight, IsLegal}
-use Rattle.store_history.specs.Pulling.{Pulling}
-use Rattle.store_history.proofs.Ending.{next_shut}
 use Rattle.store_history.proofs.Events.{step_class}
 use Rattle.store_history.proofs.Jobs.{at_job, heard_job, at_job_next}
 use Rattle.store_history.proofs.Longer.{own_append}
@@ -38,9 +36,9 @@ same_last rs q r h = (let one = append_cancel_left rs (q ∷ []) (r ∷ []) h in
 
 -- ---- a step of the lane's own
 
-module _ (R : Option (List Snapshot)) (end : Ending) (p : Position) (a : Asking) (left : List ℕ) (next : next_at p ≡ job_step a left) (alone : p.pull ≡ None) where
-  asked : (act : Act) → AsksBy p.pull (next_at p) act → act ≡ act_of_step (step_of a)
-  asked act h = subst (λ (n : Next). Asks n act) next (subst (λ (o : Option Pulling). AsksBy o (next_at p) act) alone h)
+module _ (R : Option (List Snapshot)) (end : Ending) (p : Position) (a : Asking) (left : List ℕ) (next : next_at p ≡ ahead (job_step a left)) where
+  asked : (act : Act) → Asks (next_at p) act → act ≡ act_of_step (step_of a)
+  asked act h = subst (λ n. Asks n act) next h
 
   asked_by : (c : Class) (w : World) (k m : ℕ) (act : Act) (r : Option Reply) (v : Event) (vs : List Event) → Does c end p v vs → Right R w k m act r c step_kind
       → v.act ≡ act_of_step (step_of a)
@@ -54,12 +52,12 @@ module _ (R : Option (List Snapshot)) (end : Ending) (p : Position) (a : Asking)
   -- where it is over its report was told, and where it goes on nothing
   abbrev Hears : Position → Job → Type 0
   Hears q (over report) = q.told ≡ p.told ++ report ∷ []
-  Hears q (asking b) = (next_at q ≡ job_step b left) × (q.pull ≡ None) × (q.told ≡ p.told)
+  Hears q (asking b) = (next_at q ≡ ahead (job_step b left)) × (q.told ≡ p.told)
 
   heard_of : (job : Job) (s b : Bool) → Hears (at_job p left job s b) job
   unfolding goes_on
   heard_of (over report) s b = refl
-  heard_of (asking j) s b = (at_job_next p left j s b (next_shut p (job_step a left) next refl), alone, refl)
+  heard_of (asking j) s b = (at_job_next p left j s b, refl)
 
   record Stepped (w : World) (v : Event) : Type 0 where
     act : v.act ≡ act_of_step (step_of a)
@@ -87,7 +85,7 @@ module _ (R : Option (List Snapshot)) (end : Ending) (p : Position) (a : Asking)
       says = (subst (λ c. Right R w (lane v) (moment v) v.act (reply v) c step_kind) class_is of_kind).1
 
       heard_is : position_after end p v ≡ at_job p left (take a told.1) (((v.answer).entry).kind == MEMORY_KIND) ((v.answer).last || p.is_spent)
-      heard_is = ap (λ c. heard_as c end p v.answer) class_is ∙ heard_job p a left v.answer told.1 alone next says
+      heard_is = ap (λ c. heard_as c end p v.answer) class_is ∙ heard_job p a left v.answer told.1 next says
 
 -- ---- from step to step
 
@@ -107,15 +105,15 @@ module _ (R : Option (List Snapshot)) (k : ℕ) (end : Ending) (r : Reply) where
 
   abbrev Reaches : List Event → Type 0
   Reaches es =
-      (a : Asking) (left : List ℕ) (p : Position) (w : World) (told : List Reply) → next_at p ≡ job_step a left → p.pull ≡ None → IsLegal R w es
+      (a : Asking) (left : List ℕ) (p : Position) (w : World) (told : List Reply) → next_at p ≡ ahead (job_step a left) → IsLegal R w es
       → Runs end p (own k es) told → TellsFirst end p (own k es) r → Reached a es
 
-  own_reached : (v : Event) (es : List Event) → Reaches es → (a : Asking) (left : List ℕ) (p : Position) (w : World) (told : List Reply) → next_at p ≡ job_step a left → p.pull ≡ None
+  own_reached : (v : Event) (es : List Event) → Reaches es → (a : Asking) (left : List ℕ) (p : Position) (w : World) (told : List Reply) → next_at p ≡ ahead (job_step a left)
       → IsRight R w v → IsLegal R (after R w v) es → Runs end p (v ∷ own k es) told → TellsFirst end p (v ∷ own k es) r → OwnReached a v es
-  own_reached v es go a left p w told next alone right legal runs tells = by_job (take a one.answer) refl one.hears tells.1
+  own_reached v es go a left p w told next right legal runs tells = by_job (take a one.answer) refl one.hears tells.1
     where
-      one : Stepped R end p a left next alone w v
-      one = stepped R end p a left next alone w v (own k es) right tells.0 runs.1
+      one : Stepped R end p a left next w v
+      one = stepped R end p a left next w v (own k es) right tells.0 runs.1
 
       q : Position
       q = position_after end p v
@@ -126,20 +124,20 @@ module _ (R : Option (List Snapshot)) (k : ℕ) (end : Ending) (r : Reply) where
       goes : (b : Asking) → take a one.answer ≡ asking b → Reached b es → OwnReached a v es
       goes b is reached = with_steps reached.part reached.rest reached.are (subst (λ j. StepsTo j (own k reached.part) (over r)) (sym is) reached.steps)
 
-      by_job : (job : Job) → take a one.answer ≡ job → Hears R end p a left next alone q job
+      by_job : (job : Job) → take a one.answer ≡ job → Hears R end p a left next q job
           → (q.told ≡ p.told ++ r ∷ []) ⊎ ((q.told ≡ p.told) × TellsFirst end q (own k es) r) → OwnReached a v es
       by_job (over report) is hears (inl now) = with_steps [] es refl (is ∙ ap over (same_last p.told report r (sym hears ∙ now)))
       by_job (over report) is hears (inr later) = absurd (no_more p.told report (sym later.0 ∙ hears))
-      by_job (asking b) is hears (inl now) = absurd (no_more p.told r (sym hears.2 ∙ now))
-      by_job (asking b) is hears (inr later) = goes b is (go b left q (after R w v) told hears.0 hears.1 legal runs.2 later.1)
+      by_job (asking b) is hears (inl now) = absurd (no_more p.told r (sym hears.1 ∙ now))
+      by_job (asking b) is hears (inr later) = goes b is (go b left q (after R w v) told hears.0 legal runs.2 later.1)
 
   reached : (es : List Event) → Reaches es
-  reached [] a left p w told next alone legal runs tells = absurd tells
-  reached (v ∷ es) a left p w told next alone legal runs tells = by_lane (lane v == k) refl runs tells (reached es)
+  reached [] a left p w told next legal runs tells = absurd tells
+  reached (v ∷ es) a left p w told next legal runs tells = by_lane (lane v == k) refl runs tells (reached es)
     where
       by_lane : (b : Bool) → (lane v == k) ≡ b → Runs end p (cond b (v ∷ own k es) (own k es)) told → TellsFirst end p (cond b (v ∷ own k es) (own k es)) r → Reaches es → Reached a (v ∷ es)
       by_lane true on runs tells go =
-          let its = own_reached v es go a left p w told next alone legal.0 legal.1 runs tells in
+          let its = own_reached v es go a left p w told next legal.0 legal.1 runs tells in
           record {
             part = v ∷ its.part;
             rest = its.rest;
@@ -147,7 +145,7 @@ module _ (R : Option (List Snapshot)) (k : ℕ) (end : Ending) (r : Reply) where
             steps = subst (λ b. StepsTo (asking a) (cond b (v ∷ own k its.part) (own k its.part)) (over r)) (sym on) its.steps;
           }
       by_lane false off runs tells go =
-          let its = go a left p (after R w v) told next alone legal.1 runs tells in
+          let its = go a left p (after R w v) told next legal.1 runs tells in
           record {
             part = v ∷ its.part;
             rest = its.rest;
@@ -188,7 +186,7 @@ verifies_are_told R o before first later text x input end told r h ran is tells 
         (runs_behind end (begin input) (own k before) (own k (first ∷ later)) told (subst (λ es. Runs end (begin input) es told) (own_append k before (first ∷ later)) ran))
 
     its : OwnReached R k end r (opening text) first later
-    its = own_reached R k end r first later (reached R k end r later) (opening text) is.left p (after_all R (opened o) before) told is.next is.alone legal.0 legal.1 runs tells
+    its = own_reached R k end r first later (reached R k end r later) (opening text) is.left p (after_all R (opened o) before) told is.next legal.0 legal.1 runs tells
 
     begins : MayBegin R o before first its.part text x
     begins = record {

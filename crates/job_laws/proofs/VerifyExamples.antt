@@ -191,11 +191,11 @@ input = hex (codes "1d000000 22 1b") ++ k ++ bye
 
 ran : LaneRan input endings.Clean (first ∷ steps ++ event acts.End 6 None 7 ∷ []) (report ∷ Done ∷ [])
 unfolding on_verifies
-ran = (refl, (refl, refl), (refl, (refl, refl), (refl, (refl, refl), (refl, (refl, refl), (refl, (refl, refl), (refl, (refl, refl), (refl, (refl, refl), (refl, (refl, (λ five. cc), refl, refl), (refl, refl)))))))))
+ran = (refl, (refl, refl), (refl, (refl, refl), (refl, (refl, refl), (refl, (refl, refl), (refl, (refl, refl), (refl, (refl, refl), (refl, (refl, refl), (refl, (refl, (λ five. cc), tt), (refl, refl)))))))))
 
 is_next : VerifyIsNext (begin input) k
 unfolding on_verifies
-is_next = record { left = bye; next = refl; alone = refl }
+is_next = record { left = bye; next = refl }
 
 -- it tells nothing before its last step
 abbrev IsQuiet : List Event → Type 0

@@ -17,7 +17,7 @@ use Rattle.store_model.specs.Store.{none, Reader, reader, Store, session, snapsh
 use Rattle.store_history.specs.declared.act.Event.{Event}
 use Rattle.store_history.specs.Acts.{act_of_step}
 use Rattle.store_history.specs.History.{World, Opening, opened, after_all, own, lane, kind, reply}
-use Rattle.store_history.specs.LaneRun.{Position, begin, next_at, position_after, LaneRan}
+use Rattle.store_history.specs.LaneRun.{ahead, Position, begin, next_at, position_after, LaneRan}
 use Rattle.store_history.specs.Legal.{IsLegal}
 use Rattle.job_laws.specs.Verifies.{undamaged, report_of, Meanwhile}
 
@@ -90,11 +90,10 @@ TellsFirst ending p (e ∷ es) r =
     let q = position_after ending p e in
     (kind e ≡ COMMAND_KIND) × ((q.told ≡ p.told ++ r ∷ []) ⊎ ((q.told ≡ p.told) × TellsFirst ending q es r))
 
--- the VERIFY is next on the lane, and no SYNC is open
+-- the VERIFY is next on the lane
 pub record VerifyIsNext (p : Position) (text : List ℕ) : Type 0 where
   pub left : List ℕ
-  pub next : next_at p ≡ job_step (opening text) left
-  pub alone : p.pull ≡ None
+  pub next : next_at p ≡ ahead (job_step (opening text) left)
 
 -- What a lane that ran its program tells first, where a VERIFY was next and its acts are done until then,
 -- is what the snapshot is.

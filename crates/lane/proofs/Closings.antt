@@ -1,5 +1,5 @@
 -- The last of a lane: its end, and the reply behind it.
-use Rattle.std.proofs.Common.{◌≡◌, ◌≢◌, ℕ, true, false, List, [], ◌∷◌, ◌++◌, length, Option, Some, None, refl, sym, ap, subst, ◌∙◌, arith, append-nil, append_assoc, option_to_list, ◌⊎◌, inl, inr}
+use Rattle.std.proofs.Common.{◌≡◌, ◌≢◌, ℕ, Bool, true, false, if◌then◌else◌, List, [], ◌∷◌, ◌++◌, length, Option, Some, None, refl, sym, ap, subst, ◌∙◌, arith, append-nil, append_assoc, option_to_list, ◌⊎◌, inl, inr}
 use Rattle.std.proofs.lemmas.List.{length-append}
 use Rattle.store_types.specs.declared.order.TheConstants.{END_KIND}
 use Rattle.port_traits.specs.Bytes.{TakesFrom, WritesCounted}
@@ -12,12 +12,14 @@ use Rattle.store_model.specs.declared.ending.Ending.{Ending}
 use Rattle.store_model.specs.declared.ending.Ending.TheVariants as endings
 use Rattle.store_model.specs.Job.{Job, over, asking}
 use Rattle.store_model.specs.Jobs.{take}
-use Rattle.store_model.specs.Lanes.{Next, job_step, plain, sync, collect, collecting, bye, broken, end}
+use Rattle.store_model.specs.Lanes.{job_step, plain, sync, collect, collecting, bye, broken}
+use Rattle.store_model.specs.Weave.{is_replied}
 use Rattle.store_history.specs.declared.act.Act.TheVariants as acts
 use Rattle.store_history.specs.declared.act.Event.{Event}
 use Rattle.store_history.specs.declared.act.Answer.{Answer}
 use Rattle.store_history.specs.History.{reply}
-use Rattle.store_history.specs.LaneRun.{Position, text, next_at, goes_on, heard_at, last_words, end_faulted, EndsSo, Runs}
+use Rattle.store_history.specs.LaneRun.{Ahead, ahead, pull, Position, text, next_at, tells, goes_on, pulls_on, heard_at, last_words, end_faulted, EndsSo, IsShut, Runs}
+use Rattle.store_history.specs.Pulling.{SyncJob, reports, asks, take as pull_take}
 use Rattle.store_history.specs.Seats.{AreOf}
 use Rattle.store_history.proofs.Ending.{end_runs, end_again_runs, faulted_same}
 use Rattle.store_history.proofs.Longer.{of_more}
@@ -30,84 +32,40 @@ use Rattle.lane.specs.Progress.{Start, HasStopped, HasWords}
 use Rattle.lane.specs.AtOnce.{AreEnds, EndsAtOnce, GaveAllButOne, HasEndedAtOnce}
 use Rattle.lane.specs.Ran.{Took, ReadsOut, RanAlone}
 use Rattle.lane.proofs.AtOnce.{all_before}
-use Rattle.lane.proofs.Turning.{gave_more, no_words}
+use Rattle.lane.proofs.Turning.{gave_more, silent, no_words}
 
 -- ---- what the end tells
 
-more_words : (e : Ending) (p : Position) (n : Next) → (more : List Reply) × ((last_words e p n).told ≡ p.told ++ more)
+when_told : (b : Bool) (p : Position) (r : Reply) → (more : List Reply) × ((if b then tells p [] r else p).told ≡ p.told ++ more)
+when_told true p r = (r ∷ [], refl)
+when_told false p r = ([], sym (append-nil p.told))
+
+more_words : (e : Ending) (p : Position) (n : Ahead) → (more : List Reply) × ((last_words e p n).told ≡ p.told ++ more)
 unfolding last_words
-more_words endings.Clean p bye = (Done ∷ [], refl)
-more_words endings.Clean p (broken r) = (Refused r ∷ [], refl)
-more_words endings.Clean p (plain c left) = ([], sym (append-nil p.told))
-more_words endings.Clean p (job_step j left) = ([], sym (append-nil p.told))
-more_words endings.Clean p (sync group left) = ([], sym (append-nil p.told))
-more_words endings.Clean p (collect left) = ([], sym (append-nil p.told))
-more_words endings.Clean p (collecting b) = ([], sym (append-nil p.told))
-more_words endings.Clean p end = ([], sym (append-nil p.told))
-more_words (endings.Broken place) p bye = (Done ∷ [], refl)
-more_words (endings.Broken place) p (broken r) = (Refused r ∷ [], refl)
-more_words (endings.Broken place) p (plain c left) = ([], sym (append-nil p.told))
-more_words (endings.Broken place) p (job_step j left) = ([], sym (append-nil p.told))
-more_words (endings.Broken place) p (sync group left) = ([], sym (append-nil p.told))
-more_words (endings.Broken place) p (collect left) = ([], sym (append-nil p.told))
-more_words (endings.Broken place) p (collecting b) = ([], sym (append-nil p.told))
-more_words (endings.Broken place) p end = ([], sym (append-nil p.told))
-more_words endings.SinkFault p bye = (Done ∷ [], refl)
-more_words endings.SinkFault p (broken r) = (Refused r ∷ [], refl)
-more_words endings.SinkFault p (plain c left) = ([], sym (append-nil p.told))
-more_words endings.SinkFault p (job_step j left) = ([], sym (append-nil p.told))
-more_words endings.SinkFault p (sync group left) = ([], sym (append-nil p.told))
-more_words endings.SinkFault p (collect left) = ([], sym (append-nil p.told))
-more_words endings.SinkFault p (collecting b) = ([], sym (append-nil p.told))
-more_words endings.SinkFault p end = ([], sym (append-nil p.told))
-more_words endings.SourceFault p bye = ([], sym (append-nil p.told))
-more_words endings.SourceFault p (broken r) = ([], sym (append-nil p.told))
-more_words endings.SourceFault p (plain c left) = ([], sym (append-nil p.told))
-more_words endings.SourceFault p (job_step j left) = ([], sym (append-nil p.told))
-more_words endings.SourceFault p (sync group left) = ([], sym (append-nil p.told))
-more_words endings.SourceFault p (collect left) = ([], sym (append-nil p.told))
-more_words endings.SourceFault p (collecting b) = ([], sym (append-nil p.told))
-more_words endings.SourceFault p end = ([], sym (append-nil p.told))
-more_words endings.SourceTooLong p bye = ([], sym (append-nil p.told))
-more_words endings.SourceTooLong p (broken r) = ([], sym (append-nil p.told))
-more_words endings.SourceTooLong p (plain c left) = ([], sym (append-nil p.told))
-more_words endings.SourceTooLong p (job_step j left) = ([], sym (append-nil p.told))
-more_words endings.SourceTooLong p (sync group left) = ([], sym (append-nil p.told))
-more_words endings.SourceTooLong p (collect left) = ([], sym (append-nil p.told))
-more_words endings.SourceTooLong p (collecting b) = ([], sym (append-nil p.told))
-more_words endings.SourceTooLong p end = ([], sym (append-nil p.told))
-more_words endings.NoMemory p bye = ([], sym (append-nil p.told))
-more_words endings.NoMemory p (broken r) = ([], sym (append-nil p.told))
-more_words endings.NoMemory p (plain c left) = ([], sym (append-nil p.told))
-more_words endings.NoMemory p (job_step j left) = ([], sym (append-nil p.told))
-more_words endings.NoMemory p (sync group left) = ([], sym (append-nil p.told))
-more_words endings.NoMemory p (collect left) = ([], sym (append-nil p.told))
-more_words endings.NoMemory p (collecting b) = ([], sym (append-nil p.told))
-more_words endings.NoMemory p end = ([], sym (append-nil p.told))
+more_words e p (ahead bye) = when_told (is_replied e) p Done
+more_words e p (ahead (broken r)) = when_told (is_replied e) p (Refused r)
+more_words e p n = ([], sym (append-nil p.told))
 
 more_told : (p : Position) (left : List ℕ) (job : Job) → (more : List Reply) × ((goes_on p left job).told ≡ p.told ++ more)
 unfolding goes_on
 more_told p left (over report) = (report ∷ [], refl)
 more_told p left (asking j) = ([], sym (append-nil p.told))
 
-more_heard : (p : Position) (o : Option Reply) (n : Next) → (more : List Reply) × ((heard_at p 5 o n).told ≡ p.told ++ more)
+more_pulled : (p : Position) (left : List ℕ) (job : SyncJob) → (more : List Reply) × ((pulls_on p left job).told ≡ p.told ++ more)
+unfolding pulls_on
+more_pulled p left (reports report) = (report ∷ [], refl)
+more_pulled p left (asks x) = ([], sym (append-nil p.told))
+
+more_heard : (p : Position) (o : Option Reply) (n : Ahead) → (more : List Reply) × ((heard_at p 5 o n).told ≡ p.told ++ more)
 unfolding heard_at
-more_heard p (Some r) (plain c left) = (r ∷ [], refl)
-more_heard p None (plain c left) = ([], sym (append-nil p.told))
-more_heard p (Some r) (job_step j left) = more_told p left (take j r)
-more_heard p None (job_step j left) = ([], sym (append-nil p.told))
-more_heard p (Some r) (sync group left) = (r ∷ [], refl)
-more_heard p None (sync group left) = ([], sym (append-nil p.told))
-more_heard p (Some r) (collect left) = (r ∷ [], refl)
-more_heard p None (collect left) = ([], sym (append-nil p.told))
-more_heard p (Some r) (collecting b) = (r ∷ [], refl)
-more_heard p None (collecting b) = ([], sym (append-nil p.told))
-more_heard p (Some r) (broken x) = ([], sym (append-nil p.told))
-more_heard p None (broken x) = ([], sym (append-nil p.told))
-more_heard p (Some r) bye = ([], sym (append-nil p.told))
-more_heard p None bye = ([], sym (append-nil p.told))
-more_heard p (Some r) end = ([], sym (append-nil p.told))
-more_heard p None end = ([], sym (append-nil p.told))
+more_heard p (Some r) (ahead (plain c left)) = (r ∷ [], refl)
+more_heard p (Some r) (ahead (job_step j left)) = more_told p left (take j r)
+more_heard p (Some r) (ahead (sync group left)) = (r ∷ [], refl)
+more_heard p (Some r) (ahead (collect left)) = (r ∷ [], refl)
+more_heard p (Some r) (ahead (collecting b)) = (r ∷ [], refl)
+more_heard p (Some r) (pull x left) = more_pulled p left (pull_take x r)
+more_heard p None (ahead (collect left)) = ([], sym (append-nil p.told))
+more_heard p o n = ([], sym (append-nil p.told))
 
 -- a run of the lane's end, and what it told
 record IsEndRun (e : Ending) (p : Position) (vs : List Event) : Type 0 where
@@ -117,101 +75,70 @@ record IsEndRun (e : Ending) (p : Position) (vs : List Event) : Type 0 where
   pub begins : told ≡ p.told ++ more
 
 -- where the sink failed, something or nothing is told
-sink_run : (k : ℕ) (p : Position) (vs : List Event) → p.is_over ≡ false → p.collecting ≡ None → p.pull ≡ None → p.job ≡ None → AreEndOf k vs → IsEndRun endings.SinkFault p vs
-sink_run k p [] on shut idle off ends = absurd ends
-sink_run k p (v ∷ []) on shut idle off ends =
+sink_run : (k : ℕ) (p : Position) (vs : List Event) → p.is_over ≡ false → p.task ≡ None → AreEndOf k vs → IsEndRun endings.SinkFault p vs
+sink_run k p [] on off ends = absurd ends
+sink_run k p (v ∷ []) on off ends =
     let w = more_words endings.SinkFault p (next_at p) in
-    record { told = (last_words endings.SinkFault p (next_at p)).told; runs = end_runs endings.SinkFault p v on shut idle ends.asks ends.kind_is tt; more = w.0; begins = w.1 }
-sink_run k p (v ∷ u ∷ []) on shut idle off ends =
+    record { told = (last_words endings.SinkFault p (next_at p)).told; runs = end_runs endings.SinkFault p v on (subst IsShut (sym off) tt) ends.asks ends.kind_is tt; more = w.0; begins = w.1 }
+sink_run k p (v ∷ u ∷ []) on off ends =
     let q = end_faulted endings.SinkFault p (reply v) in
     let w = more_words endings.SinkFault q (next_at q) in
     let h = more_heard p (reply v) (next_at p) in
     record {
       told = (last_words endings.SinkFault q (next_at q)).told;
-      runs = end_again_runs endings.SinkFault p v u shut idle off on (ends.0).asks (ends.0).kind_is (ends.1).asks (ends.1).kind_is tt;
+      runs = end_again_runs endings.SinkFault p v u off on (ends.0).asks (ends.0).kind_is (ends.1).asks (ends.1).kind_is tt;
       more = h.0 ++ w.0;
       begins = w.1 ∙ ap (λ ts. ts ++ w.0) h.1 ∙ append_assoc p.told h.0 w.0;
     }
-sink_run k p (v ∷ u ∷ x ∷ vs) on shut idle off ends = absurd ends
+sink_run k p (v ∷ u ∷ x ∷ vs) on off ends = absurd ends
 
 -- else the last words are
-told_run : (k : ℕ) (e : Ending) (p : Position) (vs : List Event) → e ≢ endings.SinkFault → p.is_over ≡ false → p.collecting ≡ None → p.pull ≡ None → p.job ≡ None → EndsSo e p (next_at p) → AreEndOf k vs
+told_run : (k : ℕ) (e : Ending) (p : Position) (vs : List Event) → e ≢ endings.SinkFault → p.is_over ≡ false → p.task ≡ None → EndsSo e p (next_at p) → AreEndOf k vs
     → Runs e p vs (last_words e p (next_at p)).told
-told_run k e p [] ne on shut idle off so ends = absurd ends
-told_run k e p (v ∷ []) ne on shut idle off so ends = end_runs e p v on shut idle ends.asks ends.kind_is so
-told_run k e p (v ∷ u ∷ []) ne on shut idle off so ends =
-    subst (λ q. Runs e p (v ∷ u ∷ []) (last_words e q (next_at q)).told) (faulted_same e p (reply v) shut off ne so)
-    (end_again_runs e p v u shut idle off on (ends.0).asks (ends.0).kind_is (ends.1).asks (ends.1).kind_is so)
-told_run k e p (v ∷ u ∷ x ∷ vs) ne on shut idle off so ends = absurd ends
+told_run k e p [] ne on off so ends = absurd ends
+told_run k e p (v ∷ []) ne on off so ends = end_runs e p v on (subst IsShut (sym off) tt) ends.asks ends.kind_is so
+told_run k e p (v ∷ u ∷ []) ne on off so ends =
+    subst (λ q. Runs e p (v ∷ u ∷ []) (last_words e q (next_at q)).told) (faulted_same e p (reply v) off ne so)
+    (end_again_runs e p v u off on (ends.0).asks (ends.0).kind_is (ends.1).asks (ends.1).kind_is so)
+told_run k e p (v ∷ u ∷ x ∷ vs) ne on off so ends = absurd ends
 
 none_more : (told : List Reply) (w : Reply) → told ≡ told ++ w ∷ [] → ⊥
 none_more told w h = omega (arith, ap length h, length-append told (w ∷ []))
 
 -- the sink failed at the last words alone
-sink_words : (e : Ending) (p : Position) (n : Next) (w : Reply) → e ≢ endings.SinkFault → (last_words e p n).told ≡ p.told ++ w ∷ [] → (last_words endings.SinkFault p n).told ≡ p.told ++ w ∷ []
+same_words : (e f : Ending) (p : Position) (n : Ahead) → is_replied e ≡ is_replied f → last_words e p n ≡ last_words f p n
 unfolding last_words
-sink_words endings.Clean p bye w ne h = h
-sink_words endings.Clean p (broken r) w ne h = h
-sink_words endings.Clean p (plain c left) w ne h = h
-sink_words endings.Clean p (job_step j left) w ne h = h
-sink_words endings.Clean p (sync group left) w ne h = h
-sink_words endings.Clean p (collect left) w ne h = h
-sink_words endings.Clean p (collecting b) w ne h = h
-sink_words endings.Clean p end w ne h = h
-sink_words (endings.Broken place) p bye w ne h = h
-sink_words (endings.Broken place) p (broken r) w ne h = h
-sink_words (endings.Broken place) p (plain c left) w ne h = h
-sink_words (endings.Broken place) p (job_step j left) w ne h = h
-sink_words (endings.Broken place) p (sync group left) w ne h = h
-sink_words (endings.Broken place) p (collect left) w ne h = h
-sink_words (endings.Broken place) p (collecting b) w ne h = h
-sink_words (endings.Broken place) p end w ne h = h
-sink_words endings.SinkFault p n w ne h = absurd (ne refl)
-sink_words endings.SourceFault p bye w ne h = absurd (none_more p.told w h)
-sink_words endings.SourceFault p (broken r) w ne h = absurd (none_more p.told w h)
-sink_words endings.SourceFault p (plain c left) w ne h = absurd (none_more p.told w h)
-sink_words endings.SourceFault p (job_step j left) w ne h = absurd (none_more p.told w h)
-sink_words endings.SourceFault p (sync group left) w ne h = absurd (none_more p.told w h)
-sink_words endings.SourceFault p (collect left) w ne h = absurd (none_more p.told w h)
-sink_words endings.SourceFault p (collecting b) w ne h = absurd (none_more p.told w h)
-sink_words endings.SourceFault p end w ne h = absurd (none_more p.told w h)
-sink_words endings.SourceTooLong p bye w ne h = absurd (none_more p.told w h)
-sink_words endings.SourceTooLong p (broken r) w ne h = absurd (none_more p.told w h)
-sink_words endings.SourceTooLong p (plain c left) w ne h = absurd (none_more p.told w h)
-sink_words endings.SourceTooLong p (job_step j left) w ne h = absurd (none_more p.told w h)
-sink_words endings.SourceTooLong p (sync group left) w ne h = absurd (none_more p.told w h)
-sink_words endings.SourceTooLong p (collect left) w ne h = absurd (none_more p.told w h)
-sink_words endings.SourceTooLong p (collecting b) w ne h = absurd (none_more p.told w h)
-sink_words endings.SourceTooLong p end w ne h = absurd (none_more p.told w h)
-sink_words endings.NoMemory p bye w ne h = absurd (none_more p.told w h)
-sink_words endings.NoMemory p (broken r) w ne h = absurd (none_more p.told w h)
-sink_words endings.NoMemory p (plain c left) w ne h = absurd (none_more p.told w h)
-sink_words endings.NoMemory p (job_step j left) w ne h = absurd (none_more p.told w h)
-sink_words endings.NoMemory p (sync group left) w ne h = absurd (none_more p.told w h)
-sink_words endings.NoMemory p (collect left) w ne h = absurd (none_more p.told w h)
-sink_words endings.NoMemory p (collecting b) w ne h = absurd (none_more p.told w h)
-sink_words endings.NoMemory p end w ne h = absurd (none_more p.told w h)
+same_words e f p (ahead bye) h = ap (λ b. if b then tells p [] Done else p) h
+same_words e f p (ahead (broken r)) h = ap (λ b. if b then tells p [] (Refused r) else p) h
+same_words e f p n h = refl
+
+sink_words : (e : Ending) (p : Position) (n : Ahead) (w : Reply) → (last_words e p n).told ≡ p.told ++ w ∷ [] → (last_words endings.SinkFault p n).told ≡ p.told ++ w ∷ []
+sink_words e p n w h = by_word (is_replied e) refl
+  where
+    by_word : (b : Bool) → is_replied e ≡ b → (last_words endings.SinkFault p n).told ≡ p.told ++ w ∷ []
+    by_word true is = ap (λ (q : Position). q.told) (sym (same_words e endings.SinkFault p n is)) ∙ h
+    by_word false is = absurd (none_more p.told w (ap (λ (q : Position). q.told) (sym (silent e p n is)) ∙ h))
 
 -- a fault of the disk at such an end changes nothing
-faulted_words : (e : Ending) (p : Position) (o : Option Reply) (w : Reply) → p.collecting ≡ None → p.job ≡ None → e ≢ endings.SinkFault → (last_words e p (next_at p)).told ≡ p.told ++ w ∷ []
+faulted_words : (e : Ending) (p : Position) (o : Option Reply) (w : Reply) → p.task ≡ None → e ≢ endings.SinkFault → (last_words e p (next_at p)).told ≡ p.told ++ w ∷ []
     → EndsSo e p (next_at p) → end_faulted endings.SinkFault p o ≡ p
-faulted_words endings.Clean p o w shut off ne says so = faulted_same endings.Clean p o shut off ne so
-faulted_words (endings.Broken place) p o w shut off ne says so = faulted_same (endings.Broken place) p o shut off ne so
-faulted_words endings.SinkFault p o w shut off ne says so = absurd (ne refl)
-faulted_words endings.SourceFault p o w shut off ne says so = faulted_same endings.SourceFault p o shut off ne so
-faulted_words endings.SourceTooLong p o w shut off ne says so = faulted_same endings.SourceTooLong p o shut off ne so
-faulted_words endings.NoMemory p o w shut off ne says so = absurd (none_more p.told w (sym (no_words endings.NoMemory p refl ∙ append-nil p.told) ∙ says))
+faulted_words endings.Clean p o w off ne says so = faulted_same endings.Clean p o off ne so
+faulted_words (endings.Broken place) p o w off ne says so = faulted_same (endings.Broken place) p o off ne so
+faulted_words endings.SinkFault p o w off ne says so = absurd (ne refl)
+faulted_words endings.SourceFault p o w off ne says so = faulted_same endings.SourceFault p o off ne so
+faulted_words endings.SourceTooLong p o w off ne says so = faulted_same endings.SourceTooLong p o off ne so
+faulted_words endings.NoMemory p o w off ne says so = absurd (none_more p.told w (sym (no_words endings.NoMemory p refl ∙ append-nil p.told) ∙ says))
 
-sink_told_run : (k : ℕ) (e : Ending) (p : Position) (vs : List Event) (w : Reply) → e ≢ endings.SinkFault → p.is_over ≡ false → p.collecting ≡ None → p.pull ≡ None → p.job ≡ None → EndsSo e p (next_at p)
+sink_told_run : (k : ℕ) (e : Ending) (p : Position) (vs : List Event) (w : Reply) → e ≢ endings.SinkFault → p.is_over ≡ false → p.task ≡ None → EndsSo e p (next_at p)
     → (last_words e p (next_at p)).told ≡ p.told ++ w ∷ [] → AreEndOf k vs → Runs endings.SinkFault p vs (p.told ++ w ∷ [])
-sink_told_run k e p [] w ne on shut idle off so says ends = absurd ends
-sink_told_run k e p (v ∷ []) w ne on shut idle off so says ends =
-    subst (λ ts. Runs endings.SinkFault p (v ∷ []) ts) (sink_words e p (next_at p) w ne says) (end_runs endings.SinkFault p v on shut idle ends.asks ends.kind_is tt)
-sink_told_run k e p (v ∷ u ∷ []) w ne on shut idle off so says ends =
+sink_told_run k e p [] w ne on off so says ends = absurd ends
+sink_told_run k e p (v ∷ []) w ne on off so says ends =
+    subst (λ ts. Runs endings.SinkFault p (v ∷ []) ts) (sink_words e p (next_at p) w says) (end_runs endings.SinkFault p v on (subst IsShut (sym off) tt) ends.asks ends.kind_is tt)
+sink_told_run k e p (v ∷ u ∷ []) w ne on off so says ends =
     subst (λ ts. Runs endings.SinkFault p (v ∷ u ∷ []) ts)
-    (ap (λ q. (last_words endings.SinkFault q (next_at q)).told) (faulted_words e p (reply v) w shut off ne says so) ∙ sink_words e p (next_at p) w ne says)
-    (end_again_runs endings.SinkFault p v u shut idle off on (ends.0).asks (ends.0).kind_is (ends.1).asks (ends.1).kind_is tt)
-sink_told_run k e p (v ∷ u ∷ x ∷ vs) w ne on shut idle off so says ends = absurd ends
+    (ap (λ q. (last_words endings.SinkFault q (next_at q)).told) (faulted_words e p (reply v) w off ne says so) ∙ sink_words e p (next_at p) w says)
+    (end_again_runs endings.SinkFault p v u off on (ends.0).asks (ends.0).kind_is (ends.1).asks (ends.1).kind_is tt)
+sink_told_run k e p (v ∷ u ∷ x ∷ vs) w ne on off so says ends = absurd ends
 
 -- ---- the whole
 
@@ -305,8 +232,6 @@ ended_at_once start k left taken size given e words before s given' vs ends gave
   last = s.last;
   leads = s.comes;
   off = s.off;
-  idle = s.idle;
-  shut = s.shut;
   gave = gave;
 }
 
@@ -332,7 +257,7 @@ all_given before after start k left taken taken' size given given' e words ends 
       told = (s.last).told ++ option_to_list words;
       stands_for = c.stands_for;
       lanes = of_ends k s.events c.vs s.lanes c.ends;
-      ran = s.runs e c.vs ((s.last).told ++ option_to_list words) (subst (λ ts. Runs e s.last c.vs ts) is (told_run k e s.last c.vs ne s.on s.shut s.idle s.off s.so c.ends));
+      ran = s.runs e c.vs ((s.last).told ++ option_to_list words) (subst (λ ts. Runs e s.last c.vs ts) is (told_run k e s.last c.vs ne s.on s.off s.so c.ends));
       size_is = s.size_is;
       took = s.took;
       gave = gave;
@@ -346,7 +271,7 @@ sink_failed : (before after : History → Type 0) (start : Start) (k : ℕ) (lef
     → RanAlone after start.history k start.left left start.taken taken (record { taken = size; given = given; ending = endings.SinkFault })
 sink_failed before after start k left taken size given words ends s =
     let c = closing before after start k left taken size given endings.SinkFault words ends s in
-    let r = sink_run k s.last c.vs s.on s.shut s.idle s.off c.ends in
+    let r = sink_run k s.last c.vs s.on s.off c.ends in
     record {
       events = s.events ++ c.vs;
       input = s.input;
@@ -405,7 +330,7 @@ closed_in_fault before after start k left taken taken' size given given' e words
       told = (s.last).told ++ w ∷ [];
       stands_for = c.stands_for;
       lanes = of_ends k s.events c.vs s.lanes c.ends;
-      ran = s.runs endings.SinkFault c.vs ((s.last).told ++ w ∷ []) (sink_told_run k e s.last c.vs w ne s.on s.shut s.idle s.off s.so (words_are e s.last (Some w) ne s.says) c.ends);
+      ran = s.runs endings.SinkFault c.vs ((s.last).told ++ w ∷ []) (sink_told_run k e s.last c.vs w ne s.on s.off s.so (words_are e s.last (Some w) ne s.says) c.ends);
       size_is = s.size_is;
       took = all_taken e s.last w start.left left s.input s.says s.took;
       gave = gave_more start.taken taken taken' given given' (s.last).told w false (subst (λ b. WritesCounted start.taken taken 0 given (text (s.last).told) b) (gives_all e ne) s.gave) wrote;

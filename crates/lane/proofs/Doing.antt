@@ -6,13 +6,13 @@ use Rattle.wire_commands.specs.declared.command.Command.TheVariants as commands
 use Rattle.store_model.specs.Job.{Asking}
 use Rattle.store_model.specs.Jobs.{IsJob}
 use Rattle.wire_commands.specs.Inputs.{front}
-use Rattle.store_model.specs.Lanes.{Next, job_step, plain, collecting, command_next, front_next, lane_next}
+use Rattle.store_model.specs.Lanes.{Next, job_step, plain, collecting, end, command_next, front_next}
 use Rattle.store_history.specs.declared.act.Act.{Act}
 use Rattle.store_history.specs.declared.act.Event.{Event}
 use Rattle.store_history.specs.Acts.{act_of_command}
 use Rattle.store_history.specs.History.{kind}
-use Rattle.store_history.specs.LaneRun.{Position, next_at, heard, job_stops, pull_stops, may_step}
-use Rattle.store_history.specs.Pulling.{Pulling}
+use Rattle.store_history.specs.LaneRun.{Task, steps, pulls, sweeps, Ahead, ahead, pull_ahead, ahead_by, Position, next_at, heard, stops, may_step}
+use Rattle.store_history.specs.Pulling.{Pulling, comparing, is_ending}
 use Rattle.store_history.specs.Seats.{AreOf}
 use Rattle.store_history.specs.SoFar.{Leads}
 use Rattle.store_history.proofs.Ending.{IsCommand, command_is, leads_command}
@@ -57,32 +57,27 @@ is_read (job_step j left) = false
 is_read (collecting is_out_of_memory) = false
 is_read n = true
 
+abbrev next_in : Ahead → Next
+next_in (ahead n) = n
+next_in a = end
+
 false_true : false ≡ true → ⊥
 false_true e = cc
 
-no_stop : (p : Position) (n : Next) → next_at p ≡ n → is_read n ≡ true → job_stops p.job ≡ false
-unfolding next_at lane_next
-no_stop p n is read = by_collecting p.collecting is
+read_stop : (n : Next) → is_read n ≡ true → (t : Option Task) (offset : ℕ) (left : List ℕ) → ahead_by t offset left ≡ ahead n → stops t ≡ false
+read_stop n read None offset left is = refl
+read_stop n read (Some (steps j)) offset left is = absurd (false_true (ap (λ a. is_read (next_in a)) is ∙ read))
+read_stop n read (Some (pulls x)) offset left is = by_pull x (front_next offset (front left)) is
   where
-    other : (x : Next) → x ≡ n → is_read x ≡ true
-    other x same = subst (λ y. is_read y ≡ true) (sym same) read
-
-    by_job : (o : Option Asking) → elim o [ None ↦ front_next (p.size - length p.left) (front p.left) | Some j ↦ job_step j p.left ] ≡ n → job_stops o ≡ false
-    by_job None is = refl
-    by_job (Some j) is = absurd (false_true (other (job_step j p.left) is))
-
-    by_collecting : (o : Option Bool)
-        → elim o [
-          | None ↦ elim p.job [ None ↦ front_next (p.size - length p.left) (front p.left) | Some j ↦ job_step j p.left ]
-          | Some is_out_of_memory ↦ collecting is_out_of_memory
-        ] ≡ n → job_stops p.job ≡ false
-    by_collecting None is = by_job p.job is
-    by_collecting (Some is_out_of_memory) is = absurd (false_true (other (collecting is_out_of_memory) is))
+    by_pull : (x : Pulling) (y : Next) → pull_ahead x left y ≡ ahead n → is_ending x ≡ false
+    by_pull (comparing group remote) y e = refl
+    by_pull x y e = cc
+read_stop n read (Some (sweeps b)) offset left is = refl
 
 -- where that is next, no answer so far was the last
-pub read_on : (p : Position) (n : Next) → p.pull ≡ None → next_at p ≡ n → is_read n ≡ true → may_step p ≡ true → p.is_spent ≡ false
-read_on p n idle is read on =
-    by_spent p.is_spent (ap (λ b. not p.is_spent || b) (sym (ap (λ (o : Option Pulling). pull_stops o p.job) idle ∙ no_stop p n is read)) ∙ on)
+pub read_on : (p : Position) (n : Next) → next_at p ≡ ahead n → is_read n ≡ true → may_step p ≡ true → p.is_spent ≡ false
+unfolding next_at
+read_on p n is read on = by_spent p.is_spent (ap (λ b. not p.is_spent || b) (sym (read_stop n read p.task (p.size - length p.left) p.left is)) ∙ on)
   where
     by_spent : (b : Bool) → (not b || false) ≡ true → b ≡ false
     by_spent true h = cc
@@ -96,9 +91,9 @@ does_plain before after k c act told d is_act alone = let v = d.event in record 
   history = d.history;
   lanes = (d.lane_is, tt);
   leads = λ p left is.
-      let on = read_on p (plain c left) is.idle (is.next ∙ command_is c left alone) refl is.on in
+      let on = read_on p (plain c left) (is.next ∙ ap ahead (command_is c left alone)) refl is.on in
       subst (λ b. Leads p (v ∷ []) (answered p left told.reply (kind v == MEMORY_KIND) b)) (or_false p (v.answer).last on ∙ d.last)
-      (leads_command [] p p c left v told.reply refl is.idle on (is.next ∙ command_is c left alone) (d.asks ∙ is_act) d.tells);
+      (leads_command [] p p c left v told.reply refl on (is.next ∙ ap ahead (command_is c left alone)) (d.asks ∙ is_act) d.tells);
 }
 
 -- ---- the commands of one act

@@ -1,23 +1,24 @@
 -- What an act of a SYNC does, and where it leads.
-use Rattle.std.proofs.Common.{◌≡◌, ◌⊎◌, inl, inr, ℕ, Bool, true, false, not, ◌||◌, ◌==◌, List, [], ◌∷◌, ◌++◌, Option, Some, None, IsTrue, if◌then◌else◌, refl, sym, ap, subst, ◌∙◌}
+use Rattle.std.proofs.Common.{◌≡◌, ◌⊎◌, inl, inr, ℕ, Bool, true, false, not, ◌-◌, length, ◌||◌, ◌==◌, List, [], ◌∷◌, ◌++◌, Option, Some, None, IsTrue, if◌then◌else◌, refl, sym, ap, subst, ◌∙◌}
 use Rattle.std.proofs.lemmas.Bool.{eqb-true, eqb-false}
 use Rattle.store_types.specs.declared.order.TheConstants.{PART_KIND, MEMORY_KIND}
 use Rattle.store_files.specs.Archive.{Layout, dynamic, fixed}
+use Rattle.wire_commands.specs.Inputs.{front}
 use Rattle.wire_commands.specs.declared.reply.Reply.{Reply}
 use Rattle.wire_commands.specs.declared.reply.Reply.TheVariants as replies
-use Rattle.store_model.specs.Lanes.{sync, lane_next}
+use Rattle.store_model.specs.Lanes.{Next, sync, end, front_next}
 use Rattle.store_model.specs.SyncJob.{new_index}
 use Rattle.store_history.specs.declared.act.Act.{Act}
 use Rattle.store_history.specs.declared.act.Answer.{Answer}
 use Rattle.store_history.specs.declared.act.Event.{Event}
 use Rattle.store_history.specs.Acts.{stepping, reaching, act_of_command, class_of}
 use Rattle.store_history.specs.History.{kind, reply}
-use Rattle.store_history.specs.LaneRun.{Position, next_at, tells, pulls_on, heard_at, heard_by, heard, behind, is_behind, wants, Asks, may_want_at}
+use Rattle.store_history.specs.LaneRun as lane_run
+use Rattle.store_history.specs.LaneRun.{Task, Ahead, ahead, pull, pull_ahead, ahead_by, Position, next_at, tells, pulls_on, heard_at, heard, wants, Asks, may_want_at}
 use Rattle.store_history.specs.Pulling.{Pulling, seeking, comparing, starting, reading_manifest, reading_file, opening, reading_chunk, sending_chunk, appending, closing_index, sending_blob, sending_manifest, finishing, rejecting, aborting, SyncJob, reports, asks, act_of, sought, take, is_ending}
 use Rattle.store_history.specs.SoFar.{goes_further, Follows, Leads}
-use Rattle.store_history.proofs.Ending.{next_shut}
+use Rattle.store_history.proofs.Ending.{wants_shut}
 use Rattle.store_history.proofs.Growing.{leads_more, pulls_on_spent}
-use Rattle.store_history.proofs.Idling.{flagged, heard_idle, asks_idle, further_idle}
 use Rattle.store_history.proofs.Wanting.{wants_pulling}
 use Rattle.core_state.specs.Replies.{may_answer, may_give}
 use Rattle.core_state.specs.History.{History}
@@ -31,60 +32,65 @@ use Rattle.lane.proofs.Formed.{IsOn, IsOpen, take_on}
 false_true : false ≡ true → ⊥
 false_true e = cc
 
+next_in : Ahead → Next
+next_in (ahead n) = n
+next_in a = end
+
+-- a SYNC that is next stands at the front
+front_sync : (t : Option Task) (offset : ℕ) (left group behind : List ℕ) → ahead_by t offset left ≡ ahead (sync group behind) → ahead_by None offset left ≡ ahead (sync group behind)
+front_sync None offset left group behind e = e
+front_sync (Some (lane_run.steps j)) offset left group behind e = cc
+front_sync (Some (lane_run.sweeps b)) offset left group behind e = cc
+front_sync (Some (lane_run.pulls x)) offset left group behind e = absurd (by_pull x (front_next offset (front left)) e)
+  where
+    by_pull : (x : Pulling) (y : Next) → pull_ahead x left y ≡ ahead (sync group behind) → ⊥
+    by_pull (comparing g r) (sync name later) e = cc
+    by_pull (comparing g r) y e = cc
+    by_pull x y e = cc
+
 -- ---- a SYNC that was refused, or for which memory was wanting
 
-pub heard_refused : (p : Position) (group left : List ℕ) (a : Answer) (r : Reply) → p.pull ≡ None → next_at p ≡ sync group left → a.reply ≡ Some r → ((a.entry).kind == PART_KIND) ≡ false
-    → heard p a ≡ record p { left = left; job = None; pull = None; is_out_of_memory = (a.entry).kind == MEMORY_KIND; is_spent = a.last || p.is_spent; told = p.told ++ r ∷ [] }
-unfolding heard_at
-heard_refused p group left a r idle is says other =
-    let flag : Option Bool → Position → Position = λ o q. record q { is_out_of_memory = wants (a.entry).kind o; is_spent = a.last || q.is_spent } in
-    heard_idle p a idle
-    ∙ ap (λ x. flag p.collecting (heard_at p (a.entry).kind a.reply x)) is
-    ∙ ap (λ (x : Option Reply). flag p.collecting (heard_at p (a.entry).kind x (sync group left))) says
-    ∙ ap (λ (o : Option Bool). flag o (heard_at p (a.entry).kind (Some r) (sync group left))) (next_shut p (sync group left) is refl)
-    ∙ ap (λ b. flag None (if b then pulls_on p p.left (sought group r) else tells p left r)) other
+pub heard_refused : (p : Position) (group left : List ℕ) (a : Answer) (r : Reply) → next_at p ≡ ahead (sync group left) → a.reply ≡ Some r → ((a.entry).kind == PART_KIND) ≡ false
+    → heard p a ≡ record p { left = left; task = None; is_out_of_memory = (a.entry).kind == MEMORY_KIND; is_spent = a.last || p.is_spent; told = p.told ++ r ∷ [] }
+unfolding heard heard_at
+heard_refused p group left a r is says other =
+    let flag : Bool → Position → Position = λ b q. record q { is_out_of_memory = b; is_spent = a.last || q.is_spent } in
+    ap (λ x. flag (wants (a.entry).kind p.task) (heard_at p (a.entry).kind a.reply x)) is
+    ∙ ap (λ (x : Option Reply). flag (wants (a.entry).kind p.task) (heard_at p (a.entry).kind x (ahead (sync group left)))) says
+    ∙ ap (λ b. flag b (heard_at p (a.entry).kind (Some r) (ahead (sync group left)))) (wants_shut p (ahead (sync group left)) (a.entry).kind is refl)
+    ∙ ap (λ b. flag ((a.entry).kind == MEMORY_KIND) (if b then pulls_on p p.left (sought group r) else tells p left r)) other
 
 -- the remote gave what it has of the group
-heard_keys : (p : Position) (group left : List ℕ) (a : Answer) (r : Reply) → p.pull ≡ None → next_at p ≡ sync group left → a.reply ≡ Some r → ((a.entry).kind == PART_KIND) ≡ true
+heard_keys : (p : Position) (group left : List ℕ) (a : Answer) (r : Reply) → next_at p ≡ ahead (sync group left) → a.reply ≡ Some r → ((a.entry).kind == PART_KIND) ≡ true
     → heard p a ≡ record (pulls_on p p.left (sought group r)) { is_out_of_memory = (a.entry).kind == MEMORY_KIND; is_spent = a.last || p.is_spent }
-unfolding heard_at
-heard_keys p group left a r idle is says one =
-    let flag : Option Bool → Position → Position = λ o q. record q { is_out_of_memory = wants (a.entry).kind o; is_spent = a.last || q.is_spent } in
-    heard_idle p a idle
-    ∙ ap (λ x. flag p.collecting (heard_at p (a.entry).kind a.reply x)) is
-    ∙ ap (λ (x : Option Reply). flag p.collecting (heard_at p (a.entry).kind x (sync group left))) says
-    ∙ ap (λ (o : Option Bool). flag o (heard_at p (a.entry).kind (Some r) (sync group left))) (next_shut p (sync group left) is refl)
-    ∙ ap (λ b. flag None (if b then pulls_on p p.left (sought group r) else tells p left r)) one
+unfolding heard heard_at
+heard_keys p group left a r is says one =
+    let flag : Bool → Position → Position = λ b q. record q { is_out_of_memory = b; is_spent = a.last || q.is_spent } in
+    ap (λ x. flag (wants (a.entry).kind p.task) (heard_at p (a.entry).kind a.reply x)) is
+    ∙ ap (λ (x : Option Reply). flag (wants (a.entry).kind p.task) (heard_at p (a.entry).kind x (ahead (sync group left)))) says
+    ∙ ap (λ b. flag b (heard_at p (a.entry).kind (Some r) (ahead (sync group left)))) (wants_shut p (ahead (sync group left)) (a.entry).kind is refl)
+    ∙ ap (λ b. flag ((a.entry).kind == MEMORY_KIND) (if b then pulls_on p p.left (sought group r) else tells p left r)) one
     ∙ ap (λ b. record (pulls_on p p.left (sought group r)) { is_out_of_memory = (a.entry).kind == MEMORY_KIND; is_spent = a.last || b }) (pulls_on_spent p p.left (sought group r))
 
 -- ---- one that is begun
 
-heard_open : (p : Position) (x : Pulling) (a : Answer) (r : Reply) → p.pull ≡ Some x → p.collecting ≡ None → a.reply ≡ Some r
-    → heard p a ≡ record (pulls_on p (behind p x (next_at p)) (take x r)) { is_out_of_memory = (a.entry).kind == MEMORY_KIND; is_spent = a.last || p.is_spent }
-unfolding heard
-heard_open p x a r begun shut says =
-    ap (λ (o : Option Pulling). flagged p a (heard_by o p (a.entry).kind a.reply)) begun
-    ∙ ap (λ (o : Option Reply). flagged p a (heard_by (Some x) p (a.entry).kind o)) says
-    ∙ ap (λ (o : Option Bool). let q = pulls_on p (behind p x (next_at p)) (take x r) in record q { is_out_of_memory = wants (a.entry).kind o; is_spent = a.last || q.is_spent }) shut
-    ∙ ap (λ b. record (pulls_on p (behind p x (next_at p)) (take x r)) { is_out_of_memory = (a.entry).kind == MEMORY_KIND; is_spent = a.last || b }) (pulls_on_spent p (behind p x (next_at p)) (take x r))
+heard_open : (p : Position) (left : List ℕ) (x : Pulling) (a : Answer) (r : Reply) → p.task ≡ Some (lane_run.pulls x) → next_at p ≡ pull x left → a.reply ≡ Some r
+    → heard p a ≡ record (pulls_on p left (take x r)) { is_out_of_memory = (a.entry).kind == MEMORY_KIND; is_spent = a.last || p.is_spent }
+unfolding heard heard_at
+heard_open p left x a r begun next says =
+    let flag : Bool → Position → Position = λ b q. record q { is_out_of_memory = b; is_spent = a.last || q.is_spent } in
+    ap (λ y. flag (wants (a.entry).kind p.task) (heard_at p (a.entry).kind a.reply y)) next
+    ∙ ap (λ (o : Option Reply). flag (wants (a.entry).kind p.task) (heard_at p (a.entry).kind o (pull x left))) says
+    ∙ ap (λ (t : Option Task). flag (wants (a.entry).kind t) (pulls_on p left (take x r))) begun
+    ∙ ap (λ b. record (pulls_on p left (take x r)) { is_out_of_memory = (a.entry).kind == MEMORY_KIND; is_spent = a.last || b }) (pulls_on_spent p left (take x r))
 
--- the input behind it, and that its command is next where it is behind this
-same_next : (p : Position) (left group : List ℕ) (remote : List (List ℕ)) (s b : Bool) → next_at (pulling_at p left (comparing group remote) s b) ≡ next_at p
-unfolding next_at lane_next
-same_next p left group remote s b = refl
-
-behind_left : (p : Position) (left name : List ℕ) (x : Pulling) (s b : Bool) → IsOpen x → next_at p ≡ sync name left
-    → behind (pulling_at p left x s b) x (next_at (pulling_at p left x s b)) ≡ left
-behind_left p left name (seeking group) s b begun is = absurd begun
-behind_left p left name (comparing group remote) s b begun is =
-    ap (λ n. behind (pulling_at p left (comparing group remote) s b) (comparing group remote) n) (same_next p left group remote s b ∙ is)
-behind_left p left name x s b begun is = refl
-
-stays_behind : (p : Position) (left name : List ℕ) (x : Pulling) (s b : Bool) → IsOpen x → next_at p ≡ sync name left → is_behind x (next_at (pulling_at p left x s b)) ≡ true
-stays_behind p left name (seeking group) s b begun is = absurd begun
-stays_behind p left name (comparing group remote) s b begun is =
-    ap (λ n. is_behind (comparing group remote) n) (same_next p left group remote s b ∙ is)
-stays_behind p left name x s b begun is = refl
+-- where its command was next, it is next behind this
+next_open : (p : Position) (left name : List ℕ) (x : Pulling) (s b : Bool) → IsOpen x → next_at p ≡ ahead (sync name left) → next_at (pulling_at p left x s b) ≡ pull x left
+unfolding next_at front_next next_in
+next_open p left name (seeking group) s b begun is = absurd begun
+next_open p left name (comparing group remote) s b begun is =
+    ap (λ a. pull_ahead (comparing group remote) p.left (next_in a)) (front_sync p.task (p.size - length p.left) p.left name left is)
+next_open p left name x s b begun is = refl
 
 -- where it goes on from there
 open_at : (p : Position) (left : List ℕ) (x : Pulling) (s b t c : Bool) (job : SyncJob) → IsOn job → IsSyncNext p left
@@ -125,29 +131,31 @@ may_on : (b e : Bool) → (b ≡ true → e ≡ true) → (not b || e) ≡ true
 may_on false e stops = refl
 may_on true e stops = stops refl
 
-open_follows : (p : Position) (left name : List ℕ) (x : Pulling) (s was : Bool) (v : Event) (act : Act) → IsOpen x → p.collecting ≡ None → next_at p ≡ sync name left
+open_follows : (p : Position) (left name : List ℕ) (x : Pulling) (s was : Bool) (v : Event) (act : Act) → IsOpen x → next_at p ≡ ahead (sync name left)
     → (was ≡ true → is_ending x ≡ true) → IsActOf (pulls x) act → v.act ≡ act → Follows (class_of v.act) (pulling_at p left x s was) v
-open_follows p left name x s was v act begun shut is stops (inl of) asks_is = by_class (class_by x)
+open_follows p left name x s was v act begun is stops (inl of) asks_is = by_class (class_by x)
   where
     asked : v.act ≡ act_of x
     asked = asks_is ∙ of
 
+    asks_it : Asks (next_at (pulling_at p left x s was)) v.act
+    asks_it = subst (λ a. Asks a v.act) (sym (next_open p left name x s was begun is)) asked
+
     by_class : (class_of (act_of x) ≡ stepping) ⊎ ((class_of (act_of x) ≡ reaching) × (is_ending x ≡ false)) → Follows (class_of v.act) (pulling_at p left x s was) v
     by_class (inl step) = subst (λ c. Follows c (pulling_at p left x s was) v) (sym (ap class_of asked ∙ step))
-        (may_on was (is_ending x) stops, (asked, stays_behind p left name x s was begun is))
+        (may_on was (is_ending x) stops, asks_it)
     by_class (inr reach) = subst (λ c. Follows c (pulling_at p left x s was) v) (sym (ap class_of asked ∙ reach.0))
-        (not_last x was stops reach.1, (asked, stays_behind p left name x s was begun is))
-open_follows p left name x s was v act begun shut is stops (inr want) asks_is =
+        (not_last x was stops reach.1, asks_it)
+open_follows p left name x s was v act begun is stops (inr want) asks_is =
     subst (λ c. Follows c (pulling_at p left x s was) v) (sym (ap class_of (asks_is ∙ want.0)))
-    (not_last x was stops want.1, wants_pulling (pulling_at p left x s was) x shut refl want.1, stays_behind p left name x s was begun is)
+    (not_last x was stops want.1, wants_pulling (pulling_at p left x s was) x refl want.1, ap goes_further (next_open p left name x s was begun is))
 
-open_led : (p : Position) (left name : List ℕ) (x : Pulling) (s was : Bool) (v : Event) (r : Reply) → IsOpen x → p.collecting ≡ None → next_at p ≡ sync name left
+open_led : (p : Position) (left name : List ℕ) (x : Pulling) (s was : Bool) (v : Event) (r : Reply) → IsOpen x → next_at p ≡ ahead (sync name left)
     → Follows (class_of v.act) (pulling_at p left x s was) v → reply v ≡ Some r
     → Leads (pulling_at p left x s was) (v ∷ []) (record (pulls_on (pulling_at p left x s was) left (take x r)) { is_out_of_memory = kind v == MEMORY_KIND; is_spent = (v.answer).last || was })
-open_led p left name x s was v r begun shut is follows says =
+open_led p left name x s was v r begun is follows says =
     subst (λ q. Leads (pulling_at p left x s was) (v ∷ []) q)
-    (heard_open (pulling_at p left x s was) x v.answer r refl shut says
-    ∙ ap (λ l. record (pulls_on (pulling_at p left x s was) l (take x r)) { is_out_of_memory = kind v == MEMORY_KIND; is_spent = (v.answer).last || was }) (behind_left p left name x s was begun is))
+    (heard_open (pulling_at p left x s was) left x v.answer r refl (next_open p left name x s was begun is) says)
     (leads_more [] (pulling_at p left x s was) (pulling_at p left x s was) v refl follows)
 
 open_is : (p q : Position) (left : List ℕ) (x : Pulling) (s was : Bool) → IsOpen x → IsAt p left (pulls x) s was q → (q ≡ pulling_at p left x s was) × IsSyncNext p left
@@ -169,25 +177,24 @@ open_once before after k x was act told begun of d stops on = record {
         → (r : Position) × (Leads q (d.event ∷ []) r × IsAt p left (pull_stage (take x told.reply)) (kind d.event == 2) (told.last || was) r)
     led p q left s at next =
         let group = next.0 in
-        let shut = next_shut p (sync group left) (next.1).next refl in
-        let follows = open_follows p left group x s was d.event act begun shut (next.1).next stops of d.asks in
+        let follows = open_follows p left group x s was d.event act begun (next.1).next stops of d.asks in
         let r : Bool → Position = λ b. record (pulls_on (pulling_at p left x s was) left (take x told.reply)) { is_out_of_memory = kind d.event == 2; is_spent = b } in (
           r (told.last || was),
           (
             subst (λ b. Leads q (d.event ∷ []) (r b)) (ap (λ b. b || was) d.last)
-                (subst (λ y. Leads y (d.event ∷ []) (r (((d.event).answer).last || was))) (sym at) (open_led p left group x s was d.event told.reply begun shut (next.1).next follows d.tells)),
+                (subst (λ y. Leads y (d.event ∷ []) (r (((d.event).answer).last || was))) (sym at) (open_led p left group x s was d.event told.reply begun (next.1).next follows d.tells)),
             open_at p left x s was (kind d.event == 2) (told.last || was) (take x told.reply) on next,
           ),
         )
 
 -- ---- its first act
 
-first_follows : (p : Position) (group left : List ℕ) (v : Event) (act : Act) → p.pull ≡ None → p.is_spent ≡ false → next_at p ≡ sync group left → may_want_at p ≡ true
+first_follows : (p : Position) (group left : List ℕ) (v : Event) (act : Act) → p.is_spent ≡ false → next_at p ≡ ahead (sync group left) → may_want_at p ≡ true
     → IsActOf (pulls (seeking group)) act → v.act ≡ act → Follows (class_of v.act) p v
-first_follows p group left v act idle on is may (inl of) asks_is =
-    subst (λ c. Follows c p v) (sym (ap class_of (asks_is ∙ of))) (on, asks_idle p (next_at p) v.act idle (subst (λ n. Asks n v.act) (sym is) (asks_is ∙ of)))
-first_follows p group left v act idle on is may (inr want) asks_is =
-    subst (λ c. Follows c p v) (sym (ap class_of (asks_is ∙ want.0))) (on, may, further_idle p (next_at p) idle (ap goes_further is))
+first_follows p group left v act on is may (inl of) asks_is =
+    subst (λ c. Follows c p v) (sym (ap class_of (asks_is ∙ of))) (on, subst (λ n. Asks n v.act) (sym is) (asks_is ∙ of))
+first_follows p group left v act on is may (inr want) asks_is =
+    subst (λ c. Follows c p v) (sym (ap class_of (asks_is ∙ want.0))) (on, may, ap goes_further is)
 
 -- what is no read's reply is refused
 first_refused : (group : List ℕ) (act : Act) (r : Reply) → IsActOf (pulls (seeking group)) act → IsTrue (may_answer act r) ⊎ IsRefused r → IsRefused r
@@ -229,10 +236,10 @@ first_once before after k group was act told of d = record {
     led p q left same none next = by_kind (kind d.event == 1) refl
       where
         on : p.is_spent ≡ false
-        on = read_on p (sync group left) next.idle next.next refl next.on
+        on = read_on p (sync group left) next.next refl next.on
 
         follows : Follows (class_of (d.event).act) p d.event
-        follows = first_follows p group left d.event act next.idle on next.next (next.wants tt refl) of d.asks
+        follows = first_follows p group left d.event act on next.next (next.wants tt refl) of d.asks
 
         flag : ((d.event).answer).last || p.is_spent ≡ told.last || was
         flag = ap (λ b. b || p.is_spent) d.last ∙ ap (λ b. told.last || b) (on ∙ sym none)
@@ -248,7 +255,7 @@ first_once before after k group was act told of d = record {
               r (told.last || was),
               (
                 subst (λ b. Leads q (d.event ∷ []) (r b)) flag
-                    (subst (λ y. Leads q (d.event ∷ []) y) (heard_keys p group left (d.event).answer told.reply next.idle next.next d.tells one) heard_led),
+                    (subst (λ y. Leads q (d.event ∷ []) y) (heard_keys p group left (d.event).answer told.reply next.next d.tells one) heard_led),
                 keys_at p group left told.reply (kind d.event == 2) (told.last || was) next keys,
               ),
             )
@@ -257,7 +264,7 @@ first_once before after k group was act told of d = record {
               answered p left told.reply (kind d.event == 2) (told.last || was),
               (
                 subst (λ b. Leads q (d.event ∷ []) (answered p left told.reply (kind d.event == 2) b)) flag
-                    (subst (λ y. Leads q (d.event ∷ []) y) (heard_refused p group left (d.event).answer told.reply next.idle next.next d.tells other) heard_led),
+                    (subst (λ y. Leads q (d.event ∷ []) y) (heard_refused p group left (d.event).answer told.reply next.next d.tells other) heard_led),
                 subst (λ job. IsAt p left (pull_stage job) (kind d.event == 2) (told.last || was) (answered p left told.reply (kind d.event == 2) (told.last || was)))
                     (sym (refused_reports group told.reply refused)) refl,
               ),

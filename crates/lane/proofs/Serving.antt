@@ -22,14 +22,14 @@ use Rattle.store_model.specs.VerifyJob as verify
 use Rattle.store_model.specs.Lanes.{Next, job_step, plain, sync, collect, collecting, bye, broken, end, front_next, command_next}
 use Rattle.store_history.specs.declared.act.Answer.{Answer}
 use Rattle.store_history.specs.declared.act.Event.{Event}
-use Rattle.store_history.specs.LaneRun.{Position, begin, text, next_at, heard, job_stops, may_want, EndsSo, Runs}
+use Rattle.store_history.specs.LaneRun.{ahead, Position, begin, text, next_at, heard, stops, may_want, EndsSo, Runs}
 use Rattle.store_history.specs.SoFar.{Leads}
 use Rattle.store_history.proofs.Collecting.{heard_gc}
 use Rattle.store_history.proofs.Ending.{next_is, heard_plain, heard_broken, short_runs}
 use Rattle.store_history.proofs.Growing.{leads_runs}
 use Rattle.store_history.proofs.Jobs.{at_job, at_job_over, heard_job}
 use Rattle.store_history.proofs.Longer.{of_more}
-use Rattle.store_history.proofs.Placed.{open_at, open_is}
+use Rattle.store_history.proofs.Placed.{sweep_in, open_at, open_is}
 use Rattle.store_history.proofs.Wanting.{Goes, want_goes, wants_frame}
 use Rattle.core_state.specs.History.{History}
 use Rattle.shared_store.specs.Comes.{with_events}
@@ -57,11 +57,10 @@ use Rattle.lane.proofs.Turning.{nothing_taken, at_next, gave_more, taken_on, lea
 at_command : (stands : History → Type 0) (start : Start) (k : ℕ) (left taken : Option (List ℕ)) (tail : Tail) (size given : ℕ) (c : Command)
     → (s : HasServed stands start k left taken tail size given) → IsCommandAhead tail c
     → IsNext (command_next c (advanced tail).bytes) (position s.input tail.bytes s.is_out_of_memory s.told)
-at_command stands start k left taken tail size given c s ahead = let p = position s.input tail.bytes s.is_out_of_memory s.told in record {
+at_command stands start k left taken tail size given c s seen = let p = position s.input tail.bytes s.is_out_of_memory s.told in record {
   on = refl;
-  idle = refl;
-  next = at_next stands start k left taken tail size given s ∙ ahead.next;
-  wants = λ step on. wants_frame p refl refl refl (ahead.wants (step_is_job c (advanced tail).bytes step));
+  next = at_next stands start k left taken tail size given s ∙ ap ahead seen.next;
+  wants = λ step on. wants_frame p refl (seen.wants (step_is_job c (advanced tail).bytes step));
 }
 
 -- the position behind it
@@ -72,9 +71,9 @@ led_on : (before after : History → Type 0) (start : Start) (k : ℕ) (left tak
     → (s : HasServed before start k left taken tail size given) → IsCommandAhead tail c → (d : Does before after k (command_next c) told)
     → Leads (begin s.input) (s.events ++ d.events) (behind s.input (advanced tail).bytes s.told d.is_out_of_memory told)
 unfolding behind
-led_on before after start k left taken tail size given c told s ahead d =
+led_on before after start k left taken tail size given c told s found d =
     leads_then s.events d.events (begin s.input) (position s.input tail.bytes s.is_out_of_memory s.told) (behind s.input (advanced tail).bytes s.told d.is_out_of_memory told) s.leads
-    (d.leads (position s.input tail.bytes s.is_out_of_memory s.told) (advanced tail).bytes (at_command before start k left taken tail size given c s ahead))
+    (d.leads (position s.input tail.bytes s.is_out_of_memory s.told) (advanced tail).bytes (at_command before start k left taken tail size given c s found))
 
 on_spent : (input left : List ℕ) (before : List Reply) (is_out_of_memory : Bool) (told : Told) → told.last ≡ false
     → behind input left before is_out_of_memory told ≡ position input left is_out_of_memory (before ++ told.reply ∷ [])
@@ -86,7 +85,7 @@ pub command_served : (before after : History → Type 0) (start : Start) (k : �
     → HasServed before start k left taken tail size given → IsCommandAhead tail c → Does before after k (command_next c) told → Gives told taken taken' given given' None
     → tail' ≡ advanced tail → size' ≡ size
     → HasServed after start k left taken' tail' size' given'
-command_served before after start k left taken taken' tail tail' size size' given given' c told s ahead d g past same = record {
+command_served before after start k left taken taken' tail tail' size size' given given' c told s found d g past same = record {
   events = s.events ++ d.events;
   input = s.input;
   is_out_of_memory = d.is_out_of_memory;
@@ -95,16 +94,16 @@ command_served before after start k left taken taken' tail tail' size size' give
   lanes = of_both k s.events d.events s.lanes d.lanes;
   leads = subst (λ (t : Tail). Leads (begin s.input) (s.events ++ d.events) (position s.input t.bytes d.is_out_of_memory (s.told ++ told.reply ∷ []))) (sym past)
       (subst (λ p. Leads (begin s.input) (s.events ++ d.events) p) (on_spent s.input (advanced tail).bytes s.told d.is_out_of_memory told g.ended)
-      (led_on before after start k left taken tail size given c told s ahead d));
+      (led_on before after start k left taken tail size given c told s found d));
   size_is = s.size_is ∙ sym same;
-  held = ap (λ (t : Tail). t.offset + length t.bytes) past ∙ ahead.rest ∙ s.held ∙ sym same;
+  held = ap (λ (t : Tail). t.offset + length t.bytes) past ∙ found.rest ∙ s.held ∙ sym same;
   took = s.took;
   gave = gave_more start.taken taken taken' given given' s.told told.reply true s.gave g.gave;
 }
 
 -- or it is the lane's last
-ends_so : (e : Ending) (p : Position) → p.job ≡ None → IsEndedBy p.is_spent (Some e) → EndsSo e p (next_at p)
-ends_so endings.NoMemory p off by = (second_true p.is_out_of_memory p.is_spent by, ap job_stops off)
+ends_so : (e : Ending) (p : Position) → p.task ≡ None → IsEndedBy p.is_spent (Some e) → EndsSo e p (next_at p)
+ends_so endings.NoMemory p off by = (second_true p.is_out_of_memory p.is_spent by, ap stops off)
 ends_so endings.SinkFault p off by = tt
 ends_so endings.Clean p off by = absurd by
 ends_so (endings.Broken place) p off by = absurd by
@@ -145,7 +144,7 @@ pub command_stops : (before after : History → Type 0) (start : Start) (k : ℕ
     → size' ≡ size
     → HasStopped after start k left taken' size' given' e None
 unfolding behind
-command_stops before after start k left taken taken' tail size size' given given' c told e s ahead d g same =
+command_stops before after start k left taken taken' tail size size' given given' c told e s found d g same =
     let p = behind s.input (advanced tail).bytes s.told d.is_out_of_memory told in
     let calm = quiet e p start.left left s.input (s.events ++ d.events) (ended_one e told.last g.ended) s.took in
     record {
@@ -154,18 +153,16 @@ command_stops before after start k left taken taken' tail size size' given given
       last = p;
       stands_for = d.history (with_events start.history s.events) s.stands_for;
       lanes = of_both k s.events d.events s.lanes d.lanes;
-      runs = λ f vs more. leads_runs f (s.events ++ d.events) vs (begin s.input) p more refl (led_on before after start k left taken tail size given c told s ahead d);
+      runs = λ f vs more. leads_runs f (s.events ++ d.events) vs (begin s.input) p more refl (led_on before after start k left taken tail size given c told s found d);
       on = refl;
       off = refl;
-      idle = refl;
-      shut = refl;
       size_is = s.size_is ∙ sym same;
       took = calm.took;
       gave = gave_more start.taken taken taken' given given' s.told told.reply (gave_all e) s.gave g.gave;
       so = ends_so e p refl g.ended;
       says = calm.says;
       read_out = calm.out;
-      comes = leads_to endings.SinkFault (s.events ++ d.events) (begin s.input) p (led_on before after start k left taken tail size given c told s ahead d);
+      comes = leads_to endings.SinkFault (s.events ++ d.events) (begin s.input) p (led_on before after start k left taken tail size given c told s found d);
       all_but_one = gave_but_one e (s.told ++ told.reply ∷ []) given' (given_but_one start.taken taken taken' given given' s.told told.reply (frame (reply_text told.reply)) (gave_all e) s.gave g.gave);
     }
 
@@ -173,32 +170,26 @@ command_stops before after start k left taken taken' tail size size' given given
 
 record IsHeardShort (p q : Position) (r : Reply) : Type 0 where
   pub on : q.is_over ≡ p.is_over
-  pub off : q.job ≡ None
-  pub idle : q.pull ≡ None
-  pub shut : q.collecting ≡ None
+  pub off : q.task ≡ None
   pub told : q.told ≡ p.told ++ r ∷ []
   pub is_out_of_memory : q.is_out_of_memory ≡ true
 
-over_told : (p : Position) (left : List ℕ) (job : Job) (r : Reply) (s b : Bool) → p.collecting ≡ None → job ≡ over r → s ≡ true → IsHeardShort p (at_job p left job s b) r
-over_told p left job r s b shut is flag =
+over_told : (p : Position) (left : List ℕ) (job : Job) (r : Reply) (s b : Bool) → job ≡ over r → s ≡ true → IsHeardShort p (at_job p left job s b) r
+over_told p left job r s b is flag =
     let h = ap (λ j. at_job p left j s b) is ∙ at_job_over p left r s b in
     record {
       on = ap (λ (q : Position). q.is_over) h;
-      off = ap (λ (q : Position). q.job) h;
-      idle = ap (λ (q : Position). q.pull) h;
-      shut = ap (λ (q : Position). q.collecting) h ∙ shut;
+      off = ap (λ (q : Position). q.task) h;
       told = ap (λ (q : Position). q.told) h;
       is_out_of_memory = ap (λ (q : Position). q.is_out_of_memory) h ∙ flag;
     }
 
 -- it was heard as a reply with this left of the input
-told_short : (p q : Position) (left : List ℕ) (r : Reply) (s b : Bool) → p.collecting ≡ None → s ≡ true
-    → q ≡ record p { left = left; job = None; pull = None; is_out_of_memory = s; is_spent = b; told = p.told ++ r ∷ [] } → IsHeardShort p q r
-told_short p q left r s b shut flag h = record {
+told_short : (p q : Position) (left : List ℕ) (r : Reply) (s b : Bool) → s ≡ true
+    → q ≡ record p { left = left; task = None; is_out_of_memory = s; is_spent = b; told = p.told ++ r ∷ [] } → IsHeardShort p q r
+told_short p q left r s b flag h = record {
   on = ap (λ (x : Position). x.is_over) h;
-  off = ap (λ (x : Position). x.job) h;
-  idle = ap (λ (x : Position). x.pull) h;
-  shut = ap (λ (x : Position). x.collecting) h ∙ shut;
+  off = ap (λ (x : Position). x.task) h;
   told = ap (λ (x : Position). x.told) h;
   is_out_of_memory = ap (λ (x : Position). x.is_out_of_memory) h ∙ flag;
 }
@@ -221,35 +212,33 @@ front_first n (inputs.next c left) = command_first c left
 front_first n (inputs.over_limit m) = tt
 front_first n inputs.no_command = tt
 
-not_open : (b : Bool) → None ≡ Some b → ⊥
-not_open b h = cc
-
 other_kind : (n : ℕ) → n ≡ 2 → (n == 1) ≡ false
 other_kind n two = ap (λ m. m == 1) two
 
-heard_short : (p : Position) (a : Answer) (r : Reply) → p.pull ≡ None → p.collecting ≡ None → p.job ≡ None → Goes (next_at p) → a.reply ≡ Some r → r ≡ Refused NoMemory → (a.entry).kind ≡ MEMORY_KIND
-    → IsHeardShort p (heard p a) r
-heard_short p a r idle shut off goes says want two =
-    by_next (next_at p) refl goes (subst FirstNext (sym (next_is p (front p.left) shut off refl)) (front_first (p.size - length p.left) (front p.left)))
+heard_short : (p : Position) (a : Answer) (r : Reply) → p.task ≡ None → Goes (next_at p) → a.reply ≡ Some r → r ≡ Refused NoMemory → (a.entry).kind ≡ MEMORY_KIND → IsHeardShort p (heard p a) r
+heard_short p a r off goes says want two =
+    let n = front_next (p.size - length p.left) (front p.left) in
+    let is = next_is p (front p.left) off refl in
+    by_next n is (subst Goes is goes) (front_first (p.size - length p.left) (front p.left)) (ap open_at (sym is) ∙ open_is p ∙ ap sweep_in off)
   where
     flag : ((a.entry).kind == MEMORY_KIND) ≡ true
     flag = eq-eqb (a.entry).kind 2 two
 
-    by_next : (n : Next) → next_at p ≡ n → Goes n → FirstNext n → IsHeardShort p (heard p a) r
-    by_next (plain c left) is g first = told_short p (heard p a) left r ((a.entry).kind == MEMORY_KIND) (a.last || p.is_spent) shut flag (heard_plain p c left a r idle is says)
-    by_next (sync group left) is g first = told_short p (heard p a) left r ((a.entry).kind == MEMORY_KIND) (a.last || p.is_spent) shut flag (heard_refused p group left a r idle is says (other_kind (a.entry).kind two))
-    by_next (collect left) is g first = told_short p (heard p a) left r ((a.entry).kind == MEMORY_KIND) (a.last || p.is_spent) shut flag (heard_gc p left a r idle is says)
-    by_next (job_step j left) is g first =
-        subst (λ q. IsHeardShort p q r) (sym (heard_job p j left a r idle is says))
-        (over_told p left (take j r) r ((a.entry).kind == MEMORY_KIND) (a.last || p.is_spent) shut (ap (take j) want ∙ first ∙ ap over (sym want)) flag)
-    by_next (broken refusal) is g first = told_short p (heard p a) [] r true true shut refl (heard_broken p refusal a r idle is says two)
-    by_next (collecting b) is g first = absurd (not_open b (sym (open_is p ∙ shut) ∙ ap open_at is))
-    by_next bye is g first = absurd g
-    by_next end is g first = absurd g
+    by_next : (n : Next) → next_at p ≡ ahead n → Goes (ahead n) → FirstNext n → open_at (ahead n) ≡ None → IsHeardShort p (heard p a) r
+    by_next (plain c left) is g first shut = told_short p (heard p a) left r ((a.entry).kind == MEMORY_KIND) (a.last || p.is_spent) flag (heard_plain p c left a r is says)
+    by_next (sync group left) is g first shut = told_short p (heard p a) left r ((a.entry).kind == MEMORY_KIND) (a.last || p.is_spent) flag (heard_refused p group left a r is says (other_kind (a.entry).kind two))
+    by_next (collect left) is g first shut = told_short p (heard p a) left r ((a.entry).kind == MEMORY_KIND) (a.last || p.is_spent) flag (heard_gc p left a r is says)
+    by_next (job_step j left) is g first shut =
+        subst (λ q. IsHeardShort p q r) (sym (heard_job p j left a r is says))
+        (over_told p left (take j r) r ((a.entry).kind == MEMORY_KIND) (a.last || p.is_spent) (ap (take j) want ∙ first ∙ ap over (sym want)) flag)
+    by_next (broken refusal) is g first shut = told_short p (heard p a) [] r true true refl (heard_broken p refusal a r is says two)
+    by_next (collecting b) is g first shut = cc
+    by_next bye is g first shut = absurd g
+    by_next end is g first shut = absurd g
 
-short_so : (e : Ending) (o : Option Ending) (q : Position) (is_last : Bool) → e ≡ short_ending o → IsEndedBy is_last o → q.is_out_of_memory ≡ true → q.job ≡ None → EndsSo e q (next_at q)
-short_so e None q is_last is by short_is off = subst (λ x. EndsSo x q (next_at q)) (sym is) (first_true q.is_out_of_memory q.is_spent short_is, ap job_stops off)
-short_so e (Some endings.NoMemory) q is_last is by short_is off = subst (λ x. EndsSo x q (next_at q)) (sym is) (first_true q.is_out_of_memory q.is_spent short_is, ap job_stops off)
+short_so : (e : Ending) (o : Option Ending) (q : Position) (is_last : Bool) → e ≡ short_ending o → IsEndedBy is_last o → q.is_out_of_memory ≡ true → q.task ≡ None → EndsSo e q (next_at q)
+short_so e None q is_last is by short_is off = subst (λ x. EndsSo x q (next_at q)) (sym is) (first_true q.is_out_of_memory q.is_spent short_is, ap stops off)
+short_so e (Some endings.NoMemory) q is_last is by short_is off = subst (λ x. EndsSo x q (next_at q)) (sym is) (first_true q.is_out_of_memory q.is_spent short_is, ap stops off)
 short_so e (Some endings.SinkFault) q is_last is by short_is off = subst (λ x. EndsSo x q (next_at q)) (sym is) tt
 short_so e (Some endings.Clean) q is_last is by short_is off = absurd by
 short_so e (Some (endings.Broken place)) q is_last is by short_is off = absurd by
@@ -275,7 +264,7 @@ short_stops before after start k left left' taken taken' tail size size' given g
     let v = d.event in
     let q = heard p v.answer in
     let all = taken_on start.left left left' s.input piece s.took took in
-    let h = heard_short p v.answer r refl refl refl (want_goes p refl (wants_frame p refl refl refl wants)) d.tells ((answers.tells).want (inl refl)) (d.kind_is (inl refl)) in
+    let h = heard_short p v.answer r refl (want_goes p tt (wants_frame p refl wants)) d.tells ((answers.tells).want (inl refl)) (d.kind_is (inl refl)) in
     let one = short_one e answers.stop (answers.told).last answers.ending_is g.ended in
     let calm = quiet e q start.left left' input (s.events ++ v ∷ []) one.0 all in
     record {
@@ -286,11 +275,9 @@ short_stops before after start k left left' taken taken' tail size size' given g
       lanes = of_more k s.events v s.lanes d.lane_is;
       runs = λ f vs told runs. subst (λ es. Runs f (begin input) es told) (sym (append_assoc s.events (v ∷ []) vs))
           (leads_runs f s.events (v ∷ vs) (begin input) p told refl (leads_further s.input tail.bytes piece s.is_out_of_memory s.told s.events s.leads)
-          (short_runs f p v vs told refl refl refl refl refl wants d.asks runs));
+          (short_runs f p v vs told refl refl refl wants d.asks runs));
       on = h.on;
       off = h.off;
-      idle = h.idle;
-      shut = h.shut;
       size_is = omega (arith, length-append s.input piece, s.size_is, more);
       took = calm.took;
       gave = subst (λ ts. WritesCounted start.taken taken' 0 given' (text ts) (gave_all e)) (sym h.told)

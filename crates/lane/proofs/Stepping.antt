@@ -13,7 +13,7 @@ use Rattle.store_model.specs.Job.{Asking, reading, closing, beginning, sending, 
 use Rattle.store_model.specs.JobReplies.{IsReplyTo}
 use Rattle.store_model.specs.Jobs.{job_of, IsJob, take, take_more}
 use Rattle.store_model.specs.VerifyJob as verify
-use Rattle.store_model.specs.Lanes.{job_step, collecting, front_next, lane_next}
+use Rattle.store_model.specs.Lanes.{Next, job_step, front_next}
 use Rattle.store_model.proofs.LaneLemmas.{GoesOn, part_dropped}
 use Rattle.store_history.specs.declared.act.Act.{Act}
 use Rattle.store_history.specs.declared.act.Act.TheVariants as acts
@@ -21,10 +21,10 @@ use Rattle.store_history.specs.declared.act.Answer.{Answer}
 use Rattle.store_history.specs.declared.act.Event.{Event}
 use Rattle.store_history.specs.Acts.{IsWellFormed, act_of_step}
 use Rattle.store_history.specs.History.{kind, reply}
-use Rattle.store_history.specs.LaneRun.{Position, next_at, goes_on, is_stopping, job_stops, pull_stops, may_step}
-use Rattle.store_history.specs.Pulling.{Pulling}
+use Rattle.store_history.specs.LaneRun as lane_run
+use Rattle.store_history.specs.LaneRun.{Task, ahead, pull_ahead, ahead_by, Position, next_at, goes_on, is_stopping, may_step}
+use Rattle.store_history.specs.Pulling.{Pulling, comparing, is_ending}
 use Rattle.store_history.specs.SoFar.{Leads}
-use Rattle.store_history.proofs.Ending.{next_shut}
 use Rattle.store_history.proofs.Jobs.{step_formed, at_job, at_job_next, at_job_wants, at_job_steps, leads_job, leads_job_short}
 use Rattle.job_steps.specs.Checks.{stops}
 use Rattle.job_steps.specs.Visits.{IsPartRead}
@@ -46,15 +46,12 @@ false_true e = cc
 told_as : (p q : Position) (left : List ℕ) (r : Reply) (s b : Bool) → TellsNothing p q → answered q left r s b ≡ answered p left r s b
 told_as p q left r s b same =
     ap (λ n. record (answered q left r s b) { size = n }) same.size
-    ∙ ap (λ x. record (answered q left r s b) { size = p.size; collecting = x }) same.collecting
-    ∙ ap (λ ts. record (answered q left r s b) { size = p.size; collecting = p.collecting; told = ts ++ r ∷ [] }) same.told
+    ∙ ap (λ ts. record (answered q left r s b) { size = p.size; told = ts ++ r ∷ [] }) same.told
     ∙ ap (λ o. record (answered p left r s b) { is_over = o }) same.is_over
 
 nothing_more : (p q r : Position) → TellsNothing p q → TellsNothing q r → TellsNothing p r
 nothing_more p q r first second = record {
   size = second.size ∙ first.size;
-  pull = second.pull ∙ first.pull;
-  collecting = second.collecting ∙ first.collecting;
   told = second.told ∙ first.told;
   is_over = second.is_over ∙ first.is_over;
 }
@@ -65,51 +62,45 @@ at_from p q r left (over x) s b same at = at ∙ told_as p q left x s b same
 at_from p q r left (asking j) s b same at = (at.0, nothing_more p q r same at.1, at.2)
 
 -- where its step led
-here : (p : Position) (left : List ℕ) (job : Job) (s b : Bool) → p.pull ≡ None → p.collecting ≡ None → (b ≡ true → IsStopped (job_stage job))
+here : (p : Position) (left : List ℕ) (job : Job) (s b : Bool) → (b ≡ true → IsStopped (job_stage job))
     → IsAt p left (job_stage job) s b (at_job p left job s b)
 unfolding goes_on
-here p left (over r) s b idle shut stops = refl
-here p left (asking j) s b idle shut stops = (
-  record { on = at_job_steps p left j s b idle stops; idle = idle; next = at_job_next p left j s b shut; wants = λ step on. at_job_wants p left j s b idle shut on },
-  record { size = refl; pull = refl; collecting = refl; told = refl; is_over = refl },
+here p left (over r) s b stopped = refl
+here p left (asking j) s b stopped = (
+  record { on = at_job_steps p left j s b stopped; next = at_job_next p left j s b; wants = λ step on. at_job_wants p left j s b on },
+  record { size = refl; told = refl; is_over = refl },
   refl,
 )
 
-same_step : (i j : Asking) (left later : List ℕ) → job_step i later ≡ job_step j left → i ≡ j
+same_step : (i j : Asking) (left later : List ℕ) → ahead (job_step i later) ≡ ahead (job_step j left) → i ≡ j
 same_step i j left later e = cc
 
-collects_no_step : (b : Bool) (j : Asking) (left : List ℕ) → collecting b ≡ job_step j left → ⊥
-collects_no_step b j left e = cc
-
 -- a step behind which the job's session is not all that is left comes where no answer was the last
-pub step_on : (p : Position) (j : Asking) (left : List ℕ) → p.pull ≡ None → next_at p ≡ job_step j left → is_stopping j ≡ false → may_step p ≡ true → p.is_spent ≡ false
-unfolding next_at lane_next
-step_on p j left idle is goes on =
-    by_spent p.is_spent (ap (λ b. not p.is_spent || b) (sym (ap (λ (o : Option Pulling). pull_stops o p.job) idle ∙ by_collecting p.collecting is)) ∙ on)
+pub step_on : (p : Position) (j : Asking) (left : List ℕ) → next_at p ≡ ahead (job_step j left) → is_stopping j ≡ false → may_step p ≡ true → p.is_spent ≡ false
+unfolding next_at
+step_on p j left is goes on = by_spent p.is_spent (ap (λ b. not p.is_spent || b) (sym (by_task p.task is)) ∙ on)
   where
     by_spent : (b : Bool) → (not b || false) ≡ true → b ≡ false
     by_spent true h = cc
     by_spent false h = refl
 
-    by_job : (o : Option Asking) → elim o [ None ↦ front_next (p.size - length p.left) (front p.left) | Some i ↦ job_step i p.left ] ≡ job_step j left → job_stops o ≡ false
-    by_job None is = refl
-    by_job (Some i) is = ap is_stopping (same_step i j left p.left is) ∙ goes
+    by_pull : (x : Pulling) (y : Next) → pull_ahead x p.left y ≡ ahead (job_step j left) → is_ending x ≡ false
+    by_pull (comparing group remote) y e = refl
+    by_pull x y e = cc
 
-    by_collecting : (o : Option Bool)
-        → elim o [
-          | None ↦ elim p.job [ None ↦ front_next (p.size - length p.left) (front p.left) | Some i ↦ job_step i p.left ]
-          | Some is_out_of_memory ↦ collecting is_out_of_memory
-        ] ≡ job_step j left → job_stops p.job ≡ false
-    by_collecting None is = by_job p.job is
-    by_collecting (Some is_out_of_memory) is = absurd (collects_no_step is_out_of_memory j left is)
+    by_task : (t : Option Task) → ahead_by t (p.size - length p.left) p.left ≡ ahead (job_step j left) → lane_run.stops t ≡ false
+    by_task None e = refl
+    by_task (Some (lane_run.steps i)) e = ap is_stopping (same_step i j left p.left e) ∙ goes
+    by_task (Some (lane_run.pulls x)) e = by_pull x (front_next (p.size - length p.left) (front p.left)) e
+    by_task (Some (lane_run.sweeps b)) e = refl
 
 step_led : (p : Position) (j : Asking) (left : List ℕ) (v : Event) (r : Reply) (act : Act) → IsNext (job_step j left) p → IsActOf (steps j) act → v.act ≡ act → reply v ≡ Some r
     → Leads p (v ∷ []) (at_job p left (take j r) (kind v == MEMORY_KIND) ((v.answer).last || p.is_spent))
 step_led p j left v r act at of asks says = by_act of
   where
     by_act : IsActOf (steps j) act → Leads p (v ∷ []) (at_job p left (take j r) (kind v == MEMORY_KIND) ((v.answer).last || p.is_spent))
-    by_act (inl is) = leads_job [] p p j left v r refl at.idle at.on at.next (asks ∙ is) says
-    by_act (inr is) = leads_job_short [] p p j left v r refl at.idle (step_on p j left at.idle at.next is.1 at.on) at.next (at.wants tt is.1) (asks ∙ is.0) says
+    by_act (inl is) = leads_job [] p p j left v r refl at.on at.next (asks ∙ is) says
+    by_act (inr is) = leads_job_short [] p p j left v r refl (step_on p j left at.next is.1 at.on) at.next (at.wants tt is.1) (asks ∙ is.0) says
 
 -- ---- one step
 
@@ -131,7 +122,7 @@ steps_once before after k j was act told of d stops = record {
         subst (λ b. Leads q (d.event ∷ []) (at_job q left new (kind d.event == 2) b)) (ap (λ b. b || q.is_spent) d.last ∙ ap (λ b. told.last || b) spent)
             (step_led q j left d.event told.reply act at of d.asks d.tells),
         at_from p q (at_job q left new (kind d.event == 2) now) left new (kind d.event == 2) now same
-            (here q left new (kind d.event == 2) now at.idle (next_shut q (job_step j left) at.next refl) stops),
+            (here q left new (kind d.event == 2) now stops),
       ),
     )
 

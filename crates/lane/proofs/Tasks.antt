@@ -194,9 +194,9 @@ first_on c is = record { stops = λ last. absurd (false_true last); sound = soun
 begins : (c : Command) → IsTask c → Begins (command_next c) (first_stage c)
 unfolding command_next
 begins (commands.Prune group keep dry) is p left at =
-    (at, record { size = refl; pull = refl; collecting = refl; told = refl; is_over = refl }, step_on p (grouping (commands.Prune group keep dry) keep dry) left at.idle at.next refl at.on)
+    (at, record { size = refl; told = refl; is_over = refl }, step_on p (grouping (commands.Prune group keep dry) keep dry) left at.next refl at.on)
 begins (commands.Verify snapshot) is p left at =
-    (at, record { size = refl; pull = refl; collecting = refl; told = refl; is_over = refl }, step_on p (opening snapshot) left at.idle at.next refl at.on)
+    (at, record { size = refl; told = refl; is_over = refl }, step_on p (opening snapshot) left at.next refl at.on)
 begins (commands.Sync group) is p left at = (refl, refl, at)
 begins commands.Gc is p left at = (refl, refl, at)
 begins c is p left at = absurd is

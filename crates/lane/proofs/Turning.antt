@@ -1,5 +1,5 @@
 -- What a lane did so far, after one turn more.
-use Rattle.std.proofs.Common.{◌≡◌, ◌≢◌, ℕ, ◌+◌, ◌-◌, Bool, true, false, List, [], ◌∷◌, ◌++◌, length, Option, Some, None, IfSome, refl, sym, ap, subst, ◌∙◌, arith, append-nil, append_assoc}
+use Rattle.std.proofs.Common.{◌≡◌, ◌≢◌, ℕ, ◌+◌, ◌-◌, Bool, true, false, List, [], ◌∷◌, ◌++◌, length, if◌then◌else◌, Option, Some, None, IfSome, refl, sym, ap, subst, ◌∙◌, arith, append-nil, append_assoc}
 use Rattle.std.specs.Io.KnownBytes.{prepend_known}
 use Rattle.std.proofs.lemmas.List.{length-append}
 use Rattle.store_types.specs.declared.refusal.Refusal.{Refusal}
@@ -16,7 +16,7 @@ use Rattle.store_model.specs.declared.ending.Ending.TheVariants as endings
 use Rattle.store_model.specs.Lanes.{Next, job_step, plain, sync, collect, collecting, bye, broken, end, front_next}
 use Rattle.store_model.specs.Weave.{is_replied}
 use Rattle.store_history.specs.declared.act.Event.{Event}
-use Rattle.store_history.specs.LaneRun.{Position, begin, text, next_at, last_words, EndsSo}
+use Rattle.store_history.specs.LaneRun.{Ahead, ahead, Position, begin, text, next_at, tells, last_words, EndsSo}
 use Rattle.store_history.specs.SoFar.{Leads, grown}
 use Rattle.store_history.proofs.Ending.{next_is, next_end}
 use Rattle.store_history.proofs.Growing.{leads_grown, leads_runs}
@@ -127,43 +127,19 @@ here : (stands : History → Type 0) (start : Start) (k : ℕ) (left taken : Opt
     → HasServed stands start k left taken tail size given → Position
 here stands start k left taken tail size given s = position s.input tail.bytes s.is_out_of_memory s.told
 
-next_here : (tail : Tail) (p : Position) → p.collecting ≡ None → p.job ≡ None → p.left ≡ tail.bytes → p.size ≡ tail.offset + length tail.bytes → next_at p ≡ next_in tail
-next_here tail p shut off left size =
-    next_is p (front p.left) shut off refl
-    ∙ ap (λ n. front_next n (front p.left)) (let e = ap length left in let at : p.size - length p.left ≡ tail.offset = omega arith in at)
-    ∙ ap (λ xs. front_next tail.offset (front xs)) left
+next_here : (tail : Tail) (p : Position) → p.task ≡ None → p.left ≡ tail.bytes → p.size ≡ tail.offset + length tail.bytes → next_at p ≡ ahead (next_in tail)
+next_here tail p off left size =
+    next_is p (front p.left) off refl
+    ∙ ap (λ n. ahead (front_next n (front p.left))) (let e = ap length left in let at : p.size - length p.left ≡ tail.offset = omega arith in at)
+    ∙ ap (λ xs. ahead (front_next tail.offset (front xs))) left
 
 -- ---- where its commands come to an end
 
-silent : (e : Ending) (p : Position) (n : Next) → is_replied e ≡ false → last_words e p n ≡ p
+pub silent : (e : Ending) (p : Position) (n : Ahead) → is_replied e ≡ false → last_words e p n ≡ p
 unfolding last_words
-silent endings.NoMemory p bye h = refl
-silent endings.NoMemory p (broken r) h = refl
-silent endings.NoMemory p (plain c left) h = refl
-silent endings.NoMemory p (job_step j left) h = refl
-silent endings.NoMemory p (sync group left) h = refl
-silent endings.NoMemory p (collect left) h = refl
-silent endings.NoMemory p (collecting b) h = refl
-silent endings.NoMemory p end h = refl
-silent endings.SourceFault p bye h = refl
-silent endings.SourceFault p (broken r) h = refl
-silent endings.SourceFault p (plain c left) h = refl
-silent endings.SourceFault p (job_step j left) h = refl
-silent endings.SourceFault p (sync group left) h = refl
-silent endings.SourceFault p (collect left) h = refl
-silent endings.SourceFault p (collecting b) h = refl
-silent endings.SourceFault p end h = refl
-silent endings.SourceTooLong p bye h = refl
-silent endings.SourceTooLong p (broken r) h = refl
-silent endings.SourceTooLong p (plain c left) h = refl
-silent endings.SourceTooLong p (job_step j left) h = refl
-silent endings.SourceTooLong p (sync group left) h = refl
-silent endings.SourceTooLong p (collect left) h = refl
-silent endings.SourceTooLong p (collecting b) h = refl
-silent endings.SourceTooLong p end h = refl
-silent endings.Clean p n h = cc
-silent (endings.Broken place) p n h = cc
-silent endings.SinkFault p n h = cc
+silent e p (ahead bye) h = ap (λ b. if b then tells p [] Done else p) h
+silent e p (ahead (broken r)) h = ap (λ b. if b then tells p [] (Refused r) else p) h
+silent e p n h = refl
 
 pub no_words : (e : Ending) (p : Position) → is_replied e ≡ false → (last_words e p (next_at p)).told ≡ p.told ++ []
 no_words e p h = ap (λ (q : Position). q.told) (silent e p (next_at p) h) ∙ sym (append-nil p.told)
@@ -184,8 +160,6 @@ stopped stands start k left left' taken tail size given e words s all took so sa
   runs = λ f vs told. leads_runs f s.events vs (begin s.input) (position s.input tail.bytes s.is_out_of_memory s.told) told refl s.leads;
   on = refl;
   off = refl;
-  idle = refl;
-  shut = refl;
   size_is = s.size_is;
   took = took;
   gave = subst (λ b. WritesCounted start.taken taken 0 given (text s.told) b) (sym all) s.gave;
@@ -197,41 +171,41 @@ stopped stands start k left left' taken tail size given e words s all took so sa
 }
 
 pub at_next : (stands : History → Type 0) (start : Start) (k : ℕ) (left taken : Option (List ℕ)) (tail : Tail) (size given : ℕ)
-    → (s : HasServed stands start k left taken tail size given) → next_at (position s.input tail.bytes s.is_out_of_memory s.told) ≡ next_in tail
+    → (s : HasServed stands start k left taken tail size given) → next_at (position s.input tail.bytes s.is_out_of_memory s.told) ≡ ahead (next_in tail)
 at_next stands start k left taken tail size given s =
-    next_here tail (position s.input tail.bytes s.is_out_of_memory s.told) refl refl refl (s.size_is ∙ sym s.held)
+    next_here tail (position s.input tail.bytes s.is_out_of_memory s.told) refl refl (s.size_is ∙ sym s.held)
 
-bye_words : (p : Position) (n : Next) → n ≡ bye → (last_words endings.Clean p n).told ≡ p.told ++ Done ∷ []
+bye_words : (p : Position) (n : Ahead) → n ≡ ahead bye → (last_words endings.Clean p n).told ≡ p.told ++ Done ∷ []
 unfolding last_words
 bye_words p n is = ap (λ x. (last_words endings.Clean p x).told) is
 
-broken_words : (p : Position) (n : Next) (place : ℕ) (r : Refusal) → n ≡ broken r → (last_words (endings.Broken place) p n).told ≡ p.told ++ Refused r ∷ []
+broken_words : (p : Position) (n : Ahead) (place : ℕ) (r : Refusal) → n ≡ ahead (broken r) → (last_words (endings.Broken place) p n).told ≡ p.told ++ Refused r ∷ []
 unfolding last_words
 broken_words p n place r is = ap (λ x. (last_words (endings.Broken place) p x).told) is
 
-end_words : (p : Position) (n : Next) → n ≡ end → (last_words endings.Clean p n).told ≡ p.told ++ []
+end_words : (p : Position) (n : Ahead) → n ≡ ahead end → (last_words endings.Clean p n).told ≡ p.told ++ []
 unfolding last_words
 end_words p n is = ap (λ x. (last_words endings.Clean p x).told) is ∙ sym (append-nil p.told)
 
 -- BYE is next
 pub bye_stops : (stands : History → Type 0) (start : Start) (k : ℕ) (left taken : Option (List ℕ)) (tail : Tail) (size given : ℕ)
     → HasServed stands start k left taken tail size given → IsLastAhead tail bye → HasStopped stands start k left taken size given endings.Clean (Some Done)
-bye_stops stands start k left taken tail size given s ahead =
+bye_stops stands start k left taken tail size given s seen =
     let p = position s.input tail.bytes s.is_out_of_memory s.told in
-    let next = at_next stands start k left taken tail size given s ∙ ahead.next in
+    let next = at_next stands start k left taken tail size given s ∙ ap ahead seen.next in
     stopped stands start k left left taken tail size given endings.Clean (Some Done) s refl s.took
     (subst (λ n. EndsSo endings.Clean p n) (sym next) refl)
     (bye_words p (next_at p) next)
-    (record { last = p; leads = s.leads; ended = tt; nothing = λ h. absurd (ahead.seen h) })
+    (record { last = p; leads = s.leads; ended = tt; nothing = λ h. absurd (seen.seen h) })
 
 -- what is no command is next, or a cut frame at the end of the input
 broken_at : (stands : History → Type 0) (start : Start) (k : ℕ) (left left' taken : Option (List ℕ)) (tail : Tail) (size given place : ℕ) (r : Refusal)
     → HasServed stands start k left taken tail size given → next_in tail ≡ broken r → place ≡ tail.offset → TakesFrom left left' []
     → (cut tail.bytes ≡ short → IfSome left' (λ xs. xs ≡ []))
     → HasStopped stands start k left' taken size given (endings.Broken place) (Some (Refused r))
-broken_at stands start k left left' taken tail size given place r s ahead at nothing seen =
+broken_at stands start k left left' taken tail size given place r s found at nothing seen =
     let p = position s.input tail.bytes s.is_out_of_memory s.told in
-    let next = at_next stands start k left taken tail size given s ∙ ahead in
+    let next = at_next stands start k left taken tail size given s ∙ ap ahead found in
     let offset : place ≡ length s.input - length tail.bytes = omega (arith, at, s.size_is, s.held) in
     stopped stands start k left left' taken tail size given (endings.Broken place) (Some (Refused r)) s refl
     (subst (λ xs. TakesFrom start.left left' xs) (append-nil s.input) (taken_on start.left left left' s.input [] s.took nothing))
@@ -242,8 +216,8 @@ broken_at stands start k left left' taken tail size given place r s ahead at not
 pub broken_stops : (stands : History → Type 0) (start : Start) (k : ℕ) (left taken : Option (List ℕ)) (tail : Tail) (size given place : ℕ) (r : Refusal)
     → HasServed stands start k left taken tail size given → IsLastAhead tail (broken r) → place ≡ tail.offset
     → HasStopped stands start k left taken size given (endings.Broken place) (Some (Refused r))
-broken_stops stands start k left taken tail size given place r s ahead at =
-    broken_at stands start k left left taken tail size given place r s ahead.next at (nothing_taken left) (λ h. absurd (ahead.seen h))
+broken_stops stands start k left taken tail size given place r s found at =
+    broken_at stands start k left left taken tail size given place r s found.next at (nothing_taken left) (λ h. absurd (found.seen h))
 
 -- nothing is left of the source
 nothing_more : (left left' : Option (List ℕ)) → TakesFrom left left' [] → IfSome left (λ xs. xs ≡ []) → IfSome left' (λ xs. xs ≡ [])
@@ -255,7 +229,7 @@ pub end_stops : (stands : History → Type 0) (start : Start) (k : ℕ) (left le
     → HasStopped stands start k left' taken size given endings.Clean None
 end_stops stands start k left left' taken tail size given s all took none =
     let p = position s.input tail.bytes s.is_out_of_memory s.told in
-    let next = next_end p refl refl all in
+    let next = next_end p refl all in
     stopped stands start k left left' taken tail size given endings.Clean None s refl
     (subst (λ xs. TakesFrom start.left left' xs) (append-nil s.input) (taken_on start.left left left' s.input [] s.took took))
     (subst (λ n. EndsSo endings.Clean p n) (sym next) refl)

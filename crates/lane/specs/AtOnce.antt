@@ -32,9 +32,7 @@ pub record HasEndedAtOnce (input : List ℕ) (events : List Event) (given : ℕ)
   pub ended : AreEnds ends
   pub last : Position
   pub leads : position_by endings.SinkFault (begin input) before ≡ last
-  pub off : last.job ≡ None
-  pub idle : last.pull ≡ None
-  pub shut : last.collecting ≡ None
+  pub off : last.task ≡ None
   pub gave : GaveAllButOne last.told given
 
 -- a lane whose sink failed made no act more but its end

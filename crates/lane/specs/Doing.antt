@@ -4,7 +4,7 @@ use Rattle.wire_commands.specs.declared.command.Command.{Command}
 use Rattle.wire_commands.specs.declared.reply.Reply.{Reply}
 use Rattle.store_model.specs.Lanes.{Next, command_next, job_step, sync}
 use Rattle.store_history.specs.declared.act.Event.{Event}
-use Rattle.store_history.specs.LaneRun.{Position, next_at, is_stopping, may_want_at, may_step}
+use Rattle.store_history.specs.LaneRun.{ahead, Position, next_at, is_stopping, may_want_at, may_step}
 use Rattle.store_history.specs.Seats.{AreOf}
 use Rattle.store_history.specs.SoFar.{Leads}
 use Rattle.core_state.specs.History.{History}
@@ -28,14 +28,13 @@ is_last_step n = false
 -- may be wanting.
 pub record IsNext (n : Next) (p : Position) : Type 0 where
   pub on : may_step p ≡ true
-  pub idle : p.pull ≡ None
-  pub next : next_at p ≡ n
+  pub next : next_at p ≡ ahead n
   pub wants : IsStep n → is_last_step n ≡ false → may_want_at p ≡ true
 
 -- behind a command, or a whole job, that was told this
 abbrev pub answered : Position → List ℕ → Reply → Bool → Bool → Position
 answered p left r is_out_of_memory is_spent =
-    record p { left = left; job = None; pull = None; is_out_of_memory = is_out_of_memory; is_spent = is_spent; told = p.told ++ r ∷ [] }
+    record p { left = left; task = None; is_out_of_memory = is_out_of_memory; is_spent = is_spent; told = p.told ++ r ∷ [] }
 
 -- Acts of the lane were entered, all of a command or of the job of one. Wherever it is next on the lane, with this left behind it,
 -- they lead to where it was told.

@@ -23,7 +23,7 @@ pub record Start : Type 0 where
 
 abbrev pub position : List ℕ → List ℕ → Bool → List Reply → Position
 position input left is_out_of_memory told =
-    record { size = length input; left = left; job = None; pull = None; collecting = None; is_out_of_memory = is_out_of_memory; is_spent = false; told = told; is_over = false }
+    record { size = length input; left = left; task = None; is_out_of_memory = is_out_of_memory; is_spent = false; told = told; is_over = false }
 
 -- These events led the lane to where it is. It goes on.
 pub record HasServed (stands : History → Type 0) (start : Start) (k : ℕ) (left taken : Option (List ℕ)) (tail : Tail) (size given : ℕ) : Type 0 where
@@ -53,9 +53,7 @@ pub record HasStopped (stands : History → Type 0) (start : Start) (k : ℕ) (l
   pub lanes : AreOf k events
   pub runs : (f : Ending) (vs : List Event) (told : List Reply) → Runs f last vs told → Runs f (begin input) (events ++ vs) told
   pub on : last.is_over ≡ false
-  pub off : last.job ≡ None
-  pub idle : last.pull ≡ None
-  pub shut : last.collecting ≡ None
+  pub off : last.task ≡ None
   pub size_is : length input ≡ size
   pub took : Took e start.left left input
   pub gave : WritesCounted start.taken taken 0 given (text last.told) (gave_all e)

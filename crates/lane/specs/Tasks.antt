@@ -15,6 +15,7 @@ use Rattle.store_history.specs.declared.act.Answer.{Answer}
 use Rattle.store_history.specs.declared.act.Event.{Event}
 use Rattle.store_history.specs.Acts.{act_of_step}
 use Rattle.store_history.specs.Begun.{IsBegun}
+use Rattle.store_history.specs.LaneRun as lane_run
 use Rattle.store_history.specs.LaneRun.{Position, is_stopping}
 use Rattle.store_history.specs.Pulling.{Pulling, seeking, comparing, SyncJob, reports, asks, act_of, take as pull_take, is_ending}
 use Rattle.store_history.specs.Seats.{AreOf}
@@ -146,8 +147,6 @@ pub record MayGoOn (s : Stage) (is_last : Bool) : Type 0 where
 -- nothing was told between these positions of a lane
 pub record TellsNothing (p q : Position) : Type 0 where
   pub size : q.size ≡ p.size
-  pub pull : q.pull ≡ p.pull
-  pub collecting : q.collecting ≡ p.collecting
   pub told : q.told ≡ p.told
   pub is_over : q.is_over ≡ p.is_over
 
@@ -162,11 +161,11 @@ left_at p left x = left
 
 abbrev pub pulling_at : Position → List ℕ → Pulling → Bool → Bool → Position
 pulling_at p left x is_out_of_memory is_last =
-    record p { left = left_at p left x; pull = Some x; is_out_of_memory = is_out_of_memory; is_spent = is_last }
+    record p { left = left_at p left x; task = Some (lane_run.pulls x); is_out_of_memory = is_out_of_memory; is_spent = is_last }
 
 abbrev pub sweeping_at : Position → List ℕ → Bool → Bool → Bool → Position
 sweeping_at p left is_cut is_out_of_memory is_last =
-    record p { left = left; collecting = Some is_cut; is_out_of_memory = is_out_of_memory; is_spent = is_last }
+    record p { left = left; task = Some (lane_run.sweeps is_cut); is_out_of_memory = is_out_of_memory; is_spent = is_last }
 
 -- From where its command was next: it asks this next, or its report was told.
 abbrev pub IsAt : Position → List ℕ → Stage → Bool → Bool → Position → Type 0

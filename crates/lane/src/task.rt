@@ -38,7 +38,8 @@ pub trait Task {
         requires sync { IsSync R.row }
         requires answer { IsAnswerTo (stage self.old) answer }
         ensures ok { OnOk result (stage self.new ≡ taken (stage self.old) answer) }
-        ensures err { OnErr result ((stage self.new ≡ stage self.old) × IsDroppable (stage self.old) answer) };
+        ensures err { OnErr result
+            ((stage self.new ≡ stage self.old) × IsDroppable (stage self.old) answer) };
 
     /// What it reports. It takes no memory.
     fn report(self) -> Reply
@@ -91,7 +92,7 @@ pub fn do_task<
     E: Disk,
     C: Clock,
     N: Origin<Core<D, E, C>>,
-    J: Task + Drop,
+    J: Task,
 >(
     rt: &R,
     alloc: Global,

@@ -4,10 +4,10 @@ use Rattle.store_types.specs.declared.refusal.Refusal.{Refusal}
 use Rattle.wire_commands.specs.declared.reply.Reply.{Reply}
 use Rattle.store_model.specs.declared.ending.Ending.{Ending}
 use Rattle.store_model.specs.declared.ending.Ending.TheVariants as endings
-use Rattle.store_model.specs.Lanes.{Next, job_step, plain, sync, collect, collecting, bye, broken, end}
+use Rattle.store_model.specs.Lanes.{job_step, plain, sync, collect, collecting, bye, broken, end}
 use Rattle.store_history.specs.declared.act.Event.{Event}
 use Rattle.store_history.specs.Acts.{Class, stepping, reaching, starting, sweeping, wanting, ending, class_of}
-use Rattle.store_history.specs.LaneRun.{Position, begin, next_at, heard, heard_as, position_after, EndsSo, Does, Runs, LaneRan}
+use Rattle.store_history.specs.LaneRun.{Ahead, ahead, pull, Position, begin, next_at, heard, heard_as, position_after, EndsSo, Does, Runs, LaneRan}
 use Rattle.store_history.specs.SoFar.{Follows, Leads}
 use Rattle.store_history.proofs.Rules.{goes_on}
 use Rattle.lane.specs.AtOnce.{AreEnds}
@@ -41,15 +41,16 @@ pub ends_so : (e : Ending) (q : Position) (ends : List Event) (told : List Reply
 ends_so e q [] told are r = absurd (clash (sym r.on ∙ (r.runs).0))
 ends_so e q (v ∷ vs) told are r = (subst (λ c. Does c e q v vs) (ap class_of are.0) (r.runs).1).0
 
-pub so_broken : (place : ℕ) (q : Position) (n : Next) → EndsSo (endings.Broken place) q n → (r : Refusal) × (n ≡ broken r)
-so_broken place q (broken r) so = (r, refl)
-so_broken place q (plain c left) so = absurd so
-so_broken place q (job_step j left) so = absurd so
-so_broken place q (sync group left) so = absurd so
-so_broken place q (collect left) so = absurd so
-so_broken place q (collecting is_out_of_memory) so = absurd so
-so_broken place q bye so = absurd so
-so_broken place q end so = absurd so
+pub so_broken : (place : ℕ) (q : Position) (n : Ahead) → EndsSo (endings.Broken place) q n → (r : Refusal) × (n ≡ ahead (broken r))
+so_broken place q (ahead (broken r)) so = (r, refl)
+so_broken place q (ahead (plain c left)) so = absurd so
+so_broken place q (ahead (job_step j left)) so = absurd so
+so_broken place q (ahead (sync group left)) so = absurd so
+so_broken place q (ahead (collect left)) so = absurd so
+so_broken place q (ahead (collecting is_out_of_memory)) so = absurd so
+so_broken place q (ahead bye) so = absurd so
+so_broken place q (ahead end) so = absurd so
+so_broken place q (pull x left) so = absurd so
 
 -- the ending is a place without a command
 abbrev pub IsBroken : Ending → Type 0

@@ -1,4 +1,5 @@
 -- A check of a run whose replay is equal, in which nothing failed, tells so.
+use Rattle.disk_trait.specs.Effects.{OnlyReads}
 use Rattle.disk_trait.specs.declared.disk.Disk.{Ghosts}
 use Rattle.std.proofs.Common.{◌≡◌, ◌<◌, ◌+◌, ◌*◌, ◌⊎◌, inl, inr, ℕ, Bool, true, false, List, [], ◌++◌, length, Option, Some, None, is_some, Result, Ok, Err, refl, sym, ap, subst, ◌∙◌, arith, append-nil, length-append, slice_index_or}
 use Rattle.std.specs.Prelude.{String}
@@ -23,7 +24,7 @@ use Rattle.replay.specs.Reading.{IsAtEnd, IsTooLong}
 use Rattle.run_check.specs.declared.checking.Compared.{Compared}
 use Rattle.run_check.specs.declared.fault.CheckFault.{CheckFault}
 use Rattle.run_check.specs.declared.fault.CheckFault.TheVariants as faults
-use Rattle.run_check.specs.Checks.{Checks, HasCompared, IsOnlyRead, RemoteIsOnlyRead, loaded}
+use Rattle.run_check.specs.Checks.{Checks, HasCompared, RemoteIsOnlyRead, loaded}
 use Rattle.run_check.specs.Ports.{IsRead, left_at}
 use Rattle.run_check.specs.Sessions.{sessions_of}
 use Rattle.pbs_server.specs.declared.served.Served.{Served}
@@ -109,7 +110,7 @@ module _ {D E S K J : Type 0} (d : Ghosts D) (e : Ghosts E) (source : sources.Gh
   damaged b whole is = cc
 
   -- by what it came to
-  by_what : (what : Result Compared CheckFault) → Checks d e source disk remote old new what → IsOnlyRead d disk result.disk (what ≡ Err faults.DiskFault)
+  by_what : (what : Result Compared CheckFault) → Checks d e source disk remote old new what → OnlyReads d disk result.disk (what ≡ Err faults.DiskFault)
       → RemoteIsOnlyRead e remote result.remote (what ≡ Err faults.RemoteFault) → TellsLine journal before after what (result.report).journal_failed
       → IsOkOrShort (first_of (check_facts what (result.report).journal_failed))
   by_what (Ok compared) checks disk_is remote_is line = inl (by_failed (result.report).journal_failed compared line (compared_equal compared checks))

@@ -11,7 +11,8 @@ use Rattle.port_traits.specs.Faults.{Rose}
 use Rattle.port_traits.specs.Readings.{Readings}
 use Rattle.store_model.specs.declared.ending.Ending.TheVariants as endings
 use Rattle.core_state.specs.Remotes.{faults_of}
-use Rattle.command_line.specs.Reading.{texts}
+use Rattle.command_line.specs.Reading.{IsCount, texts}
+use Rattle.command_line.proofs.Counted.{said_count}
 use Rattle.generator.specs.Sessions.{generated}
 use Rattle.generator.specs.Summaries.{summary_text}
 use Rattle.generator.proofs.SessionLemmas.{session_is_input}
@@ -28,8 +29,7 @@ use Rattle.pbs_server.specs.Generating.{HasGenerated, MadePort, TellsSummary, al
 use Rattle.pbs_server.specs.Headline.{AsksNone, HasNotServed, HasServed, Leaves}
 use Rattle.pbs_server.specs.Journal.{TellsOrder}
 use Rattle.pbs_server.specs.Statuses.{endings_of, first_of, has_disk_fault, run_facts}
-use Rattle.pbs_server.specs.Words.{AsksTooMany, IsCount, IsMade, IsMisused, TellsJust}
-use Rattle.pbs_server.proofs.Counted.{said_count}
+use Rattle.pbs_server.specs.Words.{AsksTooMany, IsMade, IsMisused, TellsJust}
 use Rattle.pbs_server.proofs.Fine.{IsFine, all_memory_short, each_fine, each_short}
 use Rattle.pbs_server.proofs.Remotes.{rose_by}
 use Rattle.pbs_server.proofs.Well.{no_disk_fault, well_by}

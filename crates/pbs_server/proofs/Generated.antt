@@ -16,7 +16,7 @@ use Rattle.core_opening.specs.declared.opening.OpenFault.{OpenFault}
 use Rattle.opening_files.specs.Leaving.{MayClean}
 use Rattle.lane.specs.declared.port.LaneReport.{LaneReport}
 use Rattle.lane.specs.declared.port.Port.{Port}
-use Rattle.command_line.specs.Reading.{texts}
+use Rattle.command_line.specs.Reading.{IsCount, texts}
 use Rattle.generator.specs.Summaries.{summary_text}
 use Rattle.pbs_server.specs.declared.ended.Ended.{Ended}
 use Rattle.pbs_server.specs.declared.served.Served.{Served}
@@ -28,7 +28,7 @@ use Rattle.pbs_server.specs.Generating.{LeavesGenerated, MadePort, TellsEnded, T
 use Rattle.pbs_server.specs.Headline.{AsksNone, HasNotServed, HasServed, IsBeside, Leaves, StopsUnserved}
 use Rattle.pbs_server.specs.Journal.{TellsOrder}
 use Rattle.pbs_server.specs.Statuses.{endings_of, status_of_opening}
-use Rattle.pbs_server.specs.Words.{AsksMade, AsksTooMany, IsCheck, IsCount, IsMade, IsMisused, IsUnread, TellsJust}
+use Rattle.pbs_server.specs.Words.{AsksMade, AsksTooMany, IsCheck, IsMade, IsMisused, IsUnread, TellsJust}
 use Rattle.pbs_server.proofs.Leaving.{leaves_served, memory_asks}
 use Rattle.pbs_server.proofs.Statuses.{served_asks}
 use Rattle.pbs_server.proofs.Words.{made_check, made_many, run_made}

@@ -15,7 +15,6 @@ pub mod Changes
 pub mod Checked
 pub mod Orderly
 pub mod Acknowledged
-pub mod Counted
 pub mod Words
 pub mod Journal
 pub mod Handed

@@ -12,10 +12,10 @@ use Rattle.wire_commands.specs.Inputs.{InputFront, nothing, next, over_limit, no
 use Rattle.store_types.specs.declared.refusal.Refusal.{Refusal}
 use Rattle.store_model.specs.Job.{Asking, Job, over, asking}
 use Rattle.store_model.specs.Jobs.{job_of, take as job_take}
-use Rattle.store_model.specs.Lanes.{Next, job_step, plain, sync, collect, collecting, bye, broken, end, command_next, front_next, lane_next}
+use Rattle.store_model.specs.Lanes.{Next, job_step, plain, sync, collect, collecting, bye, broken, end, command_next, front_next}
 use Rattle.store_history.specs.declared.act.Answer.{Answer}
 use Rattle.store_history.specs.declared.act.Event.{Event}
-use Rattle.store_history.specs.LaneRun.{Position, begin, next_at, tells, used_up, goes_on, pulls_on, heard_at, heard_by, heard, behind}
+use Rattle.store_history.specs.LaneRun.{Task, steps, pulls, sweeps, Ahead, ahead, pull, Position, begin, pull_ahead, ahead_by, next_at, tells, used_up, goes_on, pulls_on, heard_at, heard}
 use Rattle.store_history.specs.Pulling.{Pulling, comparing, SyncJob, reports, asks, sought, take as pull_take}
 use Rattle.store_history.specs.SoFar.{Leads, grown}
 use Rattle.store_history.proofs.Growing.{leads_grown}
@@ -66,17 +66,28 @@ front_fits offset (next c left) h = command_fits c left h
 front_fits offset (over_limit n) h = tt
 front_fits offset no_command h = tt
 
-next_fits : (p : Position) → IsCommands p.left → FitsLeft (next_at p)
-unfolding next_at lane_next
-next_fits p h = by_collecting p.collecting
-  where
-    by_open : (o : Option Asking) → FitsLeft (elim o [ None ↦ front_next (p.size - length p.left) (front p.left) | Some j ↦ job_step j p.left ])
-    by_open None = front_fits (p.size - length p.left) (front p.left) (front_of h)
-    by_open (Some j) = h
+-- or what an open SYNC asks
+abbrev FitsAhead : Ahead → Type 0
+FitsAhead (ahead n) = FitsLeft n
+FitsAhead (pull x left) = IsCommands left
 
-    by_collecting : (o : Option Bool) → FitsLeft (elim o [ None ↦ elim p.job [ None ↦ front_next (p.size - length p.left) (front p.left) | Some j ↦ job_step j p.left ] | Some is_out_of_memory ↦ collecting is_out_of_memory ])
-    by_collecting None = by_open p.job
-    by_collecting (Some b) = tt
+pull_fits : (x : Pulling) (left : List ℕ) (n : Next) → IsCommands left → FitsLeft n → FitsAhead (pull_ahead x left n)
+pull_fits (comparing group remote) left (sync name behind) h f = f
+pull_fits (comparing group remote) left n h f = tt
+pull_fits x left n h f = h
+
+next_fits : (p : Position) → IsCommands p.left → FitsAhead (next_at p)
+unfolding next_at
+next_fits p h = by_task p.task
+  where
+    at_front : FitsLeft (front_next (p.size - length p.left) (front p.left))
+    at_front = front_fits (p.size - length p.left) (front p.left) (front_of h)
+
+    by_task : (t : Option Task) → FitsAhead (ahead_by t (p.size - length p.left) p.left)
+    by_task None = at_front
+    by_task (Some (steps j)) = h
+    by_task (Some (pulls x)) = pull_fits x p.left (front_next (p.size - length p.left) (front p.left)) h at_front
+    by_task (Some (sweeps is_out_of_memory)) = tt
 
 -- ---- an answer
 
@@ -94,54 +105,46 @@ nothing_left : IsCommands []
 unfolding front
 nothing_left = at_end
 
-heard_left : (p : Position) (n : ℕ) (r : Option Reply) (x : Next) → IsCommands p.left → FitsLeft x → IsCommands (heard_at p n r x).left
+heard_left : (p : Position) (n : ℕ) (r : Option Reply) (x : Ahead) → IsCommands p.left → FitsAhead x → IsCommands (heard_at p n r x).left
 unfolding heard_at
-heard_left p n (Some r) (job_step j left) h f = goes_left p left (job_take j r) f
-heard_left p n None (job_step j left) h f = h
-heard_left p n (Some r) (plain c left) h f = f
-heard_left p n None (plain c left) h f = h
-heard_left p n (Some r) (sync group left) h f = by_kind (n == 1)
+heard_left p n (Some r) (ahead (job_step j left)) h f = goes_left p left (job_take j r) f
+heard_left p n None (ahead (job_step j left)) h f = h
+heard_left p n (Some r) (ahead (plain c left)) h f = f
+heard_left p n None (ahead (plain c left)) h f = h
+heard_left p n (Some r) (ahead (sync group left)) h f = by_kind (n == 1)
   where
     by_kind : (b : Bool) → IsCommands (if b then pulls_on p p.left (sought group r) else tells p left r).left
     by_kind true = pulls_left p p.left (sought group r) h
     by_kind false = f
-heard_left p n None (sync group left) h f = h
-heard_left p n (Some r) (collect left) h f = f
-heard_left p n None (collect left) h f = by_kind (n == 3)
+heard_left p n None (ahead (sync group left)) h f = h
+heard_left p n (Some r) (ahead (collect left)) h f = f
+heard_left p n None (ahead (collect left)) h f = by_kind (n == 3)
   where
-    by_kind : (b : Bool) → IsCommands (if b then record p { left = left; collecting = Some false } else p).left
+    by_kind : (b : Bool) → IsCommands (if b then record p { left = left; task = Some (sweeps false) } else p).left
     by_kind true = f
     by_kind false = h
-heard_left p n (Some r) (collecting is_out_of_memory) h f = by_kind (n == 2)
+heard_left p n (Some r) (ahead (collecting is_out_of_memory)) h f = by_kind (n == 2)
   where
-    by_kind : (b : Bool) → IsCommands (if b then record p { collecting = Some true } else tells (record p { collecting = None }) p.left r).left
+    by_kind : (b : Bool) → IsCommands (if b then record p { task = Some (sweeps true) } else tells p p.left r).left
     by_kind true = h
     by_kind false = h
-heard_left p n None (collecting is_out_of_memory) h f = h
-heard_left p n (Some r) (broken refusal) h f = by_kind (n == 2)
+heard_left p n None (ahead (collecting is_out_of_memory)) h f = h
+heard_left p n (Some r) (ahead (broken refusal)) h f = by_kind (n == 2)
   where
     by_kind : (b : Bool) → IsCommands (if b then used_up p r else p).left
     by_kind true = nothing_left
     by_kind false = h
-heard_left p n None (broken refusal) h f = h
-heard_left p n (Some r) bye h f = h
-heard_left p n None bye h f = h
-heard_left p n (Some r) end h f = h
-heard_left p n None end h f = h
-
-behind_left : (p : Position) (x : Pulling) (n : Next) → IsCommands p.left → FitsLeft n → IsCommands (behind p x n)
-behind_left p (comparing group remote) (sync name left) h f = f
-behind_left p (comparing group remote) n h f = h
-behind_left p x n h f = h
-
-by_pull : (o : Option Pulling) (p : Position) (n : ℕ) (r : Option Reply) → IsCommands p.left → IsCommands (heard_by o p n r).left
-by_pull None p n r h = heard_left p n r (next_at p) h (next_fits p h)
-by_pull (Some x) p n (Some r) h = pulls_left p (behind p x (next_at p)) (pull_take x r) (behind_left p x (next_at p) h (next_fits p h))
-by_pull (Some x) p n None h = h
+heard_left p n None (ahead (broken refusal)) h f = h
+heard_left p n (Some r) (ahead bye) h f = h
+heard_left p n None (ahead bye) h f = h
+heard_left p n (Some r) (ahead end) h f = h
+heard_left p n None (ahead end) h f = h
+heard_left p n (Some r) (pull x left) h f = pulls_left p left (pull_take x r) f
+heard_left p n None (pull x left) h f = h
 
 answer_left : (p : Position) (a : Answer) → IsCommands p.left → IsCommands (heard p a).left
 unfolding heard
-answer_left p a h = by_pull p.pull p (a.entry).kind a.reply h
+answer_left p a h = heard_left p (a.entry).kind a.reply (next_at p) h (next_fits p h)
 
 leads_left : (vs : List Event) (p q : Position) → Leads p vs q → IsCommands p.left → IsCommands q.left
 leads_left [] p q leads h = subst (λ (x : Position). IsCommands x.left) leads h
@@ -179,18 +182,24 @@ by_front offset (next c left) z is = absurd (by_command c left z is)
 by_front offset (over_limit n) z is = tt
 by_front offset no_command z is = tt
 
-stuck_at : (p : Position) (z : Refusal) → next_at p ≡ broken z → IsStuck (front p.left)
-unfolding next_at lane_next
-stuck_at p z is = by_collecting p.collecting is
-  where
-    by_open : (o : Option Asking) → elim o [ None ↦ front_next (p.size - length p.left) (front p.left) | Some j ↦ job_step j p.left ] ≡ broken z → IsStuck (front p.left)
-    by_open None e = by_front (p.size - length p.left) (front p.left) z e
-    by_open (Some j) e = cc
+pub same_next : (n m : Next) → ahead n ≡ ahead m → n ≡ m
+same_next n m is = cc
 
-    by_collecting : (o : Option Bool) → elim o [ None ↦ elim p.job [ None ↦ front_next (p.size - length p.left) (front p.left) | Some j ↦ job_step j p.left ] | Some is_out_of_memory ↦ collecting is_out_of_memory ] ≡ broken z
-        → IsStuck (front p.left)
-    by_collecting None e = by_open p.job e
-    by_collecting (Some b) e = cc
+pull_unbroken : (x : Pulling) (left : List ℕ) (n : Next) (z : Refusal) → pull_ahead x left n ≡ ahead (broken z) → ⊥
+pull_unbroken (comparing group remote) left (sync name behind) z is = cc
+pull_unbroken (comparing group remote) left n z is = cc
+pull_unbroken x left n z is = cc
+
+stuck_at : (p : Position) (z : Refusal) → next_at p ≡ ahead (broken z) → IsStuck (front p.left)
+unfolding next_at
+stuck_at p z is = by_task p.task is
+  where
+    by_task : (t : Option Task) → ahead_by t (p.size - length p.left) p.left ≡ ahead (broken z) → IsStuck (front p.left)
+    by_task None e =
+        by_front (p.size - length p.left) (front p.left) z (same_next (front_next (p.size - length p.left) (front p.left)) (broken z) e)
+    by_task (Some (steps j)) e = cc
+    by_task (Some (pulls x)) e = absurd (pull_unbroken x p.left (front_next (p.size - length p.left) (front p.left)) z e)
+    by_task (Some (sweeps is_out_of_memory)) e = cc
 
 -- a length above the limit stays
 above_more : (bytes more : List ℕ) (n : ℕ) → cut bytes ≡ too_long n → cut (bytes ++ more) ≡ too_long n
@@ -233,7 +242,7 @@ stuck_more (b ∷ bytes) more stuck whole_is = by_cut (cut (b ∷ bytes)) refl s
         subst (λ f. IsStuck (cut_front f)) (sym (cut-append_whole (b ∷ bytes) more body rest is)) (by_body (command_of body) rest (rest ++ more) h)
 
 -- Where a lane is led on the front of commands, no place without a command is next, unless a part of a frame stands there.
-pub never_broken : (input rest : List ℕ) (vs : List Event) (last : Position) (z : Refusal) → IsCommands (input ++ rest) → Leads (begin input) vs last → next_at last ≡ broken z
+pub never_broken : (input rest : List ℕ) (vs : List Event) (last : Position) (z : Refusal) → IsCommands (input ++ rest) → Leads (begin input) vs last → next_at last ≡ ahead (broken z)
     → (cut last.left ≡ short → rest ≡ []) → ⊥
 never_broken input rest vs last z commands leads at whole_is =
     let well = leads_left vs (grown rest (begin input)) (grown rest last) (leads_grown rest vs (begin input) last leads) commands in

@@ -1,7 +1,7 @@
 -- A run that answered Ok is replayed equal.
 use Rattle.disk_trait.specs.declared.disk.Disk.{Ghosts}
 use Rattle.disk_trait.specs.declared.disk.DiskError.{DiskError}
-use Rattle.std.proofs.Common.{◌≡◌, ◌≤◌, ◌<◌, ◌+◌, ◌^◌, ◌||◌, inl, ℕ, zero, suc, Bool, true, false, List, [], ◌∷◌, ◌++◌, map, length, take, Option, Some, None, IsTrue, refl, sym, ap, subst, ◌∙◌, arith, slice_index_or}
+use Rattle.std.proofs.Common.{get_or, ◌≡◌, ◌≤◌, ◌<◌, ◌+◌, ◌^◌, ◌||◌, inl, ℕ, zero, suc, Bool, true, false, List, [], ◌∷◌, ◌++◌, map, length, take, Option, Some, None, IsTrue, refl, sym, ap, subst, ◌∙◌, arith, slice_index_or}
 use Rattle.std.specs.Prelude.{replicate, if◌then◌else◌}
 use Rattle.std.specs.List.{All, range_with_len}
 use Rattle.std.proofs.lemmas.List.{length-map, take_all}
@@ -42,7 +42,6 @@ use Rattle.lane_threads.specs.Served.{EachRan, RanAs, Run}
 use Rattle.replay.specs.Compare.{compare}
 use Rattle.replay.specs.Orders.{faultless_order, has_faults, unless_faults}
 use Rattle.replay_laws.proofs.Equal.{runs_replay_equal}
-use Rattle.replay_laws.proofs.Kept.{always}
 use Rattle.run_check.specs.Checks.{loaded}
 use Rattle.pbs_server.specs.declared.served.Served.{Served}
 use Rattle.pbs_server.specs.declared.status.Status.{Status}
@@ -62,6 +61,11 @@ use Rattle.pbs_server.proofs.Tests.{neither}
 use Rattle.pbs_server.proofs.Undamaged.{undamaged}
 use Rattle.pbs_server.proofs.Well.{by_endings}
 use Rattle.pbs_server.proofs.WholeInputs.{ran_whole}
+
+always : (lanes k : ℕ) → get_or (replicate lanes Clean) k Clean ≡ Clean
+always zero k = refl
+always (suc lanes) zero = refl
+always (suc lanes) (suc k) = always lanes k
 
 clash : true ≡ false → ⊥
 clash h = cc

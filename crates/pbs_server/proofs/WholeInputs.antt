@@ -10,17 +10,18 @@ use Rattle.store_types.specs.declared.order.TheConstants.{FAULT_KIND}
 use Rattle.store_model.specs.declared.ending.Ending.TheVariants.{Clean}
 use Rattle.store_model.specs.Job.{Asking}
 use Rattle.store_model.specs.Jobs.{job_of}
-use Rattle.store_model.specs.Lanes.{Next, job_step, plain, sync, collect, collecting, bye, broken, end, command_next, front_next, lane_next}
+use Rattle.store_model.specs.Lanes.{Next, job_step, plain, sync, collect, collecting, bye, broken, end, command_next, front_next}
 use Rattle.store_history.specs.declared.act.Event.{Event}
 use Rattle.store_history.specs.Acts.{ending, class_of}
 use Rattle.store_history.specs.History.{entries, kind, reply}
-use Rattle.store_history.specs.LaneRun.{Position, begin, next_at, end_faulted, last_words, heard_as, position_after, Does, EndsSo, Runs, LaneRan}
+use Rattle.store_history.specs.LaneRun.{Task, steps, pulls, sweeps, Ahead, ahead, pull, Position, begin, ahead_by, next_at, end_faulted, last_words, heard_as, position_after, Does, EndsSo, IsShut, Runs, LaneRan}
 use Rattle.store_history.specs.SoFar.{grown}
 use Rattle.store_history.proofs.Growing.{front_more, leads_grown, leads_runs}
 use Rattle.lane.specs.AtOnce.{AreEnds}
 use Rattle.lane.specs.Entries.{has_kind}
 use Rattle.lane.specs.Ran.{EndsRead, IsReadOut}
 use Rattle.pbs_server.proofs.Broken.{RunsOn, leads_back}
+use Rattle.pbs_server.proofs.NeverBroken.{same_next}
 use Rattle.pbs_server.proofs.Tests.{neither}
 
 clash : true ≡ false → ⊥
@@ -29,20 +30,21 @@ clash h = cc
 -- ---- what is next at the end
 
 -- BYE, or nothing
-abbrev AtEnd : Next → Type 0
-AtEnd bye = Unit {0}
-AtEnd end = Unit {0}
+abbrev AtEnd : Ahead → Type 0
+AtEnd (ahead bye) = Unit {0}
+AtEnd (ahead end) = Unit {0}
 AtEnd n = ⊥
 
-end_so : (p : Position) (n : Next) → EndsSo Clean p n → AtEnd n
-end_so p bye so = tt
-end_so p end so = tt
-end_so p (job_step j left) so = absurd so
-end_so p (plain c left) so = absurd so
-end_so p (sync group left) so = absurd so
-end_so p (collect left) so = absurd so
-end_so p (collecting is_out_of_memory) so = absurd so
-end_so p (broken refusal) so = absurd so
+end_so : (p : Position) (n : Ahead) → EndsSo Clean p n → AtEnd n
+end_so p (ahead bye) so = tt
+end_so p (ahead end) so = tt
+end_so p (ahead (job_step j left)) so = absurd so
+end_so p (ahead (plain c left)) so = absurd so
+end_so p (ahead (sync group left)) so = absurd so
+end_so p (ahead (collect left)) so = absurd so
+end_so p (ahead (collecting is_out_of_memory)) so = absurd so
+end_so p (ahead (broken refusal)) so = absurd so
+end_so p (pull x left) so = absurd so
 
 -- what stands at the front there
 abbrev FrontFits : Next → List ℕ → Type 0
@@ -100,45 +102,43 @@ front_end n left (next c rest) at is = absurd (command_end c rest is)
 front_end n left (over_limit m) at is = cc
 front_end n left no_command at is = cc
 
--- no job and no collector is open there
+-- nothing is open there
 record IsOff (p : Position) (n : Next) : Type 0 where
-  shut : p.collecting ≡ None
-  idle : p.job ≡ None
+  none : p.task ≡ None
   fits : FrontFits n p.left
 
-off_bye : (p : Position) → next_at p ≡ bye → IsOff p bye
-unfolding next_at lane_next
-off_bye p is = by_collecting p.collecting refl is
+off_bye : (p : Position) → IsShut p.task → next_at p ≡ ahead bye → IsOff p bye
+unfolding next_at
+off_bye p shut is = by_task p.task refl shut is
   where
-    by_open : (o : Option Asking) → p.job ≡ o → p.collecting ≡ None → elim o [ None ↦ front_next (p.size - length p.left) (front p.left) | Some j ↦ job_step j p.left ] ≡ bye → IsOff p bye
-    by_open None idle shut e = record { shut = shut; idle = idle; fits = front_bye (p.size - length p.left) p.left (front p.left) refl e }
-    by_open (Some j) idle shut e = cc
+    by_task : (t : Option Task) → p.task ≡ t → IsShut t → ahead_by t (p.size - length p.left) p.left ≡ ahead bye → IsOff p bye
+    by_task None none shut e = record {
+      none = none;
+      fits = front_bye (p.size - length p.left) p.left (front p.left) refl (same_next (front_next (p.size - length p.left) (front p.left)) bye e);
+    }
+    by_task (Some (steps j)) none shut e = cc
+    by_task (Some (pulls x)) none shut e = absurd shut
+    by_task (Some (sweeps is_out_of_memory)) none shut e = absurd shut
 
-    by_collecting : (o : Option Bool) → p.collecting ≡ o
-        → elim o [ None ↦ elim p.job [ None ↦ front_next (p.size - length p.left) (front p.left) | Some j ↦ job_step j p.left ] | Some is_out_of_memory ↦ collecting is_out_of_memory ] ≡ bye → IsOff p bye
-    by_collecting None shut e = by_open p.job refl shut e
-    by_collecting (Some b) shut e = cc
-
-off_end : (p : Position) → next_at p ≡ end → IsOff p end
-unfolding next_at lane_next
-off_end p is = by_collecting p.collecting refl is
+off_end : (p : Position) → IsShut p.task → next_at p ≡ ahead end → IsOff p end
+unfolding next_at
+off_end p shut is = by_task p.task refl shut is
   where
-    by_open : (o : Option Asking) → p.job ≡ o → p.collecting ≡ None → elim o [ None ↦ front_next (p.size - length p.left) (front p.left) | Some j ↦ job_step j p.left ] ≡ end → IsOff p end
-    by_open None idle shut e = record { shut = shut; idle = idle; fits = front_end (p.size - length p.left) p.left (front p.left) refl e }
-    by_open (Some j) idle shut e = cc
-
-    by_collecting : (o : Option Bool) → p.collecting ≡ o
-        → elim o [ None ↦ elim p.job [ None ↦ front_next (p.size - length p.left) (front p.left) | Some j ↦ job_step j p.left ] | Some is_out_of_memory ↦ collecting is_out_of_memory ] ≡ end → IsOff p end
-    by_collecting None shut e = by_open p.job refl shut e
-    by_collecting (Some b) shut e = cc
+    by_task : (t : Option Task) → p.task ≡ t → IsShut t → ahead_by t (p.size - length p.left) p.left ≡ ahead end → IsOff p end
+    by_task None none shut e = record {
+      none = none;
+      fits = front_end (p.size - length p.left) p.left (front p.left) refl (same_next (front_next (p.size - length p.left) (front p.left)) end e);
+    }
+    by_task (Some (steps j)) none shut e = cc
+    by_task (Some (pulls x)) none shut e = absurd shut
+    by_task (Some (sweeps is_out_of_memory)) none shut e = absurd shut
 
 -- BYE stays next
-bye_grown : (more : List ℕ) (p : Position) → IsOff p bye → next_at (grown more p) ≡ bye
-unfolding next_at lane_next front_next command_next
+bye_grown : (more : List ℕ) (p : Position) → IsOff p bye → next_at (grown more p) ≡ ahead bye
+unfolding next_at front_next command_next
 bye_grown more p off =
-    ap (λ (o : Option Bool). elim o [ None ↦ elim p.job [ None ↦ front_next (p.size + length more - length (p.left ++ more)) (front (p.left ++ more)) | Some j ↦ job_step j (p.left ++ more) ] | Some b ↦ collecting b ]) off.shut
-    ∙ ap (λ (o : Option Asking). elim o [ None ↦ front_next (p.size + length more - length (p.left ++ more)) (front (p.left ++ more)) | Some j ↦ job_step j (p.left ++ more) ]) off.idle
-    ∙ ap (front_next (p.size + length more - length (p.left ++ more))) (front_more p.left more commands.Bye (off.fits).0 (off.fits).1)
+    ap (λ (t : Option Task). ahead_by t (p.size + length more - length (p.left ++ more)) (p.left ++ more)) off.none
+    ∙ ap (λ f. ahead (front_next (p.size + length more - length (p.left ++ more)) f)) (front_more p.left more commands.Bye (off.fits).0 (off.fits).1)
 
 grown_none : (p : Position) → grown [] p ≡ p
 grown_none p = ap (λ n. record p { size = n; left = p.left ++ [] }) (none p.size) ∙ ap (λ xs. record p { left = xs }) (append-nil p.left)
@@ -152,19 +152,19 @@ cut_nothing [] is = refl
 cut_nothing (b ∷ bytes) is = cc
 
 -- where nothing more may stand behind a part of a frame, what is next stays next
-next_stays : (more : List ℕ) (p : Position) → (cut p.left ≡ short → more ≡ []) → (n : Next) → AtEnd n → next_at p ≡ n → next_at (grown more p) ≡ n
-next_stays more p nothing_is bye at is = bye_grown more p (off_bye p is)
-next_stays more p nothing_is end at is =
-    let none : more ≡ [] = nothing_is (cut_nothing p.left (off_end p is).fits) in
+next_stays : (more : List ℕ) (p : Position) → (cut p.left ≡ short → more ≡ []) → (n : Ahead) → AtEnd n → IsShut p.task → next_at p ≡ n → next_at (grown more p) ≡ n
+next_stays more p nothing_is (ahead bye) at shut is = bye_grown more p (off_bye p shut is)
+next_stays more p nothing_is (ahead end) at shut is =
+    let none : more ≡ [] = nothing_is (cut_nothing p.left (off_end p shut is).fits) in
     ap (λ xs. next_at (grown xs p)) none ∙ ap next_at (grown_none p) ∙ is
-next_stays more p nothing_is n at is = absurd at
+next_stays more p nothing_is n at shut is = absurd at
 
 -- ---- the lane's end
 
-words_grown : (more : List ℕ) (p : Position) (n : Next) → AtEnd n → (last_words Clean (grown more p) n).told ≡ (last_words Clean p n).told
+words_grown : (more : List ℕ) (p : Position) (n : Ahead) → AtEnd n → (last_words Clean (grown more p) n).told ≡ (last_words Clean p n).told
 unfolding last_words
-words_grown more p bye at = refl
-words_grown more p end at = refl
+words_grown more p (ahead bye) at = refl
+words_grown more p (ahead end) at = refl
 words_grown more p n at = absurd at
 
 -- what a lane told that is over
@@ -187,24 +187,25 @@ ends_grown more p (v ∷ vs) told are sound nothing_is r =
     let faults = neither (kind v == FAULT_KIND) (has_kind 5 (entries vs)) sound in
     let does : Does ending Clean p v vs = subst (λ c. Does c Clean p v vs) class (r.runs).1 in
     let at : AtEnd (next_at p) = end_so p (next_at p) does.0 in
-    let same : next_at (grown more p) ≡ next_at p = next_stays more p nothing_is (next_at p) at refl in
+    let same : next_at (grown more p) ≡ next_at p = next_stays more p nothing_is (next_at p) at does.2 refl in
     let over = over_told (record (last_words Clean p (next_at p)) { is_over = true }) vs told refl (subst (λ (q : Position). Runs Clean q vs told) (end_is p v class faults.0) (r.runs).2) in (
       r.on,
-      subst (λ c. Does c Clean (grown more p) v vs) (sym class) (subst (λ n. EndsSo Clean (grown more p) n) (sym same) (spent_same (next_at p) does.0), does.1, does.2, does.3),
+      subst (λ c. Does c Clean (grown more p) v vs) (sym class) (subst (λ n. EndsSo Clean (grown more p) n) (sym same) (spent_same (next_at p) does.0), does.1, does.2),
       subst (λ (q : Position). Runs Clean q vs told) (sym (end_is (grown more p) v class faults.0))
           (subst (λ xs. Runs Clean (record (last_words Clean (grown more p) (next_at (grown more p))) { is_over = true }) xs told) (sym over.0)
           (refl, ap (λ n. (last_words Clean (grown more p) n).told) same ∙ words_grown more p (next_at p) at ∙ over.1)),
     )
   where
-    spent_same : (n : Next) → EndsSo Clean p n → EndsSo Clean (grown more p) n
-    spent_same bye so = so
-    spent_same end so = so
-    spent_same (job_step j left) so = absurd so
-    spent_same (plain c left) so = absurd so
-    spent_same (sync group left) so = absurd so
-    spent_same (collect left) so = absurd so
-    spent_same (collecting is_out_of_memory) so = absurd so
-    spent_same (broken refusal) so = absurd so
+    spent_same : (n : Ahead) → EndsSo Clean p n → EndsSo Clean (grown more p) n
+    spent_same (ahead bye) so = so
+    spent_same (ahead end) so = so
+    spent_same (ahead (job_step j left)) so = absurd so
+    spent_same (ahead (plain c left)) so = absurd so
+    spent_same (ahead (sync group left)) so = absurd so
+    spent_same (ahead (collect left)) so = absurd so
+    spent_same (ahead (collecting is_out_of_memory)) so = absurd so
+    spent_same (ahead (broken refusal)) so = absurd so
+    spent_same (pull x left) so = absurd so
 
 later_sound : (first later : List Event) → has_kind 5 (entries (first ++ later)) ≡ false → has_kind 5 (entries later) ≡ false
 later_sound [] later sound = sound

@@ -3,10 +3,10 @@ use Rattle.std.proofs.Common.{◌≡◌, ◌≤◌, ◌%◌, inl, inr, ℕ, Bool
 use Rattle.std.specs.Prelude.{string_bytes, String}
 use Rattle.std.specs.declared.alloc.Global.{Global}
 use Rattle.command_line.specs.Plans.{ports_of}
-use Rattle.command_line.specs.Reading.{Said, check, generate, reading, run}
+use Rattle.command_line.specs.Reading.{IsCount, Said, check, generate, reading, run}
+use Rattle.command_line.proofs.Counted.{said_count}
 use Rattle.command_line.proofs.Sessions.{has_session}
-use Rattle.pbs_server.specs.Words.{AsksCheck, AsksMade, AsksRun, IsCount, IsMade, IsTooMany, check_limit}
-use Rattle.pbs_server.proofs.Counted.{said_count}
+use Rattle.pbs_server.specs.Words.{AsksCheck, AsksMade, AsksRun, IsMade, IsTooMany, check_limit}
 
 -- there is a session at least
 pub some_asked : (words : List (List ℕ)) (ports : ℕ) (w : Bool) → AsksRun words ports w → 1 ≤ ports

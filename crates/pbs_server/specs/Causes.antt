@@ -13,7 +13,7 @@ use Rattle.store_model.specs.declared.ending.Ending.TheVariants as endings
 use Rattle.store_model.specs.Lanes.{broken}
 use Rattle.store_history.specs.declared.act.Event.{Event}
 use Rattle.store_history.specs.History.{own}
-use Rattle.store_history.specs.LaneRun.{Position, begin, next_at}
+use Rattle.store_history.specs.LaneRun.{ahead, Position, begin, next_at}
 use Rattle.store_history.specs.SoFar.{Leads}
 use Rattle.core_state.specs.Remotes.{failed_reads}
 use Rattle.lane.specs.declared.port.LaneReport.{LaneReport}
@@ -60,7 +60,7 @@ pub record ReachesNoCommand (input : List ℕ) (events : List Event) : Type 0 wh
   pub last : Position
   pub leads : Leads (begin input) before last
   pub refusal : Refusal
-  pub next : next_at last ≡ broken refusal
+  pub next : next_at last ≡ ahead (broken refusal)
 
 -- the lane itself did not fail, and did not end by want of memory
 abbrev pub HasNotFailed : Ending → Type 0

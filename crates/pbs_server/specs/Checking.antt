@@ -1,4 +1,5 @@
 -- What a check leaves.
+use Rattle.disk_trait.specs.Effects.{OnlyReads}
 use Rattle.disk_trait.specs.declared.disk.Disk.{Ghosts}
 use Rattle.std.specs.Prelude.{◌≡◌, Bool, true, false, List, [], Option, None, is_some, Result, Ok, Err}
 use Rattle.port_traits.specs.declared.sink.Sink as sinks
@@ -9,7 +10,7 @@ use Rattle.replay.specs.Compare.{line}
 use Rattle.run_check.specs.declared.checking.Compared.{Compared}
 use Rattle.run_check.specs.declared.fault.CheckFault.{CheckFault}
 use Rattle.run_check.specs.declared.fault.CheckFault.TheVariants as faults
-use Rattle.run_check.specs.Checks.{Checks, IsOnlyRead, RemoteIsOnlyRead}
+use Rattle.run_check.specs.Checks.{Checks, RemoteIsOnlyRead}
 use Rattle.run_check.specs.Ports.{Keeps}
 use Rattle.pbs_server.specs.declared.served.Served.{Served}
 use Rattle.pbs_server.specs.Journal.{TakesText}
@@ -46,7 +47,7 @@ pub record HasChecked {D E S K J : Type 0} (d : Ghosts D) (e : Ghosts E) (source
   pub what : Result Compared CheckFault
   pub checks : Checks d e source disk remote old new what
   pub keeps : Keeps source old new
-  pub disk_is : IsOnlyRead d disk result.disk (what ≡ Err faults.DiskFault)
+  pub disk_is : OnlyReads d disk result.disk (what ≡ Err faults.DiskFault)
   pub remote_is : RemoteIsOnlyRead e remote result.remote (what ≡ Err faults.RemoteFault)
   pub line_is : TellsLine journal before after what (result.report).journal_failed
   pub status : result.status ≡ first_of (check_facts what (result.report).journal_failed)

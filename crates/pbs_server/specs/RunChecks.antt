@@ -2,6 +2,7 @@
 use Rattle.disk_trait.specs.declared.disk.Disk.{Ghosts}
 use Rattle.std.specs.Prelude.{◌≡◌, ◌≤◌, ℕ, List, [], ◌++◌, ◌+◌, map, length, Option, Some}
 use Rattle.std.specs.List.{All, range_with_len}
+use Rattle.command_line.specs.Reading.{IsCount}
 use Rattle.port_traits.specs.declared.sink.Sink as sinks
 use Rattle.port_traits.specs.declared.source.Source as sources
 use Rattle.port_traits.specs.Readings.{Readings}
@@ -20,7 +21,6 @@ use Rattle.pbs_server.specs.declared.status.Status.TheVariants as statuses
 use Rattle.pbs_server.specs.Completeness.{ReplaysEqual}
 use Rattle.pbs_server.specs.Generating.{HasGenerated, replies_of}
 use Rattle.pbs_server.specs.Headline.{HasServed}
-use Rattle.pbs_server.specs.Words.{IsCount}
 
 -- All that the sessions' sources had left, also what was not read, and what their sinks took, which had taken nothing before.
 pub record WereHeld {S K : Type 0} (source : sources.Ghosts S) (sink : sinks.Ghosts K) (old new : List (Port S K)) (inputs kept : List (List ℕ)) : Type 0 where

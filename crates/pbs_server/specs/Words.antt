@@ -1,7 +1,7 @@
 -- What the words ask for.
 use Rattle.std.specs.Prelude.{◌≡◌, ◌<◌, ◌≤◌, ◌⊎◌, ◌+◌, ◌*◌, ℕ, Bool, true, List, [], length, Option, Some, None, is_some, Result, Ok, Err, String}
 use Rattle.std.specs.declared.alloc.Global.{Global}
-use Rattle.command_line.specs.Reading.{check, generate, reading, run, texts}
+use Rattle.command_line.specs.Reading.{IsCount, check, generate, reading, run, texts}
 use Rattle.store_model.specs.Store.{lane_count}
 use Rattle.pbs_server.specs.declared.asking.Asked.{Asked}
 use Rattle.pbs_server.specs.declared.asking.Asked.TheVariants.{Check, Gen, Run}
@@ -47,10 +47,6 @@ check_limit = 1 + 2 * lane_count
 -- a run of more sessions than there are lanes, or a check of one
 abbrev pub IsTooMany : List (List ℕ) → ℕ → Type 0
 IsTooMany words ports = (IsAsked words ports × (lane_count < ports)) ⊎ (AsksCheck words ports × (check_limit < ports))
-
--- from 1 to 63
-abbrev pub IsCount : ℕ → Type 0
-IsCount n = (1 ≤ n) × (n ≤ 63)
 
 -- they have a reading, and there are as many ports as it asks for
 abbrev pub IsAnything : List (List ℕ) → ℕ → Type 0

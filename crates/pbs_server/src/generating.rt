@@ -3,7 +3,7 @@
 ghost use Rattle.std.specs.Prelude.{◌≡◌, ◌≤◌, None, IfOk};
 ghost use Rattle.pbs_server.specs.Generating as spec;
 ghost use Rattle.pbs_server.specs.Generating.{LeavesGenerated};
-ghost use Rattle.pbs_server.specs.Words.{IsCount};
+ghost use Rattle.command_line.specs.Reading.{IsCount};
 
 use crate::input::MadeInput;
 use crate::run::{not_served, run_ports};

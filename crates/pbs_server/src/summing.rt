@@ -2,10 +2,8 @@
 
 ghost use Rattle.std.specs.Prelude.{◌≡◌, false, map, IfOk, IsTrue};
 ghost use Rattle.std.specs.List.{list_all};
-ghost use Rattle.store_types.specs.Names.{IsKey};
 ghost use Rattle.core_state.specs.Named.{is_named_snapshot};
 ghost use Rattle.generator.specs.Summaries.{summary_text};
-ghost use Rattle.core_admin.specs.Listings.{files_counted, row_of as row_of_kept};
 ghost use Rattle.pbs_server.specs.Ended.{rows_of as rows_of_listed};
 ghost use Rattle.pbs_server.specs.Generating.{IsInMemory, IsJustTold, TellsEnded, TellsText, all_as_memory, in_memory as in_memory_of, memory_status, replies_of as replies_of_ports};
 ghost use Rattle.pbs_server.specs.declared.status.Status.TheVariants.{Ok as AllOk};
@@ -15,35 +13,14 @@ use crate::input::MadeInput;
 use crate::served::Served;
 use crate::status::{Status, status_of};
 use crate::telling::with_failed_journal;
-use core_state::{Kept, Listed};
+use core_admin::row_of;
+use core_state::Listed;
 use generator::summary;
 use lane::{Ending, LaneReport, Port};
 use port_traits::{MemSink, Sink, write_all_of};
 use std::alloc::{AllocError, Global};
 use store_types::Bytes;
 use wire_commands::ListRow;
-
-/// How many files are told of a snapshot: of a damaged one none.
-fn file_count(kept: &Kept) -> u8
-    ensures { result ≡ files_counted kept.now }
-{
-    if kept.unreadable.is_some() {
-        return 0;
-    }
-    kept.files.as_slice().len().min(255) as u8
-}
-
-fn row_of(alloc: Global, kept: &Kept) -> Result<ListRow, AllocError>
-    requires { IsKey kept.now.key }
-    ensures { IfOk result (λ row. row ≡ row_of_kept kept.now) }
-{
-    let snapshot = Bytes::from_vec(kept.key.print(alloc)?.into_bytes());
-    Ok(ListRow {
-        snapshot,
-        damaged: kept.unreadable.is_some(),
-        files: file_count(kept),
-    })
-}
 
 /// All snapshots, as LIST tells each.
 fn rows_of(alloc: Global, listed: &[Listed]) -> Result<Vec<ListRow>, AllocError>

@@ -115,7 +115,7 @@ frees_by_input snapshots remote order inputs keeps none =
 -- ---- where every lane ended cleanly
 
 -- what the one comes to, the other does
-AreKept : Endings → Endings → ℕ → Type 0
+pub AreKept : Endings → Endings → ℕ → Type 0
 AreKept E F k = (r after : Run) (n : Next) → ends r k (E k n) n ≡ Some after → ends r k (F k n) n ≡ Some after
 
 by_clean : (k : ℕ) → AreKept (λ j n. Clean) told_by_input k
@@ -129,7 +129,7 @@ by_clean k r after bye is = is
 by_clean k r after (broken refusal) is = is
 by_clean k r after end is = is
 
-as_clean : (lanes k : ℕ) → AreKept (known (replicate lanes Clean)) told_by_input k
+pub as_clean : (lanes k : ℕ) → AreKept (known (replicate lanes Clean)) told_by_input k
 unfolding AreKept
 as_clean lanes k r after n is =
     by_clean k r after n (sym (ap (λ ending. ends r k ending n) (always lanes k)) ∙ is)
@@ -151,7 +151,7 @@ no_fault_kept : (b : Bool) (first other x y : Option Run) (after : Run) → b �
 no_fault_kept true first other x y after none f is = cc
 no_fault_kept false first other x y after none f is = f is
 
-entered_kept : (E F : Endings) (r after : Run) (place : ℕ) (e : Entry) (later : List Entry) → AreKept E F e.lane → (e.kind == FAULT_KIND) ≡ false →
+pub entered_kept : (E F : Endings) (r after : Run) (place : ℕ) (e : Entry) (later : List Entry) → AreKept E F e.lane → (e.kind == FAULT_KIND) ≡ false →
     entered E r place e later ≡ Some after → entered F r place e later ≡ Some after
 unfolding AreKept entered
 entered_kept E F r after place e later kept no_fault =

@@ -1,8 +1,8 @@
 -- A run and its replay, event by event: each collector's report that a lane told stands where the replay has free bytes.
-use Rattle.std.proofs.Common.{◌≡◌, ◌≢◌, ◌⊎◌, inl, inr, ℕ, zero, suc, ◌+◌, ◌<◌, Bool, true, false, cond, List, [], ◌∷◌, ◌++◌, length, Option, Some, None, IfSome, Ok, Err, Result, refl, sym, ap, subst, ◌∙◌, arith, append_assoc, append-nil, length-append, ◌==◌, if◌then◌else◌, slice_set}
+use Rattle.std.proofs.Common.{◌≡◌, ◌⊎◌, inl, inr, ℕ, zero, suc, ◌+◌, ◌-◌, ◌<◌, Bool, true, false, cond, List, [], ◌∷◌, ◌++◌, length, Option, Some, None, IfSome, Ok, Err, Result, refl, sym, ap, subst, ◌∙◌, arith, append_assoc, append-nil, length-append, ◌==◌, if◌then◌else◌, slice_set}
 use Rattle.std.specs.Prelude.{replicate}
 use Rattle.std.specs.List.{cons_option}
-use Rattle.std.proofs.lemmas.Bool.{eq-eqb, eqb-true, or_parts}
+use Rattle.std.proofs.lemmas.Bool.{eqb-true, or_parts}
 use Rattle.std.proofs.lemmas.List.{get_or-set_same, get_or-set_other, length-set}
 use Rattle.store_types.specs.declared.order.Entry.{Entry}
 use Rattle.store_types.specs.declared.order.TheConstants.{COMMAND_KIND, PART_KIND, STOP_KIND, FAULT_KIND}
@@ -11,48 +11,40 @@ use Rattle.store_files.specs.Archive.{Snapshot}
 use Rattle.wire_frames.specs.Frames.{frame}
 use Rattle.wire_commands.specs.declared.reply.Reply.{Reply}
 use Rattle.wire_commands.specs.declared.reply.Reply.TheVariants.{Collected}
+use Rattle.wire_commands.specs.Inputs.{front}
 use Rattle.wire_commands.specs.ReplyText.{reply_text}
 use Rattle.store_model.specs.declared.ending.Ending.{Ending}
 use Rattle.store_model.specs.declared.ending.Ending.TheVariants.{Clean}
 use Rattle.store_model.specs.Job.{Asking, Job, over, asking, is_sync}
 use Rattle.store_model.specs.Jobs.{take as job_take}
-use Rattle.store_model.specs.Lanes.{Collecting, Run, Next, job_step, plain, sync, collect, collecting, bye, broken, end, lane_at, next_of}
-use Rattle.store_model.specs.Store.{Store, session, want_idle}
+use Rattle.store_model.specs.Lanes.{Collecting, Run, Next, job_step, plain, sync, collect, collecting, bye, broken, end, front_next, lane_at, next_of}
 use Rattle.store_model.specs.Weave.{Endings, entered, known, passed, told_by_input}
 use Rattle.store_history.specs.declared.act.Act.{Act}
-use Rattle.store_history.specs.declared.act.Answer.{Answer}
 use Rattle.store_history.specs.declared.act.Event.{Event}
 use Rattle.store_history.specs.Acts.{Class, stepping, reaching, starting, sweeping, wanting, ending, class_of}
 use Rattle.store_history.specs.History.{World, EntryKind, kind_of, step_kind, pass_kind, short_kind, start_kind, close_kind, fault_kind, end_kind, remote_kind, no_kind, open_on, entry, lane, moment, kind, reply, entries, own, after}
 use Rattle.store_history.specs.Legal.{IsLegal, IsRight, Refuses, Reports, Right, may_open}
-use Rattle.store_history.specs.LaneRun.{blank, AsksBy, Does, Position, Runs, begin, heard, heard_as, heard_by, heard_pulling, behind, lane_of, next_at, plain_text, position_after, text}
-use Rattle.store_history.specs.Pulling.{Pulling, take}
+use Rattle.store_history.specs.LaneRun.{blank, Task, steps, pulls, sweeps, Ahead, ahead, pull_ahead, ahead_by, job_in, Position, Runs, begin, lane_of, next_at, plain_text, position_after, text, IsIdle}
+use Rattle.store_history.specs.Pulling.{Pulling, comparing}
 use Rattle.store_history.specs.Remote.{IsRemote, may_read}
 use Rattle.store_history.specs.Woven.{AreLanes, ending_at}
-use Rattle.store_history.proofs.Apart.{moved_apart}
-use Rattle.store_history.proofs.Beside.{Beside, BesideBy, IsOther, asks_no_other}
+use Rattle.store_history.proofs.Beside.{pull_in}
 use Rattle.store_history.proofs.Events.{IsPlainNext, next_plain, right_close, right_fault, right_short, right_start}
-use Rattle.store_history.proofs.Keeping.{NoStart, others_keep, own_keeps, own_plain, pull_keeps, pulls_plain}
-use Rattle.store_history.proofs.Keyed.{HasKeys, moved_keyed}
-use Rattle.store_history.proofs.Opening.{turned_idle}
-use Rattle.store_history.proofs.Placed.{run_of, at, lane_is, open_at, open_is, plain_more, text_more}
+use Rattle.store_history.proofs.Keyed.{HasKeys}
+use Rattle.store_history.proofs.Placed.{run_of, at, lane_is, model_next, model_is, plain_more, text_more}
 use Rattle.store_history.proofs.Plainly.{ArePlain, IsPlainJob, IsPlainReply, KeepsPlain, says_plainly, take_plainly}
-use Rattle.store_history.proofs.Reaching.{Turns, reached}
-use Rattle.store_history.proofs.Whole.{own_here, own_other}
+use Rattle.store_history.proofs.Whole.{AllKnow, AllRun, Knows, collects_next, keyed_next, know_next, legal_own, not_same, own_here, plain_next, runs_next, told_alike, turn}
 use Rattle.plain_store.specs.declared.frees.Free.{Free}
 use Rattle.plain_store.specs.Frees.{free_behind, freed, frees_from}
 use Rattle.plain_store.specs.Runs.{own_collector, own_of}
 use Rattle.replay.specs.Compare.{is_free}
 use Rattle.replay.specs.Orders.{has_faults}
+use Rattle.replay.proofs.ByInput.{as_clean, entered_kept}
 use Rattle.replay_laws.proofs.Differing.{AreCovered, IsCovered, all_covered_more, free_here, told_text}
-use Rattle.replay_laws.proofs.Kept.{entered_kept}
 use Rattle.replay_laws.proofs.Saying.{OverIs, SaysMore, StepIs, says_more}
 
 clash : true ≡ false → ⊥
 clash h = cc
-
-none_some : {A : Type 0} (x : A) → None ≡ Some x → ⊥
-none_some x h = cc
 
 -- ---- what is answered
 
@@ -139,15 +131,9 @@ any_over : (j : Job) → OverIs IsAny j
 any_over (over r) = tt
 any_over (asking j) = tt
 
-any_step : (n : Next) → StepIs AnyJob n
-any_step (job_step j left) = tt
-any_step (plain c left) = tt
-any_step (sync group left) = tt
-any_step (collect left) = tt
-any_step (collecting is_out_of_memory) = tt
-any_step bye = tt
-any_step (broken refusal) = tt
-any_step end = tt
+any_step : (n : Ahead) → StepIs AnyJob n
+any_step (ahead (job_step j left)) = tt
+any_step n = tt
 
 any_reply : (r : Option Reply) → IfSome r IsAny
 any_reply None = tt
@@ -161,20 +147,35 @@ plain_over : (j : Job) → IsPlainJob j → OverIs IsPlainReply j
 plain_over (over r) h = h
 plain_over (asking j) h = tt
 
-plain_step : (n : Next) → IsPlainNext n → StepIs KeepsPlain n
+plain_step : (n : Next) → IsPlainNext n → StepIs KeepsPlain (ahead n)
 plain_step (job_step j left) h = h
-plain_step (plain c left) h = tt
-plain_step (sync group left) h = tt
-plain_step (collect left) h = tt
-plain_step (collecting is_out_of_memory) h = tt
-plain_step bye h = tt
-plain_step (broken refusal) h = tt
-plain_step end h = tt
+plain_step n h = tt
 
-tells_plainly : (e : Ending) (p : Position) (v : Event) → ArePlain p.job → IfSome (reply v) IsPlainReply → SaysMore IsPlainReply p.told (position_after e p v).told
+pull_step : (x : Pulling) (left : List ℕ) (n : Next) → StepIs KeepsPlain (pull_ahead x left n)
+pull_step (comparing group remote) left (sync name behind) = tt
+pull_step (comparing group remote) left n = tt
+pull_step x left n = tt
+
+-- no step of the lane's job, which is next, is to report a collector
+next_step : (p : Position) → ArePlain (job_in p.task) → StepIs KeepsPlain (next_at p)
+unfolding next_at
+next_step p kept = by_task p.task refl
+  where
+    by_idle : IsIdle p.task → StepIs KeepsPlain (ahead_by p.task (p.size - length p.left) p.left)
+    by_idle idle = subst (StepIs KeepsPlain) (sym (model_is p idle)) (plain_step (model_next p) (next_plain p kept))
+
+    by_task : (t : Option Task) → p.task ≡ t → StepIs KeepsPlain (ahead_by p.task (p.size - length p.left) p.left)
+    by_task (Some (pulls x)) is =
+        subst (λ (t : Option Task). StepIs KeepsPlain (ahead_by t (p.size - length p.left) p.left)) (sym is)
+        (pull_step x p.left (front_next (p.size - length p.left) (front p.left)))
+    by_task None is = by_idle (subst IsIdle (sym is) tt)
+    by_task (Some (steps j)) is = by_idle (subst IsIdle (sym is) tt)
+    by_task (Some (sweeps b)) is = by_idle (subst IsIdle (sym is) tt)
+
+tells_plainly : (e : Ending) (p : Position) (v : Event) → ArePlain (job_in p.task) → IfSome (reply v) IsPlainReply → SaysMore IsPlainReply p.told (position_after e p v).told
 tells_plainly e p v kept h =
     says_more IsPlainReply (λ z. refl) (λ xs. refl) refl KeepsPlain (λ j r q x. plain_over (job_take j r) (take_plainly j r q x)) e p v h
-    (plain_step (next_at p) (next_plain p kept))
+    (next_step p kept)
 
 -- ---- an entry of kind 1 leaves the run
 
@@ -248,88 +249,7 @@ own_is : (k : ℕ) (c : Option Collecting) → own_of c k ≡ open_on k c
 own_is k None = refl
 own_is k (Some c) = refl
 
--- ---- a lane beside the one that the replay has
-
-told_alike : (R : Option (List Snapshot)) (s : Store) (k : ℕ) (p q : Position) (o : Option Pulling) → BesideBy R s k p o q → q.told ≡ p.told
-told_alike R s k p q None is = ap (λ (y : Position). y.told) is
-told_alike R s k p q (Some x) (inl b) = ap (λ (y : Position). y.told) b.is
-told_alike R s k p q (Some x) (inr b) = ap (λ (y : Position). y.told) b.is
-
--- what is heard of an act that is no lane's end
-heard_other : (c : Class) (e : Ending) (p : Position) (a : Answer) → (c ≡ ending → ⊥) → heard_as c e p a ≡ heard p a
-heard_other ending e p a other = absurd (other refl)
-heard_other stepping e p a other = refl
-heard_other reaching e p a other = refl
-heard_other starting e p a other = refl
-heard_other sweeping e p a other = refl
-heard_other wanting e p a other = refl
-
-collects_alike : (R : Option (List Snapshot)) (s : Store) (k : ℕ) (p q : Position) (o : Option Pulling) → BesideBy R s k p o q → p.collecting ≡ q.collecting
-collects_alike R s k p q None is = ap (λ (y : Position). y.collecting) (sym is)
-collects_alike R s k p q (Some x) (inl b) = ap (λ (y : Position). y.collecting) (sym b.is)
-collects_alike R s k p q (Some x) (inr b) = ap (λ (y : Position). y.collecting) (sym b.is)
-
--- another lane's act leaves it so
-beside_stays : (R : Option (List Snapshot)) (s s' : Store) (k : ℕ) (p q : Position) (o : Option Pulling) → session s' k ≡ session s k → BesideBy R s k p o q → BesideBy R s' k p o q
-beside_stays R s s' k p q None same is = is
-beside_stays R s s' k p q (Some x) same (inl b) =
-    inl (record {
-      group = b.group;
-      remote = b.remote;
-      left = b.left;
-      key = b.key;
-      list = b.list;
-      state = b.state;
-      is = b.is;
-      next = b.next;
-      there = b.there;
-      named = b.named;
-      texts = b.texts;
-      idle = ap want_idle same ∙ b.idle;
-    })
-beside_stays R s s' k p q (Some x) same (inr b) = inr b
-
--- no collector of a lane is open beside its SYNC
-sync_shut : (R : Option (List Snapshot)) (s : Store) (k : ℕ) (p q : Position) (x : Pulling) → BesideBy R s k p (Some x) q → p.collecting ≡ None
-unfolding next_at
-sync_shut R s k p q x (inl b) = sym (open_is p) ∙ ap open_at b.next
-sync_shut R s k p q x (inr b) = b.shut
-
--- an act of an open SYNC
-sync_class : (p : Position) (x : Pulling) (c : Class) (e : Ending) (v : Event) (vs : List Event) → p.pull ≡ Some x → c ≡ class_of v.act → Does c e p v vs
-    → NoStart c × (c ≡ sweeping → ⊥) × (c ≡ ending → ⊥)
-sync_class p x stepping e v vs going class does = (tt, λ h. cc, λ h. cc)
-sync_class p x reaching e v vs going class does = (tt, λ h. cc, λ h. cc)
-sync_class p x wanting e v vs going class does = (tt, λ h. cc, λ h. cc)
-sync_class p x starting e v vs going class does =
-    absurd (asks_no_other x (subst IsOther (class ∙ ap class_of (subst (λ (o : Option Pulling). AsksBy o (next_at p) v.act) going does.1).0) tt))
-sync_class p x sweeping e v vs going class does =
-    absurd (asks_no_other x (subst IsOther (class ∙ ap class_of (subst (λ (o : Option Pulling). AsksBy o (next_at p) v.act) going does).0) tt))
-sync_class p x ending e v vs going class does = absurd (none_going (sym does.3 ∙ going))
-  where
-    none_going : {y : Pulling} → None ≡ Some y → ⊥
-    none_going h = cc
-
--- what a SYNC hears leaves the lane's job
-sync_plain : (p : Position) (x : Pulling) (a : Answer) → p.pull ≡ Some x → ArePlain p.job → ArePlain (heard p a).job
-unfolding heard
-sync_plain p x a going h = subst (λ (o : Option Pulling). ArePlain (heard_by o p (a.entry).kind a.reply).job) (sym going) (by_reply a.reply)
-  where
-    by_reply : (r : Option Reply) → ArePlain (heard_pulling p x r).job
-    by_reply None = h
-    by_reply (Some y) = pulls_plain p (behind p x (next_at p)) (take x y) h
-
 -- ---- the induction
-
-abbrev pub AllRun : List Ending → List Position → List Event → (ℕ → List Reply) → Type 0
-AllRun es ps h told = (k : ℕ) → k < length ps → Runs (ending_at es k) (at ps k) (own k h) (told k)
-
--- each position knows of its lane's collector, no job is to report one, and the lane that the replay has is beside it
-abbrev pub Knows : Option (List Snapshot) → World → List Position → List Position → ℕ → Type 0
-Knows R w ps qs k = ((at ps k).collecting ≡ open_on k w.collecting) × ArePlain (at ps k).job × Beside R w.store k (at ps k) (at qs k)
-
-abbrev pub AllKnow : Option (List Snapshot) → World → List Position → List Position → Type 0
-AllKnow R w ps qs = (k : ℕ) → k < length ps → Knows R w ps qs k
 
 -- the bytes that are free in the replies from here on
 abbrev pub freed_by : Option (List Snapshot) → World → List Position → List Event → List Free
@@ -356,101 +276,8 @@ module _ (R : Option (List Snapshot)) (remote : IsRemote R) (lanes : ℕ) (told 
   abbrev es : List Ending
   es = replicate lanes Clean
 
-  not_same : (j : ℕ) (v : Event) → (lane v == j) ≡ false → j ≢ lane v
-  not_same j v is h = clash (sym (eq-eqb (lane v) j (sym h)) ∙ is)
-
   abbrev next : List Position → Event → Position
   next ps v = position_after (ending_at es (lane v)) (at ps (lane v)) v
-
-  -- each lane goes on with its program
-  runs_next : (ps : List Position) (v : Event) (vs : List Event) → lane v < length ps → AllRun es ps (v ∷ vs) told
-      → Runs (ending_at es (lane v)) (next ps v) (own (lane v) vs) (told (lane v)) → AllRun es (slice_set ps (lane v) (next ps v)) vs told
-  runs_next ps v vs inside runs rest j lt = by_test (lane v == j) refl
-    where
-      by_test : (b : Bool) → (lane v == j) ≡ b → Runs (ending_at es j) (at (slice_set ps (lane v) (next ps v)) j) (own j vs) (told j)
-      by_test true is =
-          subst (λ i. Runs (ending_at es i) (at (slice_set ps (lane v) (next ps v)) i) (own i vs) (told i)) (eqb-true (lane v) j is)
-          (subst (λ x. Runs (ending_at es (lane v)) x (own (lane v) vs) (told (lane v))) (sym (get_or-set_same ps (lane v) (next ps v) (begin []) inside)) rest)
-      by_test false is =
-          subst (λ x. Runs (ending_at es j) x (own j vs) (told j)) (sym (get_or-set_other ps (lane v) j (next ps v) (begin []) (not_same j v is)))
-          (subst (λ xs. Runs (ending_at es j) (at ps j) xs (told j)) (own_other j v vs is)
-          (runs j (subst (λ n. j < n) (length-set ps (lane v) (next ps v)) lt)))
-
-  module _ (w : World) (ps qs : List Position) (v : Event) (vs : List Event) (right : IsRight R w v) (named : HasKeys w.store) (here : Knows R w ps qs (lane v))
-      (does : Does (class_of v.act) (ending_at es (lane v)) (at ps (lane v)) v (own (lane v) vs)) (sound : (kind v == FAULT_KIND) ≡ false) where
-    abbrev p : Position
-    p = at ps (lane v)
-
-    alike : p.collecting ≡ (at qs (lane v)).collecting
-    alike = collects_alike R w.store (lane v) p (at qs (lane v)) p.pull here.2
-
-    knows : (at qs (lane v)).collecting ≡ open_on (lane v) w.collecting
-    knows = sym alike ∙ here.0
-
-    no_fault : {A : Type 0} → kind v ≡ FAULT_KIND → A
-    no_fault five = absurd (clash (sym (eq-eqb (kind v) FAULT_KIND five) ∙ sound))
-
-    -- the lane's event moves the run
-    turn_by : (o : Option Pulling) → p.pull ≡ o → BesideBy R w.store (lane v) p o (at qs (lane v))
-        → Turns R w qs (lane v) (moment v) es (entries vs) knows v.act (kind v) (next ps v)
-    unfolding position_after
-    turn_by None idle same =
-        turned_idle R w qs (lane v) (moment v) es (entries vs) knows p idle same remote (class_of v.act) v (own (lane v) vs) refl refl refl does here.1 no_fault right.says
-    turn_by (Some x) going beside =
-        reached R w qs (lane v) (moment v) es (entries vs) knows p x going remote named (class_of v.act) (ending_at es (lane v)) v (own (lane v) vs) beside refl does right.says no_fault
-
-    turn : Turns R w qs (lane v) (moment v) es (entries vs) knows v.act (kind v) (next ps v)
-    turn = turn_by p.pull refl here.2
-
-    -- and its position knows of its collector again
-    collects_next : (o : Option Pulling) → p.pull ≡ o → (next ps v).collecting ≡ open_on (lane v) (after R w v).collecting
-    unfolding position_after after
-    collects_next None idle =
-        own_keeps R w (lane v) (moment v) (ending_at es (lane v)) p v.act v.answer v (own (lane v) vs) idle refl does here.0 right.says
-    collects_next (Some x) going =
-        let is = sync_class p x (class_of v.act) (ending_at es (lane v)) v (own (lane v) vs) going refl does in
-        ap (λ (y : Position). y.collecting) (heard_other (class_of v.act) (ending_at es (lane v)) p v.answer is.2)
-        ∙ pull_keeps R w (lane v) (moment v) (ending_at es (lane v)) p x v.act v.answer (class_of v.act) refl is.0 is.1 is.2 going
-        (sync_shut R w.store (lane v) p (at qs (lane v)) x (subst (λ (o : Option Pulling). BesideBy R w.store (lane v) p o (at qs (lane v))) going here.2)) here.0 right.says
-
-    plain_next : (o : Option Pulling) → p.pull ≡ o → ArePlain (next ps v).job
-    unfolding position_after
-    plain_next None idle =
-        own_plain R w (lane v) (moment v) (ending_at es (lane v)) p v.act v.answer v (own (lane v) vs) idle refl does here.1 right.says
-    plain_next (Some x) going =
-        let is = sync_class p x (class_of v.act) (ending_at es (lane v)) v (own (lane v) vs) going refl does in
-        subst (λ (y : Position). ArePlain y.job) (sym (heard_other (class_of v.act) (ending_at es (lane v)) p v.answer is.2)) (sync_plain p x v.answer going here.1)
-
-  -- each position knows of its collector again
-  know_next : (w : World) (ps qs : List Position) (v : Event) (vs : List Event) → lane v < length ps → lane v < length qs → (right : IsRight R w v) → HasKeys w.store → AllKnow R w ps qs
-      → (q' : Position) → (next ps v).collecting ≡ open_on (lane v) (after R w v).collecting → ArePlain (next ps v).job → Beside R (after R w v).store (lane v) (next ps v) q'
-      → AllKnow R (after R w v) (slice_set ps (lane v) (next ps v)) (slice_set qs (lane v) q')
-  unfolding after
-  know_next w ps qs v vs inside also right named knows q' collects plainly beside j lt = by_test (lane v == j) refl
-    where
-      here : Knows R (after R w v) (slice_set ps (lane v) (next ps v)) (slice_set qs (lane v) q') (lane v)
-      here =
-          subst (λ (x : Position). (x.collecting ≡ open_on (lane v) (after R w v).collecting) × ArePlain x.job × Beside R (after R w v).store (lane v) x (at (slice_set qs (lane v) q') (lane v)))
-          (sym (get_or-set_same ps (lane v) (next ps v) (begin []) inside))
-          (subst (λ (y : Position). ((next ps v).collecting ≡ open_on (lane v) (after R w v).collecting) × ArePlain (next ps v).job × Beside R (after R w v).store (lane v) (next ps v) y)
-          (sym (get_or-set_same qs (lane v) q' (begin []) also)) (collects, plainly, beside))
-
-      by_test : (b : Bool) → (lane v == j) ≡ b → Knows R (after R w v) (slice_set ps (lane v) (next ps v)) (slice_set qs (lane v) q') j
-      by_test true is = subst (Knows R (after R w v) (slice_set ps (lane v) (next ps v)) (slice_set qs (lane v) q')) (eqb-true (lane v) j is) here
-      by_test false is =
-          let before = knows j (subst (λ n. j < n) (length-set ps (lane v) (next ps v)) lt) in
-          subst (λ (x : Position). (x.collecting ≡ open_on j (after R w v).collecting) × ArePlain x.job × Beside R (after R w v).store j x (at (slice_set qs (lane v) q') j))
-          (sym (get_or-set_other ps (lane v) j (next ps v) (begin []) (not_same j v is)))
-          (subst (λ (y : Position). ((at ps j).collecting ≡ open_on j (after R w v).collecting) × ArePlain (at ps j).job × Beside R (after R w v).store j (at ps j) y)
-          (sym (get_or-set_other qs (lane v) j q' (begin []) (not_same j v is))) (
-            before.0 ∙ sym (others_keep R w (lane v) (moment v) j v.act (reply v) (kind_of (kind v)) (not_same j v is) right.says),
-            before.1,
-            beside_stays R w.store (after R w v).store j (at ps j) (at qs j) (at ps j).pull (moved_apart R w (lane v) (moment v) j v.act (kind_of (kind v)) (not_same j v is)) before.2,
-          ))
-
-  keyed_next : (w : World) (v : Event) → HasKeys w.store → HasKeys (after R w v).store
-  unfolding after
-  keyed_next w v named = moved_keyed R w (lane v) (moment v) v.act (kind_of (kind v)) named
 
   -- ---- what a lane tells at its event
 
@@ -461,7 +288,7 @@ module _ (R : Option (List Snapshot)) (remote : IsRemote R) (lanes : ℕ) (told 
   unfolding frees_from after
   frees_on w qs v vs q' sound enters =
       ap (λ o. elim o [ None ↦ [] | Some next ↦ cons_option (freed (run_of R w qs) (entry v)) (frees_from told_by_input next (w.events + 1) (entries vs)) ])
-      (entered_kept lanes (run_of R w qs) (run_of R (after R w v) (slice_set qs (lane v) q')) w.events (entry v) (entries vs) sound enters)
+      (entered_kept (known es) told_by_input (run_of R w qs) (run_of R (after R w v) (slice_set qs (lane v) q')) w.events (entry v) (entries vs) (as_clean lanes (lane v)) sound enters)
 
   -- a collector that closes
   closing_covered : (w : World) (qs : List Position) (v : Event) (before : List Reply) (frees : List Free) (r : Reply) → kind v ≡ 4 → open_on (lane v) w.collecting ≡ Some false → (at qs (lane v)).told ≡ before
@@ -485,7 +312,7 @@ module _ (R : Option (List Snapshot)) (remote : IsRemote R) (lanes : ℕ) (told 
     before = (at ps (lane v)).told
 
     same : (at qs (lane v)).told ≡ before
-    same = told_alike R w.store (lane v) (at ps (lane v)) (at qs (lane v)) (at ps (lane v)).pull here.2
+    same = told_alike R w.store (lane v) (at ps (lane v)) (at qs (lane v)) (pull_in (at ps (lane v)).task) here.2
 
     -- at an entry of kind 1 nothing is told
     part_tells : IsPart (kind v) → (r : Reply) → (next ps v).told ≡ before ++ r ∷ [] → ⊥
@@ -540,7 +367,7 @@ module _ (R : Option (List Snapshot)) (remote : IsRemote R) (lanes : ℕ) (told 
 
   pub tells : (h : List Event) (w : World) (ps qs : List Position) → IsLegal R w h → AreLanes (length ps) h → length qs ≡ length ps → HasKeys w.store → AllKnow R w ps qs → AllRun es ps h told → has_faults (entries h) ≡ false
       → (k : ℕ) → k < length ps → Tells (freed_by R w qs h) k (at ps k).told (told k)
-  unfolding after
+  unfolding AllKnow AllRun after
   tells [] w ps qs legal lanes count named aware runs sound k lt = record {
     rest = [];
     told_is = sym (runs k lt).1 ∙ sym (append-nil (at ps k).told);
@@ -550,15 +377,17 @@ module _ (R : Option (List Snapshot)) (remote : IsRemote R) (lanes : ℕ) (told 
       let faults = or_parts (kind v == FAULT_KIND) (has_faults (entries vs)) sound in
       let run : Runs (ending_at es (lane v)) (at ps (lane v)) (v ∷ own (lane v) vs) (told (lane v)) = subst (λ xs. Runs (ending_at es (lane v)) (at ps (lane v)) xs (told (lane v))) (own_here v vs) (runs (lane v) lanes.0) in
       let here = aware (lane v) lanes.0 in
-      let t = turn w ps qs v vs legal.0 named here run.1 faults.0 in
+      let ends = legal_own R (after R w v) (lane v) vs legal.1 in
+      let t = turn R remote es told w ps qs v vs legal.0 named here run.1 run.2 ends in
       let len : length (slice_set ps (lane v) (next ps v)) ≡ length ps = length-set ps (lane v) (next ps v) in
       let also : length (slice_set qs (lane v) t.0) ≡ length (slice_set ps (lane v) (next ps v)) = length-set qs (lane v) t.0 ∙ count ∙ sym len in
       let inside : lane v < length qs = subst (λ n. lane v < n) (sym count) lanes.0 in
-      let tells_same = told_alike R (after R w v).store (lane v) (next ps v) t.0 (next ps v).pull t.2 in
-      let behind = tells vs (after R w v) (slice_set ps (lane v) (next ps v)) (slice_set qs (lane v) t.0) legal.1 (subst (λ n. AreLanes n vs) (sym len) lanes.1) also (keyed_next w v named)
-      (know_next w ps qs v vs lanes.0 inside legal.0 named aware t.0
-      (collects_next w ps qs v vs legal.0 named here run.1 faults.0 (at ps (lane v)).pull refl) (plain_next w ps qs v vs legal.0 named here run.1 faults.0 (at ps (lane v)).pull refl) t.2)
-      (runs_next ps v vs lanes.0 runs run.2) faults.1 k (subst (λ n. k < n) (sym len) lt) in
+      let tells_same = told_alike R (after R w v).store (lane v) (next ps v) t.0 (pull_in (next ps v).task) t.2 in
+      let behind = tells vs (after R w v) (slice_set ps (lane v) (next ps v)) (slice_set qs (lane v) t.0) legal.1 (subst (λ n. AreLanes n vs) (sym len) lanes.1) also (keyed_next R remote es told w v named)
+      (know_next R remote es told w ps qs v vs lanes.0 inside legal.0 named aware t.0
+      (collects_next R remote es told w ps qs v vs legal.0 named here run.1 run.2 ends (at ps (lane v)).task refl)
+      (plain_next R remote es told w ps qs v vs legal.0 named here run.1 run.2 ends (at ps (lane v)).task refl) t.2)
+      (runs_next R remote es told ps v vs lanes.0 runs run.2) faults.1 k (subst (λ n. k < n) (sym len) lt) in
       subst (λ fs. Tells fs k (at ps k).told (told k)) (sym (frees_on w qs v vs t.0 faults.0 t.1))
       (by_lane w ps qs v vs legal.0 here t.0 t.1 inside tells_same lanes.0 k behind)
     where
@@ -583,4 +412,4 @@ module _ (R : Option (List Snapshot)) (remote : IsRemote R) (lanes : ℕ) (told 
               (subst (λ i. Tells (cons_option (freed (run_of R w qs) (entry v)) (freed_by R (after R w v) (slice_set qs (lane v) q') vs)) i (at (slice_set ps (lane v) (next ps v)) i).told (told i)) (sym k_is) more)))
           by_test false is =
               subst (λ y. Tells (cons_option (freed (run_of R w qs) (entry v)) (freed_by R (after R w v) (slice_set qs (lane v) q') vs)) k y.told (told k))
-              (get_or-set_other ps (lane v) k (next ps v) (begin []) (not_same k v is)) more
+              (get_or-set_other ps (lane v) k (next ps v) (begin []) (not_same R remote es told k v is)) more

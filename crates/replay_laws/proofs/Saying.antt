@@ -13,7 +13,7 @@ use Rattle.store_model.specs.declared.ending.Ending.{Ending}
 use Rattle.store_model.specs.declared.ending.Ending.TheVariants as endings
 use Rattle.store_model.specs.Job.{Asking, Job, over, asking}
 use Rattle.store_model.specs.Jobs.{take as job_take}
-use Rattle.store_model.specs.Lanes.{Next, job_step, plain, sync, collect, collecting, bye, broken, end}
+use Rattle.store_model.specs.Lanes.{job_step, plain, sync, collect, collecting, bye, broken, end}
 use Rattle.store_model.specs.Load.{read_manifest}
 use Rattle.store_model.specs.SizeLimits.{size_limit}
 use Rattle.store_model.specs.Weave.{is_replied}
@@ -21,7 +21,7 @@ use Rattle.store_history.specs.declared.act.Answer.{Answer}
 use Rattle.store_history.specs.declared.act.Event.{Event}
 use Rattle.store_history.specs.Acts.{Class, stepping, reaching, starting, sweeping, wanting, ending, class_of}
 use Rattle.store_history.specs.History.{reply}
-use Rattle.store_history.specs.LaneRun.{Position, next_at, tells, used_up, goes_on as job_on, pulls_on, heard_at, heard_by, heard, behind, last_words, end_faulted, end_heard, heard_as, position_after}
+use Rattle.store_history.specs.LaneRun.{Ahead, ahead, pull, sweeps, job_in, Position, next_at, tells, used_up, goes_on as job_on, pulls_on, heard_at, heard, last_words, end_faulted, end_heard, heard_as, position_after}
 use Rattle.store_history.specs.Pulling.{Pulling, seeking, comparing, starting as pull_starting, reading_manifest, reading_file, opening, reading_chunk, sending_chunk, appending, closing_index, sending_blob, sending_manifest, finishing, rejecting, aborting, Course, Stock, Index, SyncJob, reports, asks, stops, ends, rejects, rejected, goes_on, next_snapshot, finished, next_append, size_sent, blob_size, mismatched, next_chunk, is_index, index_in, index_read, blob_read, file_read, next_file, stock_of, manifest_read, sought, compared, started, manifest_part, file_part, manifest_told, file_told, chunk_read, chunk_told, take}
 
 -- it told no more, or one reply more, of which P holds
@@ -37,8 +37,8 @@ abbrev pub ReportIs : (Reply → Type 0) → SyncJob → Type 0
 ReportIs P (reports r) = P r
 ReportIs P (asks x) = Unit {0}
 
-abbrev pub StepIs : (Asking → Type 0) → Next → Type 0
-StepIs Q (job_step j left) = Q j
+abbrev pub StepIs : (Asking → Type 0) → Ahead → Type 0
+StepIs Q (ahead (job_step j left)) = Q j
 StepIs Q n = Unit {0}
 
 module _ (P : Reply → Type 0) (refused : (z : Refusal) → P (Refused z)) (keys : (xs : List (List ℕ)) → P (Keys xs)) (done : P Done)
@@ -229,71 +229,69 @@ module _ (P : Reply → Type 0) (refused : (z : Refusal) → P (Refused z)) (key
   on_pull p left (reports r) h = inr (r, refl, h)
   on_pull p left (asks x) h = inl refl
 
-  at_next : (p : Position) (n : ℕ) (r : Option Reply) (x : Next) → IfSome r P → StepIs Q x → SaysMore P p.told (heard_at p n r x).told
+  at_next : (p : Position) (n : ℕ) (r : Option Reply) (x : Ahead) → IfSome r P → StepIs Q x → SaysMore P p.told (heard_at p n r x).told
   unfolding heard_at
-  at_next p n (Some r) (job_step j left) h q = on_job p left (job_take j r) (taken j r q h)
-  at_next p n None (job_step j left) h q = inl refl
-  at_next p n (Some r) (plain c left) h q = inr (r, refl, h)
-  at_next p n None (plain c left) h q = inl refl
-  at_next p n (Some r) (sync group left) h q = by_kind (n == 1)
+  at_next p n (Some r) (ahead (job_step j left)) h q = on_job p left (job_take j r) (taken j r q h)
+  at_next p n None (ahead (job_step j left)) h q = inl refl
+  at_next p n (Some r) (ahead (plain c left)) h q = inr (r, refl, h)
+  at_next p n None (ahead (plain c left)) h q = inl refl
+  at_next p n (Some r) (ahead (sync group left)) h q = by_kind (n == 1)
     where
       by_kind : (b : Bool) → SaysMore P p.told (if b then pulls_on p p.left (sought group r) else tells p left r).told
       by_kind true = on_pull p p.left (sought group r) (by_sought group r h)
       by_kind false = inr (r, refl, h)
-  at_next p n None (sync group left) h q = inl refl
-  at_next p n (Some r) (collect left) h q = inr (r, refl, h)
-  at_next p n None (collect left) h q = by_kind (n == 3)
+  at_next p n None (ahead (sync group left)) h q = inl refl
+  at_next p n (Some r) (ahead (collect left)) h q = inr (r, refl, h)
+  at_next p n None (ahead (collect left)) h q = by_kind (n == 3)
     where
-      by_kind : (b : Bool) → SaysMore P p.told (if b then record p { left = left; collecting = Some false } else p).told
+      by_kind : (b : Bool) → SaysMore P p.told (if b then record p { left = left; task = Some (sweeps false) } else p).told
       by_kind true = inl refl
       by_kind false = inl refl
-  at_next p n (Some r) (collecting is_out_of_memory) h q = by_kind (n == 2)
+  at_next p n (Some r) (ahead (collecting is_out_of_memory)) h q = by_kind (n == 2)
     where
-      by_kind : (b : Bool) → SaysMore P p.told (if b then record p { collecting = Some true } else tells (record p { collecting = None }) p.left r).told
+      by_kind : (b : Bool) → SaysMore P p.told (if b then record p { task = Some (sweeps true) } else tells p p.left r).told
       by_kind true = inl refl
       by_kind false = inr (r, refl, h)
-  at_next p n None (collecting is_out_of_memory) h q = inl refl
-  at_next p n (Some r) (broken refusal) h q = by_kind (n == 2)
+  at_next p n None (ahead (collecting is_out_of_memory)) h q = inl refl
+  at_next p n (Some r) (ahead (broken refusal)) h q = by_kind (n == 2)
     where
       by_kind : (b : Bool) → SaysMore P p.told (if b then used_up p r else p).told
       by_kind true = inr (r, refl, h)
       by_kind false = inl refl
-  at_next p n None (broken refusal) h q = inl refl
-  at_next p n (Some r) bye h q = inl refl
-  at_next p n None bye h q = inl refl
-  at_next p n (Some r) end h q = inl refl
-  at_next p n None end h q = inl refl
-
-  by_pull : (o : Option Pulling) (p : Position) (n : ℕ) (r : Option Reply) → IfSome r P → StepIs Q (next_at p) → SaysMore P p.told (heard_by o p n r).told
-  by_pull None p n r h q = at_next p n r (next_at p) h q
-  by_pull (Some x) p n (Some r) h q = on_pull p (behind p x (next_at p)) (take x r) (pulled x r h)
-  by_pull (Some x) p n None h q = inl refl
+  at_next p n None (ahead (broken refusal)) h q = inl refl
+  at_next p n (Some r) (ahead bye) h q = inl refl
+  at_next p n None (ahead bye) h q = inl refl
+  at_next p n (Some r) (ahead end) h q = inl refl
+  at_next p n None (ahead end) h q = inl refl
+  at_next p n (Some r) (pull x left) h q = on_pull p left (take x r) (pulled x r h)
+  at_next p n None (pull x left) h q = inl refl
 
   at_answer : (p : Position) (a : Answer) → IfSome a.reply P → StepIs Q (next_at p) → SaysMore P p.told (heard p a).told
   unfolding heard
-  at_answer p a h q = by_pull p.pull p (a.entry).kind a.reply h q
+  at_answer p a h q = at_next p (a.entry).kind a.reply (next_at p) h q
 
-  at_last : (e : Ending) (p : Position) (x : Next) → SaysMore P p.told (last_words e p x).told
+  at_last : (e : Ending) (p : Position) (x : Ahead) → SaysMore P p.told (last_words e p x).told
   unfolding last_words
-  at_last e p bye = by_test (is_replied e)
+  at_last e p (ahead bye) = by_test (is_replied e)
     where
       by_test : (b : Bool) → SaysMore P p.told (if b then tells p [] Done else p).told
       by_test true = inr (Done, refl, done)
       by_test false = inl refl
-  at_last e p (broken z) = by_test (is_replied e)
+  at_last e p (ahead (broken z)) = by_test (is_replied e)
     where
       by_test : (b : Bool) → SaysMore P p.told (if b then tells p [] (Refused z) else p).told
       by_test true = inr (Refused z, refl, refused z)
       by_test false = inl refl
-  at_last e p (job_step j left) = inl refl
-  at_last e p (plain c left) = inl refl
-  at_last e p (sync group left) = inl refl
-  at_last e p (collect left) = inl refl
-  at_last e p (collecting is_out_of_memory) = inl refl
-  at_last e p end = inl refl
+  at_last e p (ahead (job_step j left)) = inl refl
+  at_last e p (ahead (plain c left)) = inl refl
+  at_last e p (ahead (sync group left)) = inl refl
+  at_last e p (ahead (collect left)) = inl refl
+  at_last e p (ahead (collecting is_out_of_memory)) = inl refl
+  at_last e p (ahead end) = inl refl
+  at_last e p (pull x left) = inl refl
 
   at_fault : (e : Ending) (p : Position) (r : Option Reply) → IfSome r P → StepIs Q (next_at p) → SaysMore P p.told (end_faulted e p r).told
-  at_fault endings.NoMemory p r h q = by_test (is_none p.job)
+  at_fault endings.NoMemory p r h q = by_test (is_none (job_in p.task))
     where
       by_test : (b : Bool) → SaysMore P p.told (if b then p else heard_at p 5 r (next_at p)).told
       by_test true = inl refl

@@ -12,85 +12,78 @@ use Rattle.store_history.specs.declared.act.Answer.{Answer}
 use Rattle.store_history.specs.declared.act.Event.{Event}
 use Rattle.store_history.specs.Acts.{Class, stepping, reaching, starting, sweeping, wanting, ending, class_of}
 use Rattle.store_history.specs.History.{entry, entries, kind}
-use Rattle.store_history.specs.LaneRun.{Position, begin, next_at, tells, goes_on, pulls_on, heard_at, heard_pulling, heard_by, heard, wants, behind, position_after, heard_as, LaneRan, Runs, Does, EndsSo}
-use Rattle.store_history.specs.Pulling.{Pulling, SyncJob, reports, asks, sought, take as pull_take}
+use Rattle.store_history.specs.LaneRun.{Task, sweeps, Ahead, ahead, pull, Position, begin, next_at, tells, goes_on, pulls_on, heard_at, heard, wants, heard_as, position_after, LaneRan, Runs, Does, EndsSo}
+use Rattle.store_history.specs.Pulling.{SyncJob, reports, asks, sought, take as pull_take}
 use Rattle.seat_history.specs.Lanes.{LastsAreWants}
 
-abbrev is_cut : Option Bool → Bool
-is_cut None = false
-is_cut (Some b) = b
+abbrev is_cut : Option Task → Bool
+is_cut (Some (sweeps b)) = b
+is_cut t = false
 
 record Quiet (p : Position) : Type 0 where
   pub spent : p.is_spent ≡ false
-  pub whole : is_cut p.collecting ≡ false
+  pub whole : is_cut p.task ≡ false
   pub on : p.is_over ≡ false
 
 tells_quiet : (p : Position) (left : List ℕ) (r : Reply) → Quiet p → Quiet (tells p left r)
-tells_quiet p left r q = record { spent = q.spent; whole = q.whole; on = q.on }
+tells_quiet p left r q = record { spent = q.spent; whole = refl; on = q.on }
 
 goes_quiet : (p : Position) (left : List ℕ) (job : Job) → Quiet p → Quiet (goes_on p left job)
 unfolding goes_on
 goes_quiet p left (over report) q = tells_quiet p left report q
-goes_quiet p left (asking j) q = record { spent = q.spent; whole = q.whole; on = q.on }
+goes_quiet p left (asking j) q = record { spent = q.spent; whole = refl; on = q.on }
 
 pulls_quiet : (p : Position) (left : List ℕ) (job : SyncJob) → Quiet p → Quiet (pulls_on p left job)
 unfolding pulls_on
 pulls_quiet p left (reports report) q = tells_quiet p left report q
-pulls_quiet p left (asks x) q = record { spent = q.spent; whole = q.whole; on = q.on }
+pulls_quiet p left (asks x) q = record { spent = q.spent; whole = refl; on = q.on }
 
-at_quiet : (p : Position) (n : ℕ) (r : Option Reply) (next : Next) → (n == MEMORY_KIND) ≡ false → Quiet p → Quiet (heard_at p n r next)
+at_quiet : (p : Position) (n : ℕ) (r : Option Reply) (next : Ahead) → (n == MEMORY_KIND) ≡ false → Quiet p → Quiet (heard_at p n r next)
 unfolding heard_at
-at_quiet p n (Some r) (job_step j left) other q = goes_quiet p left (job_take j r) q
-at_quiet p n (Some r) (plain c left) other q = tells_quiet p left r q
-at_quiet p n (Some r) (sync group left) other q = by_test (n == PART_KIND)
+at_quiet p n (Some r) (ahead (job_step j left)) other q = goes_quiet p left (job_take j r) q
+at_quiet p n (Some r) (ahead (plain c left)) other q = tells_quiet p left r q
+at_quiet p n (Some r) (ahead (sync group left)) other q = by_test (n == PART_KIND)
   where
     by_test : (b : Bool) → Quiet (if b then pulls_on p p.left (sought group r) else tells p left r)
     by_test true = pulls_quiet p p.left (sought group r) q
     by_test false = tells_quiet p left r q
-at_quiet p n (Some r) (collect left) other q = tells_quiet p left r q
-at_quiet p n None (collect left) other q = by_test (n == START_KIND)
+at_quiet p n (Some r) (ahead (collect left)) other q = tells_quiet p left r q
+at_quiet p n None (ahead (collect left)) other q = by_test (n == START_KIND)
   where
-    by_test : (b : Bool) → Quiet (if b then record p { left = left; collecting = Some false } else p)
+    by_test : (b : Bool) → Quiet (if b then record p { left = left; task = Some (sweeps false) } else p)
     by_test true = record { spent = q.spent; whole = refl; on = q.on }
     by_test false = q
-at_quiet p n (Some r) (collecting is_out_of_memory) other q =
-    subst (λ b. Quiet (if b then record p { collecting = Some true } else tells (record p { collecting = None }) p.left r)) (sym other)
+at_quiet p n (Some r) (ahead (collecting is_out_of_memory)) other q =
+    subst (λ b. Quiet (if b then record p { task = Some (sweeps true) } else tells p p.left r)) (sym other)
     (record { spent = q.spent; whole = refl; on = q.on })
-at_quiet p n (Some r) (broken refusal) other q =
+at_quiet p n (Some r) (ahead (broken refusal)) other q =
     subst (λ b. Quiet (if b then record (tells p [] r) { is_spent = true } else p)) (sym other) q
-at_quiet p n (Some r) bye other q = q
-at_quiet p n (Some r) end other q = q
-at_quiet p n None (job_step j left) other q = q
-at_quiet p n None (plain c left) other q = q
-at_quiet p n None (sync group left) other q = q
-at_quiet p n None (collecting is_out_of_memory) other q = q
-at_quiet p n None (broken refusal) other q = q
-at_quiet p n None bye other q = q
-at_quiet p n None end other q = q
-
-pulling_quiet : (p : Position) (x : Pulling) (r : Option Reply) → Quiet p → Quiet (heard_pulling p x r)
-pulling_quiet p x (Some r) q = pulls_quiet p (behind p x (next_at p)) (pull_take x r) q
-pulling_quiet p x None q = q
-
-by_quiet : (o : Option Pulling) (p : Position) (n : ℕ) (r : Option Reply) → (n == MEMORY_KIND) ≡ false → Quiet p → Quiet (heard_by o p n r)
-by_quiet None p n r other q = at_quiet p n r (next_at p) other q
-by_quiet (Some x) p n r other q = pulling_quiet p x r q
+at_quiet p n (Some r) (ahead bye) other q = q
+at_quiet p n (Some r) (ahead end) other q = q
+at_quiet p n None (ahead (job_step j left)) other q = q
+at_quiet p n None (ahead (plain c left)) other q = q
+at_quiet p n None (ahead (sync group left)) other q = q
+at_quiet p n None (ahead (collecting is_out_of_memory)) other q = q
+at_quiet p n (Some r) (pull x left) other q = pulls_quiet p left (pull_take x r) q
+at_quiet p n None (pull x left) other q = q
+at_quiet p n None (ahead (broken refusal)) other q = q
+at_quiet p n None (ahead bye) other q = q
+at_quiet p n None (ahead end) other q = q
 
 -- no want of memory so far
 record Calm (p : Position) : Type 0 where
   pub short : p.is_out_of_memory ≡ false
   pub quiet : Quiet p
 
-none_wants : (n : ℕ) (o : Option Bool) → (n == MEMORY_KIND) ≡ false → is_cut o ≡ false → wants n o ≡ false
-none_wants n None other whole = other
-none_wants n (Some true) other whole = whole
-none_wants n (Some false) other whole = other
+none_wants : (n : ℕ) (t : Option Task) → (n == MEMORY_KIND) ≡ false → is_cut t ≡ false → wants n t ≡ false
+none_wants n (Some (sweeps true)) other whole = whole
+none_wants n t other whole = other
 
 heard_calm : (p : Position) (a : Answer) → ((a.entry).kind == MEMORY_KIND) ≡ false → a.last ≡ false → Calm p → Calm (heard p a)
 unfolding heard
-heard_calm p a other none c = let q = by_quiet p.pull p (a.entry).kind a.reply other c.quiet in record {
-  short = none_wants (a.entry).kind p.collecting other (c.quiet).whole;
-  quiet = record { spent = ap (λ b. b || (heard_by p.pull p (a.entry).kind a.reply).is_spent) none ∙ q.spent; whole = q.whole; on = q.on };
+heard_calm p a other none c = let q = at_quiet p (a.entry).kind a.reply (next_at p) other c.quiet in record {
+  short = none_wants (a.entry).kind p.task other (c.quiet).whole;
+  quiet = record { spent = ap (λ b. b || (heard_at p (a.entry).kind a.reply (next_at p)).is_spent) none ∙ q.spent; whole = q.whole; on = q.on };
 }
 
 true_false : true ≡ false → ⊥

@@ -20,7 +20,7 @@ use Rattle.store_model.specs.Store.{Store, session, want_idle, in_group, keys_in
 use Rattle.store_model.specs.SyncJob.{is_later as job_later, next_command, next_snapshot, new_index}
 use Rattle.store_model.specs.AdminSteps.{group_texts}
 use Rattle.store_history.specs.Acts.{Class, stepping, reaching, class_of, act_of_command}
-use Rattle.store_history.specs.LaneRun.{Position, next_at, goes_on, pulls_on, is_stopping}
+use Rattle.store_history.specs.LaneRun.{Task, steps, pulls, ahead, Position, next_at, goes_on, pulls_on, is_stopping}
 use Rattle.store_history.specs.Pulling.{Pulling, seeking, comparing, starting as pull_starting, reading_manifest, reading_file, opening, reading_chunk, sending_chunk, appending, closing_index, sending_blob, sending_manifest, finishing, rejecting, aborting, SyncJob, reports, asks, act_of, is_after, is_ending, is_key, is_later, newest_in, time_of}
 use Rattle.store_history.proofs.Events.{command_class}
 use Rattle.store_history.proofs.Meaning.{Sends, Shows, ShowsJob, texts_of}
@@ -29,11 +29,20 @@ use Rattle.store_history.proofs.Plainly.{KeepsPlain}
 -- ---- the two positions
 
 -- as `weave` has it where the SYNC's command is next, and where its job is open
+abbrev pub no_pull : Option Task → Option Task
+no_pull (Some (pulls x)) = None
+no_pull t = t
+
 abbrev pub bare : Position → Position
-bare p = record p { pull = None }
+bare p = record p { task = no_pull p.task }
+
+-- the SYNC that is open
+abbrev pub pull_in : Option Task → Option Pulling
+pull_in (Some (pulls x)) = Some x
+pull_in t = None
 
 abbrev pub shown : Position → Asking → Position
-shown p j = record p { job = Some j; pull = None }
+shown p j = record p { task = Some (steps j) }
 
 -- The SYNC's group is next: its command is, and this is what the remote has of it.
 pub record Waits (R : Option (List Snapshot)) (s : Store) (k : ℕ) (p : Position) (x : Pulling) (q : Position) : Type 0 where
@@ -44,7 +53,7 @@ pub record Waits (R : Option (List Snapshot)) (s : Store) (k : ℕ) (p : Positio
   pub list : List Snapshot
   pub state : x ≡ comparing group remote
   pub is : q ≡ bare p
-  pub next : next_at p ≡ sync group left
+  pub next : next_at (bare p) ≡ ahead (sync group left)
   pub there : R ≡ Some list
   pub named : group_of group ≡ Some key
   pub texts : remote ≡ texts_of (in_group key list)
@@ -56,7 +65,6 @@ pub record Pulls (R : Option (List Snapshot)) (p : Position) (x : Pulling) (q : 
   pub job : Asking
   pub there : R ≡ Some list
   pub is : q ≡ shown p job
-  pub shut : p.collecting ≡ None
   pub shows : Shows list x job
 
 abbrev pub BesideBy : Option (List Snapshot) → Store → ℕ → Position → Option Pulling → Position → Type 0
@@ -64,7 +72,7 @@ BesideBy R s k p None q = q ≡ p
 BesideBy R s k p (Some x) q = Waits R s k p x q ⊎ Pulls R p x q
 
 abbrev pub Beside : Option (List Snapshot) → Store → ℕ → Position → Position → Type 0
-Beside R s k p q = BesideBy R s k p p.pull q
+Beside R s k p q = BesideBy R s k p (pull_in p.task) q
 
 -- ---- what its job is
 
@@ -170,18 +178,17 @@ asks_no_other (finishing c) h = h
 
 -- the position that `weave` has goes on with the lane's own
 pub besides : (R : Option (List Snapshot)) (s : Store) (k : ℕ) (L : List Snapshot) (p : Position) (j : Asking) (next : SyncJob) (job : Job) (left : List ℕ) (is_out_of_memory is_spent : Bool)
-    → R ≡ Some L → p.collecting ≡ None → ShowsJob L next job
+    → R ≡ Some L → ShowsJob L next job
     → Beside R s k (record (pulls_on p left next) { is_out_of_memory = is_out_of_memory; is_spent = is_spent }) (record (goes_on (shown p j) left job) { is_out_of_memory = is_out_of_memory; is_spent = is_spent })
 unfolding pulls_on goes_on
-besides R s k L p j (reports r) job left is_out_of_memory is_spent there shut h =
+besides R s k L p j (reports r) job left is_out_of_memory is_spent there h =
     ap (λ (y : Job). record (goes_on (shown p j) left y) { is_out_of_memory = is_out_of_memory; is_spent = is_spent }) h
-besides R s k L p j (asks x) job left is_out_of_memory is_spent there shut h =
+besides R s k L p j (asks x) job left is_out_of_memory is_spent there h =
     inr (record {
       list = L;
       job = h.0;
       there = there;
       is = ap (λ (y : Job). record (goes_on (shown p j) left y) { is_out_of_memory = is_out_of_memory; is_spent = is_spent }) h.1;
-      shut = shut;
       shows = h.2;
     })
 

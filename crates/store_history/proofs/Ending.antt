@@ -17,35 +17,36 @@ use Rattle.store_model.specs.declared.ending.Ending.{Ending}
 use Rattle.store_model.specs.declared.ending.Ending.TheVariants as endings
 use Rattle.store_model.specs.Job.{Asking, Job, over, asking}
 use Rattle.store_model.specs.Jobs.{job_of, take as job_take}
-use Rattle.store_model.specs.Lanes.{Next, job_step, plain, sync, collect, collecting, bye, broken, end, lane_next, front_next, command_next}
+use Rattle.store_model.specs.Lanes.{Next, job_step, plain, sync, collect, collecting, bye, broken, end, front_next, command_next}
 use Rattle.store_history.specs.declared.act.Act.TheVariants as acts
 use Rattle.store_history.specs.declared.act.Answer.{Answer}
 use Rattle.store_history.specs.declared.act.Event.{Event}
 use Rattle.store_history.specs.Acts.{IsPlain, IsChecked, IsWellFormed, check_blob, act_of_command, class_of}
 use Rattle.store_history.specs.History.{kind, reply}
-use Rattle.store_history.specs.LaneRun.{Position, lane_of, next_at, goes_on, wants, heard_at, heard, heard_as, last_words, end_faulted, end_heard, position_after, Asks, may_want, EndsSo, Does, Runs}
+use Rattle.store_history.specs.LaneRun.{Task, steps, pulls, sweeps, Ahead, ahead, pull, ahead_by, job_in, Position, next_at, tells, goes_on, wants, heard_at, heard, heard_as, last_words, end_faulted, end_heard, position_after, Asks, may_want, IsShut, EndsSo, Does, Runs}
 use Rattle.store_history.specs.SoFar.{goes_further, Follows, Leads}
 use Rattle.store_history.proofs.Checking.{is_checked_chunk}
 use Rattle.store_history.proofs.Events.{command_class}
 use Rattle.store_history.proofs.Growing.{leads_more, heard_at_over}
-use Rattle.store_history.proofs.Idling.{heard_idle, asks_idle, further_idle}
-use Rattle.store_history.proofs.Keeping.{fault_shut}
-use Rattle.store_history.proofs.Placed.{open_at, open_is}
-use Rattle.store_history.proofs.Wanting.{steps_on, wants_frame}
+use Rattle.store_history.proofs.Placed.{sweep_in, open_at, open_is}
+use Rattle.store_history.proofs.Wanting.{may_on, wants_frame}
 
 -- ---- what is next
 
 -- where what is next is no act of a collector, the lane's is not open
-pub next_shut : (p : Position) (x : Next) → next_at p ≡ x → open_at x ≡ None → p.collecting ≡ None
-next_shut p x is shut = sym (open_is p) ∙ ap open_at is ∙ shut
+pub wants_shut : (p : Position) (x : Ahead) (n : ℕ) → next_at p ≡ x → open_at x ≡ None → wants n p.task ≡ (n == MEMORY_KIND)
+wants_shut p x n is shut = by_task p.task (sym (open_is p) ∙ ap open_at is ∙ shut)
+  where
+    by_task : (t : Option Task) → sweep_in t ≡ None → wants n t ≡ (n == MEMORY_KIND)
+    by_task None none = refl
+    by_task (Some (steps j)) none = refl
+    by_task (Some (pulls y)) none = refl
+    by_task (Some (sweeps b)) none = cc
 
--- where neither a collector nor a job is open
-pub next_is : (p : Position) (f : InputFront) → p.collecting ≡ None → p.job ≡ None → front p.left ≡ f → next_at p ≡ front_next (p.size - length p.left) f
-unfolding next_at lane_next
-next_is p f shut off is =
-    ap (λ (o : Option Bool). elim o [ None ↦ lane_next (lane_of p) | Some is_out_of_memory ↦ collecting is_out_of_memory ]) shut
-    ∙ ap (λ (o : Option Asking). elim o [ None ↦ front_next (p.size - length p.left) (front p.left) | Some j ↦ job_step j p.left ]) off
-    ∙ ap (λ x. front_next (p.size - length p.left) x) is
+-- where nothing is open
+pub next_is : (p : Position) (f : InputFront) → p.task ≡ None → front p.left ≡ f → next_at p ≡ ahead (front_next (p.size - length p.left) f)
+unfolding next_at
+next_is p f off is = ap (λ (t : Option Task). ahead_by t (p.size - length p.left) p.left) off ∙ ap (λ x. ahead (front_next (p.size - length p.left) x)) is
 
 -- a command that is neither a job's nor the collector's, other than BYE
 abbrev pub IsCommand : Command → Type 0
@@ -65,9 +66,9 @@ command_is commands.Gc left h = absurd h
 command_is commands.Bye left h = absurd h
 command_is c left h = refl
 
-pub next_command : (p : Position) (c : Command) (left : List ℕ) → p.collecting ≡ None → p.job ≡ None → front p.left ≡ next c left → IsCommand c → next_at p ≡ plain c left
+pub next_command : (p : Position) (c : Command) (left : List ℕ) → p.task ≡ None → front p.left ≡ next c left → IsCommand c → next_at p ≡ ahead (plain c left)
 unfolding front_next
-next_command p c left shut off is h = next_is p (next c left) shut off is ∙ command_is c left h
+next_command p c left off is h = next_is p (next c left) off is ∙ ap ahead (command_is c left h)
 
 -- a job's command
 job_is : (c : Command) (j : Asking) (left : List ℕ) → job_of c ≡ Some j → command_next c left ≡ job_step j left
@@ -76,22 +77,10 @@ job_is (commands.Prune group keep dry) j left some = ap (λ (o : Option Asking).
 job_is (commands.Verify snapshot) j left some = ap (λ (o : Option Asking). elim o [ None ↦ plain (commands.Verify snapshot) left | Some i ↦ job_step i left ]) some
 job_is c j left some = cc
 
-pub next_job : (p : Position) (c : Command) (j : Asking) (left : List ℕ) → p.collecting ≡ None → p.job ≡ None → front p.left ≡ next c left → job_of c ≡ Some j
-    → next_at p ≡ job_step j left
+pub next_job : (p : Position) (c : Command) (j : Asking) (left : List ℕ) → p.task ≡ None → front p.left ≡ next c left → job_of c ≡ Some j
+    → next_at p ≡ ahead (job_step j left)
 unfolding front_next
-next_job p c j left shut off is some = next_is p (next c left) shut off is ∙ job_is c j left some
-
--- an open job's step
-pub next_open : (p : Position) (j : Asking) → p.collecting ≡ None → p.job ≡ Some j → next_at p ≡ job_step j p.left
-unfolding next_at lane_next
-next_open p j shut is =
-    ap (λ (o : Option Bool). elim o [ None ↦ lane_next (lane_of p) | Some is_out_of_memory ↦ collecting is_out_of_memory ]) shut
-    ∙ ap (λ (o : Option Asking). elim o [ None ↦ front_next (p.size - length p.left) (front p.left) | Some i ↦ job_step i p.left ]) is
-
--- an open collector's act
-pub next_collecting : (p : Position) (b : Bool) → p.collecting ≡ Some b → next_at p ≡ collecting b
-unfolding next_at
-next_collecting p b is = ap (λ (o : Option Bool). elim o [ None ↦ lane_next (lane_of p) | Some is_out_of_memory ↦ collecting is_out_of_memory ]) is
+next_job p c j left off is some = next_is p (next c left) off is ∙ ap ahead (job_is c j left some)
 
 pub plain_command : (c : Command) → IsPlain c → IsCommand c
 plain_command (commands.Chunk digest blob) h = absurd h
@@ -103,33 +92,33 @@ plain_command commands.Gc h = absurd h
 plain_command commands.Bye h = absurd h
 plain_command c h = tt
 
-pub next_plain : (p : Position) (c : Command) (left : List ℕ) → p.collecting ≡ None → p.job ≡ None → front p.left ≡ next c left → IsPlain c → next_at p ≡ plain c left
-next_plain p c left shut off is h = next_command p c left shut off is (plain_command c h)
+pub next_plain : (p : Position) (c : Command) (left : List ℕ) → p.task ≡ None → front p.left ≡ next c left → IsPlain c → next_at p ≡ ahead (plain c left)
+next_plain p c left off is h = next_command p c left off is (plain_command c h)
 
-pub next_bye : (p : Position) (left : List ℕ) → p.collecting ≡ None → p.job ≡ None → front p.left ≡ next commands.Bye left → next_at p ≡ bye
+pub next_bye : (p : Position) (left : List ℕ) → p.task ≡ None → front p.left ≡ next commands.Bye left → next_at p ≡ ahead bye
 unfolding front_next command_next
-next_bye p left shut off is = next_is p (next commands.Bye left) shut off is
+next_bye p left off is = next_is p (next commands.Bye left) off is
 
-pub next_end : (p : Position) → p.collecting ≡ None → p.job ≡ None → p.left ≡ [] → next_at p ≡ end
+pub next_end : (p : Position) → p.task ≡ None → p.left ≡ [] → next_at p ≡ ahead end
 unfolding front_next front
-next_end p shut off is = next_is p nothing shut off (ap front is)
+next_end p off is = next_is p nothing off (ap front is)
 
-pub next_no_command : (p : Position) → p.collecting ≡ None → p.job ≡ None → front p.left ≡ no_command → next_at p ≡ broken (BadFrame (p.size - length p.left))
+pub next_no_command : (p : Position) → p.task ≡ None → front p.left ≡ no_command → next_at p ≡ ahead (broken (BadFrame (p.size - length p.left)))
 unfolding front_next
-next_no_command p shut off is = next_is p no_command shut off is
+next_no_command p off is = next_is p no_command off is
 
-pub next_too_long : (p : Position) (n : ℕ) → p.collecting ≡ None → p.job ≡ None → front p.left ≡ over_limit n → next_at p ≡ broken (TooLong n)
+pub next_too_long : (p : Position) (n : ℕ) → p.task ≡ None → front p.left ≡ over_limit n → next_at p ≡ ahead (broken (TooLong n))
 unfolding front_next
-next_too_long p n shut off is = next_is p (over_limit n) shut off is
+next_too_long p n off is = next_is p (over_limit n) off is
 
 -- where no job is open and a part of a frame is left, or nothing, no command is next
-pub part_next : (p : Position) → p.collecting ≡ None → p.job ≡ None → cut p.left ≡ short → goes_further (next_at p) ≡ false
+pub part_next : (p : Position) → p.task ≡ None → cut p.left ≡ short → goes_further (next_at p) ≡ false
 unfolding front front_next
-part_next p shut off is = ap goes_further (next_is p (front p.left) shut off refl) ∙ by_left p.left is
+part_next p off is = ap goes_further (next_is p (front p.left) off refl) ∙ by_left p.left is
   where
-    by_left : (left : List ℕ) → cut left ≡ short → goes_further (front_next (p.size - length p.left) (front left)) ≡ false
+    by_left : (left : List ℕ) → cut left ≡ short → goes_further (ahead (front_next (p.size - length p.left) (front left))) ≡ false
     by_left [] h = refl
-    by_left (b ∷ bytes) h = ap (λ c. goes_further (front_next (p.size - length p.left) (cut_front c))) h
+    by_left (b ∷ bytes) h = ap (λ c. goes_further (ahead (front_next (p.size - length p.left) (cut_front c)))) h
 
 -- ---- the acts of commands
 
@@ -163,173 +152,136 @@ is_formed c h = tt
 
 -- ---- one more command
 
-pub heard_plain : (p : Position) (c : Command) (left : List ℕ) (a : Answer) (r : Reply) → p.pull ≡ None → next_at p ≡ plain c left → a.reply ≡ Some r
-    → heard p a ≡ record p { left = left; job = None; pull = None; is_out_of_memory = (a.entry).kind == MEMORY_KIND; is_spent = a.last || p.is_spent; told = p.told ++ r ∷ [] }
-unfolding heard_at
-heard_plain p c left a r idle is says =
-    let flag : Option Bool → Position → Position = λ o q. record q { is_out_of_memory = wants (a.entry).kind o; is_spent = a.last || q.is_spent } in
-    heard_idle p a idle
-    ∙ ap (λ x. flag p.collecting (heard_at p (a.entry).kind a.reply x)) is
-    ∙ ap (λ (x : Option Reply). flag p.collecting (heard_at p (a.entry).kind x (plain c left))) says
-    ∙ ap (λ (o : Option Bool). flag o (heard_at p (a.entry).kind (Some r) (plain c left))) (next_shut p (plain c left) is refl)
+pub heard_plain : (p : Position) (c : Command) (left : List ℕ) (a : Answer) (r : Reply) → next_at p ≡ ahead (plain c left) → a.reply ≡ Some r
+    → heard p a ≡ record p { left = left; task = None; is_out_of_memory = (a.entry).kind == MEMORY_KIND; is_spent = a.last || p.is_spent; told = p.told ++ r ∷ [] }
+unfolding heard heard_at
+heard_plain p c left a r is says =
+    let flag : Bool → Position → Position = λ b q. record q { is_out_of_memory = b; is_spent = a.last || q.is_spent } in
+    ap (λ x. flag (wants (a.entry).kind p.task) (heard_at p (a.entry).kind a.reply x)) is
+    ∙ ap (λ (x : Option Reply). flag (wants (a.entry).kind p.task) (heard_at p (a.entry).kind x (ahead (plain c left)))) says
+    ∙ ap (λ b. flag b (tells p left r)) (wants_shut p (ahead (plain c left)) (a.entry).kind is refl)
 
 -- what is no command is used up
-pub heard_broken : (p : Position) (refusal : Refusal) (a : Answer) (r : Reply) → p.pull ≡ None → next_at p ≡ broken refusal → a.reply ≡ Some r → (a.entry).kind ≡ MEMORY_KIND
-    → heard p a ≡ record p { left = []; job = None; pull = None; is_out_of_memory = true; is_spent = true; told = p.told ++ r ∷ [] }
-unfolding heard_at
-heard_broken p refusal a r idle is says two =
-    let flag : Option Bool → ℕ → Position → Position = λ o n q. record q { is_out_of_memory = wants n o; is_spent = a.last || q.is_spent } in
-    heard_idle p a idle
-    ∙ ap (λ x. flag p.collecting (a.entry).kind (heard_at p (a.entry).kind a.reply x)) is
-    ∙ ap (λ (x : Option Reply). flag p.collecting (a.entry).kind (heard_at p (a.entry).kind x (broken refusal))) says
-    ∙ ap (λ (o : Option Bool). flag o (a.entry).kind (heard_at p (a.entry).kind (Some r) (broken refusal))) (next_shut p (broken refusal) is refl)
-    ∙ ap (λ n. flag None n (heard_at p n (Some r) (broken refusal))) two
-    ∙ ap (λ b. record p { left = []; job = None; pull = None; is_out_of_memory = true; is_spent = b; told = p.told ++ r ∷ [] }) (or_true a.last)
+pub heard_broken : (p : Position) (refusal : Refusal) (a : Answer) (r : Reply) → next_at p ≡ ahead (broken refusal) → a.reply ≡ Some r → (a.entry).kind ≡ MEMORY_KIND
+    → heard p a ≡ record p { left = []; task = None; is_out_of_memory = true; is_spent = true; told = p.told ++ r ∷ [] }
+unfolding heard heard_at
+heard_broken p refusal a r is says two =
+    let flag : Bool → Position → Position = λ b q. record q { is_out_of_memory = b; is_spent = a.last || q.is_spent } in
+    ap (λ x. flag (wants (a.entry).kind p.task) (heard_at p (a.entry).kind a.reply x)) is
+    ∙ ap (λ (x : Option Reply). flag (wants (a.entry).kind p.task) (heard_at p (a.entry).kind x (ahead (broken refusal)))) says
+    ∙ ap (λ b. flag b (heard_at p (a.entry).kind (Some r) (ahead (broken refusal)))) (wants_shut p (ahead (broken refusal)) (a.entry).kind is refl)
+    ∙ ap (λ n. flag (n == MEMORY_KIND) (heard_at p n (Some r) (ahead (broken refusal)))) two
+    ∙ ap (λ b. record p { left = []; task = None; is_out_of_memory = true; is_spent = b; told = p.told ++ r ∷ [] }) (or_true a.last)
   where
     or_true : (b : Bool) → (b || true) ≡ true
     or_true true = refl
     or_true false = refl
 
-pub follows_command : (p : Position) (c : Command) (left : List ℕ) (v : Event) → p.pull ≡ None → p.is_spent ≡ false → next_at p ≡ plain c left → v.act ≡ act_of_command c
+pub follows_command : (p : Position) (c : Command) (left : List ℕ) (v : Event) → p.is_spent ≡ false → next_at p ≡ ahead (plain c left) → v.act ≡ act_of_command c
     → Follows (class_of v.act) p v
-follows_command p c left v idle on is asks =
-    subst (λ x. Follows x p v) (sym (ap class_of asks ∙ command_class c)) (steps_on p on, asks_idle p (next_at p) v.act idle (subst (λ x. Asks x v.act) (sym is) asks))
-
-pub follows_short : (p : Position) (c : Command) (left : List ℕ) (v : Event) → p.pull ≡ None → p.is_spent ≡ false → p.job ≡ None → next_at p ≡ plain c left → may_want p.left ≡ true → v.act ≡ acts.Short
-    → Follows (class_of v.act) p v
-follows_short p c left v idle on off is may asks =
-    subst (λ x. Follows x p v) (sym (ap class_of asks))
-    (on, wants_frame p idle (next_shut p (plain c left) is refl) off may, further_idle p (next_at p) idle (ap goes_further is))
+follows_command p c left v on is asks =
+    subst (λ x. Follows x p v) (sym (ap class_of asks ∙ command_class c)) (may_on p on, subst (λ x. Asks x v.act) (sym is) asks)
 
 -- the lane went on by a command, which was answered
-pub leads_command : (vs : List Event) (p q : Position) (c : Command) (left : List ℕ) (v : Event) (r : Reply) → Leads p vs q → q.pull ≡ None → q.is_spent ≡ false
-    → next_at q ≡ plain c left → v.act ≡ act_of_command c → reply v ≡ Some r
-    → Leads p (vs ++ v ∷ []) (record q { left = left; job = None; pull = None; is_out_of_memory = kind v == MEMORY_KIND; is_spent = (v.answer).last || q.is_spent; told = q.told ++ r ∷ [] })
-leads_command vs p q c left v r led idle on is asks says =
-    subst (λ x. Leads p (vs ++ v ∷ []) x) (heard_plain q c left v.answer r idle is says) (leads_more vs p q v led (follows_command q c left v idle on is asks))
-
--- or memory was wanting for it
-pub leads_short : (vs : List Event) (p q : Position) (c : Command) (left : List ℕ) (v : Event) (r : Reply) → Leads p vs q → q.pull ≡ None → q.is_spent ≡ false → q.job ≡ None
-    → next_at q ≡ plain c left → may_want q.left ≡ true → v.act ≡ acts.Short → reply v ≡ Some r
-    → Leads p (vs ++ v ∷ []) (record q { left = left; job = None; pull = None; is_out_of_memory = kind v == MEMORY_KIND; is_spent = (v.answer).last || q.is_spent; told = q.told ++ r ∷ [] })
-leads_short vs p q c left v r led idle on off is may asks says =
-    subst (λ x. Leads p (vs ++ v ∷ []) x) (heard_plain q c left v.answer r idle is says) (leads_more vs p q v led (follows_short q c left v idle on off is may asks))
+pub leads_command : (vs : List Event) (p q : Position) (c : Command) (left : List ℕ) (v : Event) (r : Reply) → Leads p vs q → q.is_spent ≡ false
+    → next_at q ≡ ahead (plain c left) → v.act ≡ act_of_command c → reply v ≡ Some r
+    → Leads p (vs ++ v ∷ []) (record q { left = left; task = None; is_out_of_memory = kind v == MEMORY_KIND; is_spent = (v.answer).last || q.is_spent; told = q.told ++ r ∷ [] })
+leads_command vs p q c left v r led on is asks says =
+    subst (λ x. Leads p (vs ++ v ∷ []) x) (heard_plain q c left v.answer r is says) (leads_more vs p q v led (follows_command q c left v on is asks))
 
 -- ---- the last of a lane
 
 -- memory was wanting, for a frame that is no command or not yet known
-pub short_runs : (e : Ending) (q : Position) (v : Event) (vs : List Event) (told : List Reply) → q.is_over ≡ false → q.pull ≡ None → q.is_spent ≡ false → q.collecting ≡ None → q.job ≡ None → may_want q.left ≡ true
+pub short_runs : (e : Ending) (q : Position) (v : Event) (vs : List Event) (told : List Reply) → q.is_over ≡ false → q.is_spent ≡ false → q.task ≡ None → may_want q.left ≡ true
     → v.act ≡ acts.Short → Runs e (heard q v.answer) vs told → Runs e q (v ∷ vs) told
 unfolding position_after
-short_runs e q v vs told off apart on shut idle may asks runs =
-    subst (λ c. (q.is_over ≡ false) × Does c e q v vs × Runs e (heard_as c e q v.answer) vs told) (sym (ap class_of asks)) (off, (on, wants_frame q apart shut idle may), runs)
+short_runs e q v vs told off on none may asks runs =
+    subst (λ c. (q.is_over ≡ false) × Does c e q v vs × Runs e (heard_as c e q v.answer) vs told) (sym (ap class_of asks)) (off, (on, wants_frame q none may), runs)
 
 -- the lane's end
-pub end_runs : (e : Ending) (q : Position) (v : Event) → q.is_over ≡ false → q.collecting ≡ None → q.pull ≡ None → v.act ≡ acts.End → kind v ≡ END_KIND → EndsSo e q (next_at q)
+pub end_runs : (e : Ending) (q : Position) (v : Event) → q.is_over ≡ false → IsShut q.task → v.act ≡ acts.End → kind v ≡ END_KIND → EndsSo e q (next_at q)
     → Runs e q (v ∷ []) (last_words e q (next_at q)).told
 unfolding position_after
-end_runs e q v off shut idle asks six so =
+end_runs e q v off shut asks six so =
     subst (λ c. (q.is_over ≡ false) × Does c e q v [] × Runs e (heard_as c e q v.answer) [] (last_words e q (next_at q)).told) (sym (ap class_of asks))
-    (off, (so, (λ five. let no : ⊥ = omega arith in absurd no), shut, idle), subst (λ n. Runs e (end_heard e q n (reply v)) [] (last_words e q (next_at q)).told) (sym six) (refl, refl))
+    (off, (so, (λ five. let no : ⊥ = omega arith in absurd no), shut), subst (λ n. Runs e (end_heard e q n (reply v)) [] (last_words e q (next_at q)).told) (sym six) (refl, refl))
 
 faulted_over : (e : Ending) (q : Position) (r : Option Reply) → (end_faulted e q r).is_over ≡ q.is_over
-faulted_over endings.NoMemory q r = by_test (is_none q.job)
+faulted_over endings.NoMemory q r = by_test (is_none (job_in q.task))
   where
     by_test : (b : Bool) → (if b then q else heard_at q 5 r (next_at q)).is_over ≡ q.is_over
     by_test true = refl
     by_test false = heard_at_over q 5 r (next_at q)
 faulted_over e q r = heard_at_over q 5 r (next_at q)
 
-heard_at_same : (q : Position) (r : Option Reply) (x : Next) → goes_further x ≡ false → heard_at q 5 r x ≡ q
+heard_at_same : (q : Position) (r : Option Reply) (x : Ahead) → goes_further x ≡ false → heard_at q 5 r x ≡ q
 unfolding heard_at
-heard_at_same q r (job_step j left) h = cc
-heard_at_same q r (plain c left) h = cc
-heard_at_same q r (sync group left) h = cc
-heard_at_same q r (collect left) h = cc
-heard_at_same q r (collecting is_out_of_memory) h = cc
-heard_at_same q (Some r) (broken refusal) h = refl
-heard_at_same q (Some r) bye h = refl
-heard_at_same q (Some r) end h = refl
-heard_at_same q None (broken refusal) h = refl
-heard_at_same q None bye h = refl
-heard_at_same q None end h = refl
+heard_at_same q r (ahead (job_step j left)) h = cc
+heard_at_same q r (ahead (plain c left)) h = cc
+heard_at_same q r (ahead (sync group left)) h = cc
+heard_at_same q r (ahead (collect left)) h = cc
+heard_at_same q r (ahead (collecting is_out_of_memory)) h = cc
+heard_at_same q r (pull x left) h = cc
+heard_at_same q (Some r) (ahead n) h = refl
+heard_at_same q None (ahead n) h = refl
 
-clean_further : (q : Position) (x : Next) → EndsSo endings.Clean q x → goes_further x ≡ false
-clean_further q (job_step j left) h = absurd h
-clean_further q (plain c left) h = absurd h
-clean_further q (sync group left) h = absurd h
-clean_further q (collect left) h = absurd h
-clean_further q (collecting is_out_of_memory) h = absurd h
-clean_further q bye h = refl
-clean_further q (broken refusal) h = refl
-clean_further q end h = refl
+clean_further : (q : Position) (x : Ahead) → EndsSo endings.Clean q x → goes_further x ≡ false
+clean_further q (ahead bye) h = refl
+clean_further q (ahead end) h = refl
+clean_further q x h = absurd h
 
-broken_further : (place : ℕ) (q : Position) (x : Next) → EndsSo (endings.Broken place) q x → goes_further x ≡ false
-broken_further place q (job_step j left) h = absurd h
-broken_further place q (plain c left) h = absurd h
-broken_further place q (sync group left) h = absurd h
-broken_further place q (collect left) h = absurd h
-broken_further place q (collecting is_out_of_memory) h = absurd h
-broken_further place q bye h = refl
-broken_further place q (broken refusal) h = refl
-broken_further place q end h = refl
+broken_further : (place : ℕ) (q : Position) (x : Ahead) → EndsSo (endings.Broken place) q x → goes_further x ≡ false
+broken_further place q (ahead (broken refusal)) h = refl
+broken_further place q x h = absurd h
 
--- with no job open, an end that met a fault left the lane as it was, but where the sink failed
-pub faulted_same : (e : Ending) (q : Position) (r : Option Reply) → q.collecting ≡ None → q.job ≡ None → e ≢ endings.SinkFault → EndsSo e q (next_at q) → end_faulted e q r ≡ q
-faulted_same endings.NoMemory q r shut off ne so = ap (λ (o : Option Asking). if is_none o then q else heard_at q 5 r (next_at q)) off
-faulted_same endings.Clean q r shut off ne so = heard_at_same q r (next_at q) (clean_further q (next_at q) so)
-faulted_same (endings.Broken place) q r shut off ne so = heard_at_same q r (next_at q) (broken_further place q (next_at q) so)
-faulted_same endings.SourceFault q r shut off ne so = heard_at_same q r (next_at q) (part_next q shut off so.2)
-faulted_same endings.SinkFault q r shut off ne so = absurd (ne refl)
-faulted_same endings.SourceTooLong q r shut off ne so = heard_at_same q r (next_at q) (part_next q shut off so.2)
+-- with nothing open, an end that met a fault left the lane as it was, but where the sink failed
+pub faulted_same : (e : Ending) (q : Position) (r : Option Reply) → q.task ≡ None → e ≢ endings.SinkFault → EndsSo e q (next_at q) → end_faulted e q r ≡ q
+faulted_same endings.NoMemory q r off ne so = ap (λ (t : Option Task). if is_none (job_in t) then q else heard_at q 5 r (next_at q)) off
+faulted_same endings.Clean q r off ne so = heard_at_same q r (next_at q) (clean_further q (next_at q) so)
+faulted_same (endings.Broken place) q r off ne so = heard_at_same q r (next_at q) (broken_further place q (next_at q) so)
+faulted_same endings.SourceFault q r off ne so = heard_at_same q r (next_at q) (part_next q off so.2)
+faulted_same endings.SinkFault q r off ne so = absurd (ne refl)
+faulted_same endings.SourceTooLong q r off ne so = heard_at_same q r (next_at q) (part_next q off so.2)
 
 -- and it may end as before
 abbrev RestsAlike : Ending → Position → Type 0
-RestsAlike e q = EndsSo e q (next_at q) × (q.collecting ≡ None) × (q.pull ≡ None)
+RestsAlike e q = EndsSo e q (next_at q) × IsShut q.task
 
-same_ends : (e : Ending) (q : Position) (r : Option Reply) → q.collecting ≡ None → q.pull ≡ None → q.job ≡ None → e ≢ endings.SinkFault → EndsSo e q (next_at q) → RestsAlike e (end_faulted e q r)
-same_ends e q r shut idle off ne so =
-    subst (λ x. EndsSo e x (next_at x) × (x.collecting ≡ None) × (x.pull ≡ None)) (sym (faulted_same e q r shut off ne so)) (so, shut, idle)
+same_ends : (e : Ending) (q : Position) (r : Option Reply) → q.task ≡ None → e ≢ endings.SinkFault → EndsSo e q (next_at q) → RestsAlike e (end_faulted e q r)
+same_ends e q r off ne so = subst (λ x. EndsSo e x (next_at x) × IsShut x.task) (sym (faulted_same e q r off ne so)) (so, subst IsShut (sym off) tt)
 
--- none is open then either
-pub heard_idles : (q : Position) (r : Option Reply) (x : Next) → q.pull ≡ None → (heard_at q 5 r x).pull ≡ None
+-- no collector and no SYNC is open then either
+heard_shut : (q : Position) (r : Option Reply) (n : Next) → q.task ≡ None → IsShut (heard_at q 5 r (ahead n)).task
 unfolding heard_at goes_on
-heard_idles q (Some r) (job_step j left) idle = by_job (job_take j r)
+heard_shut q (Some r) (job_step j left) off = by_job (job_take j r)
   where
-    by_job : (k : Job) → (goes_on q left k).pull ≡ None
-    by_job (over report) = refl
-    by_job (asking i) = idle
-heard_idles q None (job_step j left) idle = idle
-heard_idles q (Some r) (plain c left) idle = refl
-heard_idles q None (plain c left) idle = idle
-heard_idles q (Some r) (sync group left) idle = refl
-heard_idles q None (sync group left) idle = idle
-heard_idles q (Some r) (collect left) idle = refl
-heard_idles q None (collect left) idle = idle
-heard_idles q (Some r) (collecting is_out_of_memory) idle = refl
-heard_idles q None (collecting is_out_of_memory) idle = idle
-heard_idles q (Some r) (broken refusal) idle = idle
-heard_idles q None (broken refusal) idle = idle
-heard_idles q (Some r) bye idle = idle
-heard_idles q None bye idle = idle
-heard_idles q (Some r) end idle = idle
-heard_idles q None end idle = idle
+    by_job : (k : Job) → IsShut (goes_on q left k).task
+    by_job (over report) = tt
+    by_job (asking i) = tt
+heard_shut q (Some r) (plain c left) off = tt
+heard_shut q (Some r) (sync group left) off = tt
+heard_shut q (Some r) (collect left) off = tt
+heard_shut q (Some r) (collecting is_out_of_memory) off = tt
+heard_shut q (Some r) n off = subst IsShut (sym off) tt
+heard_shut q None (job_step j left) off = subst IsShut (sym off) tt
+heard_shut q None n off = subst IsShut (sym off) tt
 
-faulted_ends : (e : Ending) (q : Position) (r : Option Reply) → q.collecting ≡ None → q.pull ≡ None → q.job ≡ None → EndsSo e q (next_at q) → RestsAlike e (end_faulted e q r)
-faulted_ends endings.SinkFault q r shut idle off so = (tt, fault_shut endings.SinkFault q r (open_is q ∙ shut) ∙ shut, heard_idles q r (next_at q) idle)
-faulted_ends endings.NoMemory q r shut idle off so = same_ends endings.NoMemory q r shut idle off (λ h. cc) so
-faulted_ends endings.Clean q r shut idle off so = same_ends endings.Clean q r shut idle off (λ h. cc) so
-faulted_ends (endings.Broken place) q r shut idle off so = same_ends (endings.Broken place) q r shut idle off (λ h. cc) so
-faulted_ends endings.SourceFault q r shut idle off so = same_ends endings.SourceFault q r shut idle off (λ h. cc) so
-faulted_ends endings.SourceTooLong q r shut idle off so = same_ends endings.SourceTooLong q r shut idle off (λ h. cc) so
+faulted_ends : (e : Ending) (q : Position) (r : Option Reply) → q.task ≡ None → EndsSo e q (next_at q) → RestsAlike e (end_faulted e q r)
+faulted_ends endings.SinkFault q r off so =
+    (tt, subst (λ x. IsShut (heard_at q 5 r x).task) (sym (next_is q (front q.left) off refl)) (heard_shut q r (front_next (q.size - length q.left) (front q.left)) off))
+faulted_ends endings.NoMemory q r off so = same_ends endings.NoMemory q r off (λ h. cc) so
+faulted_ends endings.Clean q r off so = same_ends endings.Clean q r off (λ h. cc) so
+faulted_ends (endings.Broken place) q r off so = same_ends (endings.Broken place) q r off (λ h. cc) so
+faulted_ends endings.SourceFault q r off so = same_ends endings.SourceFault q r off (λ h. cc) so
+faulted_ends endings.SourceTooLong q r off so = same_ends endings.SourceTooLong q r off (λ h. cc) so
 
 -- the end met a fault, and came again
-pub end_again_runs : (e : Ending) (q : Position) (v u : Event) → q.collecting ≡ None → q.pull ≡ None → q.job ≡ None → q.is_over ≡ false → v.act ≡ acts.End → kind v ≡ FAULT_KIND → u.act ≡ acts.End → kind u ≡ END_KIND → EndsSo e q (next_at q)
+pub end_again_runs : (e : Ending) (q : Position) (v u : Event) → q.task ≡ None → q.is_over ≡ false → v.act ≡ acts.End → kind v ≡ FAULT_KIND → u.act ≡ acts.End → kind u ≡ END_KIND → EndsSo e q (next_at q)
     → Runs e q (v ∷ u ∷ []) (last_words e (end_faulted e q (reply v)) (next_at (end_faulted e q (reply v)))).told
 unfolding position_after
-end_again_runs e q v u shut idle closed off asks five again six so =
+end_again_runs e q v u none off asks five again six so =
     let q' = end_faulted e q (reply v) in
-    let rests = faulted_ends e q (reply v) shut idle closed so in
-    let rest = end_runs e q' u (faulted_over e q (reply v) ∙ off) rests.1 rests.2 again six rests.0 in
+    let rests = faulted_ends e q (reply v) none so in
+    let rest = end_runs e q' u (faulted_over e q (reply v) ∙ off) rests.1 again six rests.0 in
     subst (λ c. (q.is_over ≡ false) × Does c e q v (u ∷ []) × Runs e (heard_as c e q v.answer) (u ∷ []) (last_words e q' (next_at q')).told) (sym (ap class_of asks))
-    (off, (so, (λ h. (ap class_of again, six)), shut, idle), subst (λ n. Runs e (end_heard e q n (reply v)) (u ∷ []) (last_words e q' (next_at q')).told) (sym five) rest)
+    (off, (so, (λ h. (ap class_of again, six)), subst IsShut (sym none) tt), subst (λ n. Runs e (end_heard e q n (reply v)) (u ∷ []) (last_words e q' (next_at q')).told) (sym five) rest)

@@ -55,7 +55,7 @@ told = no_session ∷ Refused NoMemory ∷ Refused DiskFault ∷ Refused (Halted
 
 ran : LaneRan (sent (Finish ∷ Finish ∷ Finish ∷ Finish ∷ Bye ∷ [])) endings.Clean h told
 unfolding on_histories
-ran = (refl, (refl, refl), (refl, (refl, refl), (refl, (refl, refl), (refl, (refl, refl), (refl, (refl, (λ five. cc), refl, refl), (refl, refl))))))
+ran = (refl, (refl, refl), (refl, (refl, refl), (refl, (refl, refl), (refl, (refl, refl), (refl, (refl, (λ five. cc), tt), (refl, refl))))))
 
 abbrev start : Opening
 start = record { snapshots = []; moment = 4; touches = []; calls = 3; chunks = [] }
@@ -92,11 +92,11 @@ one = event (acts.Plain Finish) 0 (Some no_session) 0 false
 
 cut_frame : LaneRan cut_input (endings.Broken 5) (one ∷ end 1 ∷ []) (no_session ∷ Refused (BadFrame 5) ∷ [])
 unfolding on_histories
-cut_frame = (refl, (refl, refl), (refl, ((refl, refl), (λ five. cc), refl, refl), (refl, refl)))
+cut_frame = (refl, (refl, refl), (refl, ((refl, refl), (λ five. cc), tt), (refl, refl)))
 
 source_failed : LaneRan cut_input endings.SourceFault (one ∷ end 1 ∷ []) (no_session ∷ [])
 unfolding on_histories
-source_failed = (refl, (refl, refl), (refl, ((refl, refl, refl), (λ five. cc), refl, refl), (refl, refl)))
+source_failed = (refl, (refl, refl), (refl, ((refl, refl, refl), (λ five. cc), tt), (refl, refl)))
 
 -- no lane leaves a whole frame without a reply because its source failed
 no_command_left : LaneRan (1 ∷ 0 ∷ 0 ∷ 0 ∷ 99 ∷ []) endings.SourceFault (end 0 ∷ []) [] → ⊥
@@ -107,7 +107,7 @@ no_command_left ran = let is : Rattle.wire_frames.specs.Frames.whole (99 ∷ [])
 not_held : LaneRan (2 ∷ 0 ∷ 0 ∷ 0 ∷ []) endings.NoMemory
     (event acts.Short 2 short 0 true ∷ event acts.End 5 (Some (Refused DiskFault)) 1 false ∷ end 2 ∷ []) (Refused NoMemory ∷ [])
 unfolding on_histories
-not_held = (refl, (refl, refl), (refl, ((refl, refl), (λ five. (refl, refl)), refl, refl), (refl, ((refl, refl), (λ five. cc), refl, refl), (refl, refl))))
+not_held = (refl, (refl, refl), (refl, ((refl, refl), (λ five. (refl, refl)), tt), (refl, ((refl, refl), (λ five. cc), tt), (refl, refl))))
 
 -- and no lane ends as if its input had ended, where it was used up
 not_clean : LaneRan (2 ∷ 0 ∷ 0 ∷ 0 ∷ []) endings.Clean (event acts.Short 2 short 0 false ∷ end 1 ∷ []) (Refused NoMemory ∷ []) → ⊥
@@ -123,7 +123,7 @@ no_short_bye ran = let is : false ≡ true = (ran.1).1 in cc
 sink_failed : LaneRan (sent (Finish ∷ Finish ∷ [])) endings.SinkFault
     (one ∷ event acts.End 5 (Some (Refused DiskFault)) 1 false ∷ end 2 ∷ []) (no_session ∷ Refused DiskFault ∷ [])
 unfolding on_histories
-sink_failed = (refl, (refl, refl), (refl, (tt, (λ five. (refl, refl)), refl, refl), (refl, (tt, (λ five. cc), refl, refl), (refl, refl))))
+sink_failed = (refl, (refl, refl), (refl, (tt, (λ five. (refl, refl)), tt), (refl, (tt, (λ five. cc), tt), (refl, refl))))
 
 -- ---- a job
 
@@ -146,17 +146,17 @@ forget kind r = event (acts.Plain (Forget older)) kind r 1 false
 held : LaneRan (sent (prune ∷ Bye ∷ [])) endings.Clean (grouped ∷ forget 0 (Some (Refused (SnapshotBusy 3))) ∷ end 2 ∷ [])
     (Marks (row Kept newer ∷ row Held older ∷ []) ∷ Done ∷ [])
 unfolding on_histories
-held = (refl, (refl, refl), (refl, (refl, refl), (refl, (refl, (λ five. cc), refl, refl), (refl, refl))))
+held = (refl, (refl, refl), (refl, (refl, refl), (refl, (refl, (λ five. cc), tt), (refl, refl))))
 
 -- a fault of the disk is the job's answer
 faulted : LaneRan (sent (prune ∷ Bye ∷ [])) endings.Clean (grouped ∷ forget 5 (Some (Refused DiskFault)) ∷ end 2 ∷ []) (Refused DiskFault ∷ Done ∷ [])
 unfolding on_histories
-faulted = (refl, (refl, refl), (refl, (refl, refl), (refl, (refl, (λ five. cc), refl, refl), (refl, refl))))
+faulted = (refl, (refl, refl), (refl, (refl, refl), (refl, (refl, (λ five. cc), tt), (refl, refl))))
 
 -- and so is want of memory within the job, which ends the lane where its entry was the reserve's
 wanted : LaneRan (sent (prune ∷ Bye ∷ [])) endings.NoMemory (grouped ∷ event acts.Short 2 short 1 true ∷ end 2 ∷ []) (Refused NoMemory ∷ [])
 unfolding on_histories
-wanted = (refl, (refl, refl), (refl, (refl, refl), (refl, ((refl, refl), (λ five. cc), refl, refl), (refl, refl))))
+wanted = (refl, (refl, refl), (refl, (refl, refl), (refl, ((refl, refl), (λ five. cc), tt), (refl, refl))))
 
 -- no lane's input has ended while its job is open
 not_open : LaneRan (sent (prune ∷ [])) endings.Clean (grouped ∷ end 1 ∷ []) [] → ⊥
@@ -186,7 +186,7 @@ report = Collected 1_000_000 913_300 2 0 0
 -- it opens, does two acts and reports
 collected : LaneRan (sent (Gc ∷ Bye ∷ [])) endings.Clean (opens ∷ acted 1 None 1 false ∷ acted 1 None 2 false ∷ acted 4 (Some report) 3 false ∷ end 4 ∷ []) (report ∷ Done ∷ [])
 unfolding on_histories
-collected = (refl, (refl, refl), (refl, refl, (refl, refl, (refl, refl, (refl, (refl, (λ five. cc), refl, refl), (refl, refl))))))
+collected = (refl, (refl, refl), (refl, refl, (refl, refl, (refl, refl, (refl, (refl, (λ five. cc), tt), (refl, refl))))))
 
 legal_collected : IsLegal None (opened start) (opens ∷ acted 1 None 1 false ∷ acted 4 (Some report) 2 false ∷ end 3 ∷ [])
 unfolding on_histories
@@ -204,7 +204,7 @@ legal_collected = (
 -- Memory was wanting for an act of it, whose entry was the reserve's: it is closed by one act more, which tells this, and then the lane ends.
 cut_short : LaneRan (sent (Gc ∷ Finish ∷ [])) endings.NoMemory (opens ∷ acted 2 short 1 true ∷ acted 4 short 2 false ∷ end 3 ∷ []) (Refused NoMemory ∷ [])
 unfolding on_histories
-cut_short = (refl, (refl, refl), (refl, refl, (refl, refl, (refl, ((refl, refl), (λ five. cc), refl, refl), (refl, refl)))))
+cut_short = (refl, (refl, refl), (refl, refl, (refl, refl, (refl, ((refl, refl), (λ five. cc), tt), (refl, refl)))))
 
 legal_cut : IsLegal None (opened start) (opens ∷ acted 2 short 1 true ∷ acted 4 short 2 false ∷ end 3 ∷ [])
 unfolding on_histories
@@ -222,7 +222,7 @@ legal_cut = (
 -- no lane ends while its collector is open
 not_left_open : LaneRan (sent (Gc ∷ [])) endings.SinkFault (opens ∷ end 1 ∷ []) [] → ⊥
 unfolding on_histories
-not_left_open ran = let is : Some false ≡ None = ((ran.2).1).2 in cc
+not_left_open ran = ((ran.2).1).2
 
 -- nor does it want memory outside the collector's acts
 not_short_open : LaneRan (sent (Gc ∷ Finish ∷ [])) endings.NoMemory (opens ∷ event acts.Short 2 short 1 true ∷ end 2 ∷ []) [] → ⊥
@@ -254,7 +254,7 @@ closes_reader place = event (acts.Plain CloseReader) 0 (Some Done) place false
 verify_cut : LaneRan (sent (Verify [] ∷ Finish ∷ [])) endings.NoMemory
     (opens_reader ∷ event (acts.Plain (FilesOf [])) 2 short 1 true ∷ closes_reader 2 ∷ end 3 ∷ []) (Refused NoMemory ∷ [])
 unfolding on_histories
-verify_cut = (refl, (refl, refl), (refl, (refl, refl), (refl, (refl, refl), (refl, ((refl, refl), (λ five. cc), refl, refl), (refl, refl)))))
+verify_cut = (refl, (refl, refl), (refl, (refl, refl), (refl, (refl, refl), (refl, ((refl, refl), (λ five. cc), tt), (refl, refl)))))
 
 -- it does not end with its reader open
 not_left_reading : LaneRan (sent (Verify [] ∷ Finish ∷ [])) endings.NoMemory
@@ -287,12 +287,12 @@ asks_here r = event (acts.Plain (Group host)) 0 r 1 false
 -- the remote has nothing of the group
 nothing_there : LaneRan (sent (Sync host ∷ Bye ∷ [])) endings.Clean (asks_remote 1 (Some (Keys [])) ∷ asks_here (Some (Keys [])) ∷ end 2 ∷ []) (Keys [] ∷ Done ∷ [])
 unfolding on_histories
-nothing_there = (refl, (refl, refl), (refl, (refl, (refl, refl)), (refl, (refl, (λ five. cc), refl, refl), (refl, refl))))
+nothing_there = (refl, (refl, refl), (refl, (refl, refl), (refl, (refl, (λ five. cc), tt), (refl, refl))))
 
 -- its list could not be read
 list_failed : LaneRan (sent (Sync host ∷ Bye ∷ [])) endings.Clean (asks_remote 7 (Some (Refused RemoteFault)) ∷ end 1 ∷ []) (Refused RemoteFault ∷ Done ∷ [])
 unfolding on_histories
-list_failed = (refl, (refl, refl), (refl, (refl, (λ five. cc), refl, refl), (refl, refl)))
+list_failed = (refl, (refl, refl), (refl, (refl, (λ five. cc), tt), (refl, refl)))
 
 -- it has one more, whose manifest could not be read: the writer is ended, and then this is told
 abbrev opens_writer : Event
@@ -307,13 +307,10 @@ ends_writer = event (acts.Plain Abort) 0 (Some Done) 4 false
 read_failed : LaneRan (sent (Sync host ∷ Bye ∷ [])) endings.Clean
     (asks_remote 1 (Some (Keys (older ∷ []))) ∷ asks_here (Some (Keys [])) ∷ opens_writer ∷ reads_manifest ∷ ends_writer ∷ end 5 ∷ []) (Refused RemoteFault ∷ Done ∷ [])
 unfolding on_histories
-read_failed = (refl, (refl, refl), (refl, (refl, (refl, refl)), (refl, (refl, (refl, refl)), (refl, (refl, (refl, refl)), (refl, (refl, (refl, refl)), (refl, (refl, (λ five. cc), refl, refl), (refl, refl)))))))
+read_failed = (refl, (refl, refl), (refl, (refl, refl), (refl, (refl, refl), (refl, (refl, refl), (refl, (refl, refl), (refl, (refl, (λ five. cc), tt), (refl, refl)))))))
 
 -- no lane ends with its writer open
 not_left_writing : LaneRan (sent (Sync host ∷ Bye ∷ [])) endings.SinkFault
     (asks_remote 1 (Some (Keys (older ∷ []))) ∷ asks_here (Some (Keys [])) ∷ opens_writer ∷ reads_manifest ∷ end 4 ∷ []) [] → ⊥
 unfolding on_histories
-not_left_writing ran = no_sync (((((ran.2).2).2).2).1).3
-  where
-    no_sync : {x : Pulling} → Some x ≡ None → ⊥
-    no_sync is = cc
+not_left_writing ran = (((((ran.2).2).2).2).1).2

@@ -21,7 +21,6 @@ pub mod Opening
 pub mod Whole
 pub mod Rules
 pub mod Picking
-pub mod Idling
 pub mod Growing
 pub mod Longer
 pub mod Ending

@@ -1,5 +1,5 @@
 -- An event of a lane whose SYNC is open moves the run as the definitions say, and the lane stays beside the one that `weave` has.
-use Rattle.std.proofs.Common.{◌≡◌, inl, inr, ℕ, zero, suc, ◌-◌, Bool, false, List, [], ◌∷◌, length, filter, Option, Some, None, Ok, Err, Result, refl, sym, ap, subst, ◌∙◌, ◌||◌, slice_index_or, slice_set, if◌then◌else◌, IfSome, IsSome, take as take_first}
+use Rattle.std.proofs.Common.{◌≡◌, ◌==◌, inl, inr, ℕ, zero, suc, ◌-◌, Bool, false, List, [], ◌∷◌, length, filter, Option, Some, None, Ok, Err, Result, refl, sym, ap, subst, ◌∙◌, ◌||◌, slice_index_or, slice_set, if◌then◌else◌, IfSome, IsSome, take as take_first}
 use Rattle.std.specs.List.{All, Contains, last_or}
 use Rattle.std.proofs.lemmas.List.Elements.{All-contains_itself, All-filter, All-weaker}
 use Rattle.store_types.specs.declared.names.GroupKey.{GroupKey}
@@ -17,7 +17,7 @@ use Rattle.store_model.specs.declared.ending.Ending.{Ending}
 use Rattle.store_model.specs.declared.ending.Ending.TheVariants as endings
 use Rattle.store_model.specs.Job.{Asking, Job, over, asking}
 use Rattle.store_model.specs.Jobs.{take as job_take}
-use Rattle.store_model.specs.Lanes.{Run, Next, job_step, sync, collecting, lane_next, front_next, next_of}
+use Rattle.store_model.specs.Lanes.{Run, Next, job_step, sync, collecting, end, lane_next, front_next, next_of}
 use Rattle.store_model.specs.AdminSteps.{group, group_texts}
 use Rattle.store_model.specs.Stands.{IsSnapshot, group_limit}
 use Rattle.store_model.specs.Steps.{answered, outcome}
@@ -30,63 +30,74 @@ use Rattle.store_history.specs.declared.act.Event.{Event}
 use Rattle.store_history.specs.Acts.{Class, stepping, reaching, starting, sweeping, wanting, ending, class_of}
 use Rattle.store_history.specs.History.{World, open_on, halted_on, act_outcome, moved, EntryKind, kind_of, step_kind, pass_kind, short_kind, start_kind, close_kind, fault_kind, end_kind, remote_kind, no_kind, kind, reply}
 use Rattle.store_history.specs.Legal.{Right, Says, Refuses}
-use Rattle.store_history.specs.LaneRun.{Position, lane_of, next_at, tells, goes_on, pulls_on, behind, heard_at, heard_by, heard_pulling, heard, heard_as, wants, Asks, AsksBy, Does}
-use Rattle.store_history.specs.Pulling as pulls
+use Rattle.store_history.specs.LaneRun.{Task, steps, pulls, sweeps, Ahead, ahead, pull, pull_ahead, ahead_by, job_in, Position, lane_of, next_at, tells, goes_on, pulls_on, heard_at, heard, heard_as, wants, Asks, Does, IsIdle, IsShut}
+use Rattle.store_history.specs.Pulling as model
 use Rattle.store_history.specs.Pulling.{Pulling, comparing, SyncJob, act_of, compared, sought, take, is_ending}
 use Rattle.store_history.specs.Remote.{IsList, IsRemote, may_read, ReadsIn, Reads}
 use Rattle.store_types.specs.FileNames.{manifest_name}
 use Rattle.store_types.specs.declared.order.TheConstants.{COMMAND_KIND, PART_KIND, MEMORY_KIND, FAULT_KIND}
 use Rattle.store_model.specs.SyncJob.{new_index, is_later as job_later, next_snapshot as job_next_snapshot, to_pull}
-use Rattle.store_history.proofs.Beside.{Beside, BesideBy, IsOther, Pulls, Waits, asks_no_other, at_plain, at_sync, bare, besides, is_at, all_keys, pulled_same, remote_texts, shown}
+use Rattle.store_history.proofs.Beside.{Beside, BesideBy, IsOther, Pulls, Waits, asks_no_other, at_plain, at_sync, bare, besides, is_at, no_pull, pull_in, all_keys, pulled_same, remote_texts, shown}
 use Rattle.store_history.proofs.Keyed.{HasKeys}
 use Rattle.store_history.proofs.Events.{Becomes, all_faulted, all_short, asked, at_next, end_halted, tests_pass, noted, nx, plainly}
 use Rattle.store_history.proofs.Meaning.{Shows, ShowsJob, texts_of, asked_alike, no_read, reads_on, shows_snapshots, taken, unread}
-use Rattle.store_history.proofs.Placed.{run_of, at, keep_is, same_lane, go_is, open_at, open_is}
+use Rattle.store_history.proofs.Placed.{run_of, at, keep_is, same_lane, go_is, sweep_in, model_next, model_is, IsNoStep, no_job, open_at, open_model}
 use Rattle.store_history.proofs.Plainly.{ArePlain, IsPlainJob, take_plainly}
 use Rattle.store_history.proofs.Wanting.{Goes}
 
 -- ---- what the positions have in common
 
 -- the job's step is next on the lane that `weave` has
-pub next_shown : (p : Position) (j : Asking) → p.collecting ≡ None → next_at (shown p j) ≡ job_step j p.left
-unfolding next_at lane_next
-next_shown p j shut =
-    ap (λ (o : Option Bool). elim o [ None ↦ lane_next (lane_of (shown p j)) | Some is_out_of_memory ↦ collecting is_out_of_memory ]) shut
+pub next_shown : (p : Position) (j : Asking) → model_next (shown p j) ≡ job_step j p.left
+unfolding lane_next
+next_shown p j = refl
 
 -- a SYNC whose job is open is behind its command
-behind_is : (L : List Snapshot) (x : Pulling) (j : Asking) (p : Position) (n : Next) → Shows L x j → behind p x n ≡ p.left
-behind_is L (comparing group remote) j p n h = absurd h
-behind_is L x j p n h = refl
+pull_is : (L : List Snapshot) (x : Pulling) (j : Asking) (p : Position) → p.task ≡ Some (pulls x) → Shows L x j → next_at p ≡ pull x p.left
+unfolding next_at
+pull_is L (comparing group remote) j p going h = absurd h
+pull_is L x j p going h = ap (λ (t : Option Task). ahead_by t (p.size - length p.left) p.left) going
+
+next_in : Ahead → Next
+next_in (ahead n) = n
+next_in a = end
+
+-- one whose command is next still asks for its group
+wait_is : (p : Position) (group name left : List ℕ) (remote : List (List ℕ)) → p.task ≡ Some (pulls (comparing group remote)) → next_at (bare p) ≡ ahead (sync name left)
+    → next_at p ≡ pull (comparing group remote) left
+unfolding next_at next_in
+wait_is p group name left remote going next =
+    subst (λ (t : Option Task). ahead_by (no_pull t) (p.size - length p.left) p.left ≡ ahead (sync name left) → ahead_by t (p.size - length p.left) p.left ≡ pull (comparing group remote) left) (sym going)
+    (λ e. ap (λ a. pull_ahead (comparing group remote) p.left (next_in a)) e) next
+
+bare_idle : (t : Option Task) → IsIdle (no_pull t)
+bare_idle None = tt
+bare_idle (Some (steps j)) = tt
+bare_idle (Some (pulls x)) = tt
+bare_idle (Some (sweeps b)) = tt
+
+-- a SYNC that is next stands at the front
+front_sync : (t : Option Task) (offset : ℕ) (left group behind : List ℕ) → IsIdle t → ahead_by t offset left ≡ ahead (sync group behind) → ahead_by None offset left ≡ ahead (sync group behind)
+front_sync None offset left group behind idle e = e
+front_sync (Some (steps j)) offset left group behind idle e = cc
+front_sync (Some (pulls x)) offset left group behind idle e = absurd idle
+front_sync (Some (sweeps b)) offset left group behind idle e = cc
 
 -- the position that `weave` has goes on so too where the SYNC's command was next
 beside_bare : (R : Option (List Snapshot)) (s : Store) (k : ℕ) (L : List Snapshot) (p : Position) (next : SyncJob) (job : Job) (left : List ℕ) (is_out_of_memory is_spent : Bool)
-    → R ≡ Some L → p.collecting ≡ None → ShowsJob L next job
+    → R ≡ Some L → ShowsJob L next job
     → Beside R s k (record (pulls_on p left next) { is_out_of_memory = is_out_of_memory; is_spent = is_spent }) (record (goes_on (bare p) left job) { is_out_of_memory = is_out_of_memory; is_spent = is_spent })
 unfolding pulls_on goes_on
-beside_bare R s k L p (pulls.reports r) job left is_out_of_memory is_spent there shut h =
+beside_bare R s k L p (model.reports r) job left is_out_of_memory is_spent there h =
     ap (λ (y : Job). record (goes_on (bare p) left y) { is_out_of_memory = is_out_of_memory; is_spent = is_spent }) h
-beside_bare R s k L p (pulls.asks x) job left is_out_of_memory is_spent there shut h =
+beside_bare R s k L p (model.asks x) job left is_out_of_memory is_spent there h =
     inr (record {
       list = L;
       job = h.0;
       there = there;
       is = ap (λ (y : Job). record (goes_on (bare p) left y) { is_out_of_memory = is_out_of_memory; is_spent = is_spent }) h.1;
-      shut = shut;
       shows = h.2;
     })
-
--- where a SYNC's command is next no job is open
-sync_idle : (q : Position) (group left : List ℕ) → next_at q ≡ sync group left → q.job ≡ None
-unfolding next_at lane_next
-sync_idle q group left h = by_collecting q.collecting h
-  where
-    by_job : (o : Option Asking) → elim o [ None ↦ front_next (q.size - length q.left) (front q.left) | Some y ↦ job_step y q.left ] ≡ sync group left → o ≡ None
-    by_job None e = refl
-    by_job (Some y) e = cc
-
-    by_collecting : (o : Option Bool) → elim o [ None ↦ lane_next (lane_of q) | Some is_out_of_memory ↦ collecting is_out_of_memory ] ≡ sync group left → q.job ≡ None
-    by_collecting None e = by_job q.job e
-    by_collecting (Some is_out_of_memory) e = cc
 
 begins_plain : (pulled : List (List ℕ)) (xs : List Snapshot) → IsPlainJob (job_next_snapshot pulled xs)
 unfolding job_next_snapshot
@@ -97,23 +108,25 @@ begins_plain pulled (x ∷ xs) = tt
 
 -- a SYNC's step or read with its reply
 abbrev pub pulled : Position → Answer → SyncJob → Position
-pulled p a next = record (pulls_on p p.left next) { is_out_of_memory = wants (a.entry).kind p.collecting; is_spent = a.last || p.is_spent }
+pulled p a next = record (pulls_on p p.left next) { is_out_of_memory = (a.entry).kind == MEMORY_KIND; is_spent = a.last || p.is_spent }
 
 abbrev pub gone : Position → Position → Answer → Job → Position
-gone p q a job = record (goes_on q p.left job) { is_out_of_memory = wants (a.entry).kind p.collecting; is_spent = a.last || p.is_spent }
+gone p q a job = record (goes_on q p.left job) { is_out_of_memory = (a.entry).kind == MEMORY_KIND; is_spent = a.last || p.is_spent }
 
 pulls_spent : (p : Position) (left : List ℕ) (next : SyncJob) → (pulls_on p left next).is_spent ≡ p.is_spent
 unfolding pulls_on
-pulls_spent p left (pulls.reports r) = refl
-pulls_spent p left (pulls.asks x) = refl
+pulls_spent p left (model.reports r) = refl
+pulls_spent p left (model.asks x) = refl
 
-heard_pulled : (p : Position) (x : Pulling) (a : Answer) (y : Reply) → p.pull ≡ Some x → a.reply ≡ Some y → behind p x (next_at p) ≡ p.left → heard p a ≡ pulled p a (take x y)
-unfolding heard
-heard_pulled p x a y going told at =
-    ap (λ (o : Option Pulling). let q = heard_by o p (a.entry).kind a.reply in record q { is_out_of_memory = wants (a.entry).kind p.collecting; is_spent = a.last || q.is_spent }) going
-    ∙ ap (λ (r : Option Reply). let q = heard_pulling p x r in record q { is_out_of_memory = wants (a.entry).kind p.collecting; is_spent = a.last || q.is_spent }) told
-    ∙ ap (λ (left : List ℕ). let q = pulls_on p left (take x y) in record q { is_out_of_memory = wants (a.entry).kind p.collecting; is_spent = a.last || q.is_spent }) at
-    ∙ ap (λ b. record (pulls_on p p.left (take x y)) { is_out_of_memory = wants (a.entry).kind p.collecting; is_spent = a.last || b }) (pulls_spent p p.left (take x y))
+heard_pulled : (p : Position) (x : Pulling) (left : List ℕ) (a : Answer) (y : Reply) → p.task ≡ Some (pulls x) → next_at p ≡ pull x left → a.reply ≡ Some y
+    → heard p a ≡ record (pulls_on p left (take x y)) { is_out_of_memory = (a.entry).kind == MEMORY_KIND; is_spent = a.last || p.is_spent }
+unfolding heard heard_at
+heard_pulled p x left a y going next told =
+    let flag : Bool → Position → Position = λ b q. record q { is_out_of_memory = b; is_spent = a.last || q.is_spent } in
+    ap (λ z. flag (wants (a.entry).kind p.task) (heard_at p (a.entry).kind a.reply z)) next
+    ∙ ap (λ (r : Option Reply). flag (wants (a.entry).kind p.task) (heard_at p (a.entry).kind r (pull x left))) told
+    ∙ ap (λ (t : Option Task). flag (wants (a.entry).kind t) (pulls_on p left (take x y))) going
+    ∙ ap (λ b. record (pulls_on p left (take x y)) { is_out_of_memory = (a.entry).kind == MEMORY_KIND; is_spent = a.last || b }) (pulls_spent p left (take x y))
 
 -- ---- which refusal
 
@@ -128,45 +141,45 @@ refused_alike L x j z ending is h = absurd (asks_no_other x (subst IsOther (sym 
 
 -- a read of a remote that is there is refused by nothing
 may_is : (L : List Snapshot) (s : Store) (k : ℕ) (x : Pulling) (j : Asking) → Shows L x j → class_of (act_of x) ≡ reaching → may_read (Some L) s k (act_of x) ≡ Ok tt
-may_is L s k (pulls.seeking group) j h away = absurd h
+may_is L s k (model.seeking group) j h away = absurd h
 may_is L s k (comparing group remote) j h away = absurd h
-may_is L s k (pulls.rejecting path) j h away = absurd h
-may_is L s k (pulls.starting c) j h away = cc
-may_is L s k (pulls.reading_manifest c bytes) j h away = refl
-may_is L s k (pulls.reading_file c t name bytes) j h away = refl
-may_is L s k (pulls.opening c t i) j h away = absurd (no_read L (new_index i.layout i.name) away)
-may_is L s k (pulls.reading_chunk c t i e later) j h away = refl
-may_is L s k (pulls.sending_chunk c t i e later bytes) j h away = absurd (no_read L (commands.Chunk e.digest bytes) away)
-may_is L s k (pulls.appending c t i e later) j h away = absurd (no_read L (commands.Append 0 (take_first 4096 (e ∷ later))) away)
-may_is L s k (pulls.closing_index c t i) j h away = absurd (no_read L (commands.CloseIndex 0 (length i.entries) i.size i.csum) away)
-may_is L s k (pulls.sending_blob c t name bytes) j h away = absurd (no_read L (commands.Blob name bytes) away)
-may_is L s k (pulls.sending_manifest c t) j h away = absurd (no_read L (commands.Blob manifest_name t.manifest) away)
-may_is L s k (pulls.finishing c) j h away = cc
-may_is L s k (pulls.aborting first) j h away = cc
+may_is L s k (model.rejecting path) j h away = absurd h
+may_is L s k (model.starting c) j h away = cc
+may_is L s k (model.reading_manifest c bytes) j h away = refl
+may_is L s k (model.reading_file c t name bytes) j h away = refl
+may_is L s k (model.opening c t i) j h away = absurd (no_read L (new_index i.layout i.name) away)
+may_is L s k (model.reading_chunk c t i e later) j h away = refl
+may_is L s k (model.sending_chunk c t i e later bytes) j h away = absurd (no_read L (commands.Chunk e.digest bytes) away)
+may_is L s k (model.appending c t i e later) j h away = absurd (no_read L (commands.Append 0 (take_first 4096 (e ∷ later))) away)
+may_is L s k (model.closing_index c t i) j h away = absurd (no_read L (commands.CloseIndex 0 (length i.entries) i.size i.csum) away)
+may_is L s k (model.sending_blob c t name bytes) j h away = absurd (no_read L (commands.Blob name bytes) away)
+may_is L s k (model.sending_manifest c t) j h away = absurd (no_read L (commands.Blob manifest_name t.manifest) away)
+may_is L s k (model.finishing c) j h away = cc
+may_is L s k (model.aborting first) j h away = cc
 
 no_reply : IsSome (let r : Option Reply = None in r) → ⊥
 no_reply h = cc
 
 -- what the remote has was given
 read_told : (L : List Snapshot) (x : Pulling) (j : Asking) (r : Option Reply) → Shows L x j → class_of (act_of x) ≡ reaching → Reads L (act_of x) r → (y : Reply) × (r ≡ Some y)
-read_told L (pulls.reading_manifest c bytes) j (Some y) h away reads = (y, refl)
-read_told L (pulls.reading_manifest c bytes) j None h away reads = absurd (no_reply reads.0)
-read_told L (pulls.reading_file c t name bytes) j (Some y) h away reads = (y, refl)
-read_told L (pulls.reading_file c t name bytes) j None h away reads = absurd (no_reply reads.0)
-read_told L (pulls.reading_chunk c t i e later) j (Some y) h away reads = (y, refl)
-read_told L (pulls.reading_chunk c t i e later) j None h away reads = absurd (no_reply reads.0)
-read_told L (pulls.seeking group) j r h away reads = absurd h
+read_told L (model.reading_manifest c bytes) j (Some y) h away reads = (y, refl)
+read_told L (model.reading_manifest c bytes) j None h away reads = absurd (no_reply reads.0)
+read_told L (model.reading_file c t name bytes) j (Some y) h away reads = (y, refl)
+read_told L (model.reading_file c t name bytes) j None h away reads = absurd (no_reply reads.0)
+read_told L (model.reading_chunk c t i e later) j (Some y) h away reads = (y, refl)
+read_told L (model.reading_chunk c t i e later) j None h away reads = absurd (no_reply reads.0)
+read_told L (model.seeking group) j r h away reads = absurd h
 read_told L (comparing group remote) j r h away reads = absurd h
-read_told L (pulls.rejecting path) j r h away reads = absurd h
-read_told L (pulls.starting c) j r h away reads = cc
-read_told L (pulls.opening c t i) j r h away reads = absurd (no_read L (new_index i.layout i.name) away)
-read_told L (pulls.sending_chunk c t i e later bytes) j r h away reads = absurd (no_read L (commands.Chunk e.digest bytes) away)
-read_told L (pulls.appending c t i e later) j r h away reads = absurd (no_read L (commands.Append 0 (take_first 4096 (e ∷ later))) away)
-read_told L (pulls.closing_index c t i) j r h away reads = absurd (no_read L (commands.CloseIndex 0 (length i.entries) i.size i.csum) away)
-read_told L (pulls.sending_blob c t name bytes) j r h away reads = absurd (no_read L (commands.Blob name bytes) away)
-read_told L (pulls.sending_manifest c t) j r h away reads = absurd (no_read L (commands.Blob manifest_name t.manifest) away)
-read_told L (pulls.finishing c) j r h away reads = cc
-read_told L (pulls.aborting first) j r h away reads = cc
+read_told L (model.rejecting path) j r h away reads = absurd h
+read_told L (model.starting c) j r h away reads = cc
+read_told L (model.opening c t i) j r h away reads = absurd (no_read L (new_index i.layout i.name) away)
+read_told L (model.sending_chunk c t i e later bytes) j r h away reads = absurd (no_read L (commands.Chunk e.digest bytes) away)
+read_told L (model.appending c t i e later) j r h away reads = absurd (no_read L (commands.Append 0 (take_first 4096 (e ∷ later))) away)
+read_told L (model.closing_index c t i) j r h away reads = absurd (no_read L (commands.CloseIndex 0 (length i.entries) i.size i.csum) away)
+read_told L (model.sending_blob c t name bytes) j r h away reads = absurd (no_read L (commands.Blob name bytes) away)
+read_told L (model.sending_manifest c t) j r h away reads = absurd (no_read L (commands.Blob manifest_name t.manifest) away)
+read_told L (model.finishing c) j r h away reads = cc
+read_told L (model.aborting first) j r h away reads = cc
 
 -- ---- the events
 
@@ -174,7 +187,7 @@ reads_here : (R : Option (List Snapshot)) (L : List Snapshot) (a : Act) (r : Opt
 reads_here R L a r there h = subst (λ (o : Option (List Snapshot)). ReadsIn o a r) there h
 
 module _ (R : Option (List Snapshot)) (w : World) (qs : List Position) (k m : ℕ) (es : List Ending) (later : List Entry)
-    (knows : (at qs k).collecting ≡ open_on k w.collecting) where
+    (knows : sweep_in (at qs k).task ≡ open_on k w.collecting) where
   abbrev q : Position
   q = at qs k
 
@@ -184,34 +197,34 @@ module _ (R : Option (List Snapshot)) (w : World) (qs : List Position) (k m : �
       (q' : Position) × (entered (known es) (run_of R w qs) w.events (noted R w qs k m n) later ≡ Some (run_of R (moved R w k m a (kind_of n)) (slice_set qs k q')))
       × Beside R (moved R w k m a (kind_of n)).store k p' q'
 
-  module _ (p : Position) (x : Pulling) (going : p.pull ≡ Some x) (b : Pulls R p x q) where
+  module _ (p : Position) (x : Pulling) (going : p.task ≡ Some (pulls x)) (b : Pulls R p x q) where
     abbrev L : List Snapshot
     L = b.list
 
     abbrev j : Asking
     j = b.job
 
-    step_next : next_at q ≡ job_step j p.left
-    step_next = ap next_at b.is ∙ next_shown p j b.shut
+    step_next : model_next q ≡ job_step j p.left
+    step_next = ap model_next b.is ∙ next_shown p j
 
-    kept : ArePlain q.job
-    kept = subst ArePlain (sym (ap (λ (y : Position). y.job) b.is)) (at_plain (is_ending x) j (is_at L x j b.shows))
+    kept : ArePlain (job_in q.task)
+    kept = subst ArePlain (sym (ap (λ (y : Position). job_in y.task) b.is)) (at_plain (is_ending x) j (is_at L x j b.shows))
 
-    off : q.collecting ≡ None
-    off = ap (λ (y : Position). y.collecting) b.is ∙ b.shut
+    off : sweep_in q.task ≡ None
+    off = ap (λ (y : Position). sweep_in y.task) b.is
 
     -- both have heard this
     both : (s : Store) (a : Answer) (y : Reply) (job : Job) → a.reply ≡ Some y → ShowsJob L (take x y) job → Beside R s k (heard p a) (gone p (shown p j) a job)
     both s a y job told shows =
-        subst (λ (p' : Position). Beside R s k p' (gone p (shown p j) a job)) (sym (heard_pulled p x a y going told (behind_is L x j p (next_at p) b.shows)))
-        (besides R s k L p j (take x y) job p.left (wants (a.entry).kind p.collecting) (a.last || p.is_spent) b.there b.shut shows)
+        subst (λ (p' : Position). Beside R s k p' (gone p (shown p j) a job)) (sym (heard_pulled p x p.left a y going (pull_is L x j p going b.shows) told))
+        (besides R s k L p j (take x y) job p.left ((a.entry).kind == MEMORY_KIND) (a.last || p.is_spent) b.there shows)
 
     -- the lane is the same
-    gone_lane : (a : Answer) (n : ℕ) (y : Reply) → a.reply ≡ Some y → lane_of (heard_at q n a.reply (next_at q)) ≡ lane_of (gone p (shown p j) a (job_take j y))
+    gone_lane : (a : Answer) (n : ℕ) (y : Reply) → a.reply ≡ Some y → lane_of (heard_at q n a.reply (ahead (model_next q))) ≡ lane_of (gone p (shown p j) a (job_take j y))
     unfolding heard_at
     gone_lane a n y told =
-        ap (λ (r : Option Reply). lane_of (heard_at q n r (next_at q))) told
-        ∙ ap (λ (z : Next). lane_of (heard_at q n (Some y) z)) step_next
+        ap (λ (r : Option Reply). lane_of (heard_at q n r (ahead (model_next q)))) told
+        ∙ ap (λ (z : Next). lane_of (heard_at q n (Some y) (ahead z))) step_next
         ∙ ap (λ (u : Position). lane_of (goes_on u p.left (job_take j y))) b.is
         ∙ flags (job_take j y)
       where
@@ -220,11 +233,11 @@ module _ (R : Option (List Snapshot)) (w : World) (qs : List Position) (k m : �
 
     -- a refusal is heard alike
     refused : (act : Act) (a : Answer) (z : Refusal) → a.reply ≡ Some (Refused z)
-        → Becomes R w qs k m act (kind_of (a.entry).kind) (a.entry).kind a.reply (next_at q) (entered (known es) (run_of R w qs) w.events (noted R w qs k m (a.entry).kind) later)
+        → Becomes R w qs k m act (kind_of (a.entry).kind) (a.entry).kind a.reply (model_next q) (entered (known es) (run_of R w qs) w.events (noted R w qs k m (a.entry).kind) later)
         → Turns act (a.entry).kind (heard p a)
     refused act a z told h = (
       gone p (shown p j) a (job_take j (Refused z)),
-      h ∙ ap Some (same_lane R (moved R w k m act (kind_of (a.entry).kind)) qs k (heard_at q (a.entry).kind a.reply (next_at q)) (gone p (shown p j) a (job_take j (Refused z))) (gone_lane a (a.entry).kind (Refused z) told)),
+      h ∙ ap Some (same_lane R (moved R w k m act (kind_of (a.entry).kind)) qs k (heard_at q (a.entry).kind a.reply (ahead (model_next q))) (gone p (shown p j) a (job_take j (Refused z))) (gone_lane a (a.entry).kind (Refused z) told)),
       both (moved R w k m act (kind_of (a.entry).kind)).store a (Refused z) (job_take j (Refused z)) told (refused_alike L x j z (class_of (act_of x)) refl b.shows),
     )
 
@@ -248,10 +261,10 @@ module _ (R : Option (List Snapshot)) (w : World) (qs : List Position) (k m : �
     stepped a act is local right cut =
         let class : class_of act ≡ stepping = ap class_of is ∙ local in
         let told = step_told act a.reply (kind_of (a.entry).kind) right in
-        let asks : Asks (next_at q) act = subst (λ (z : Next). Asks z act) (sym step_next) (is ∙ asked_alike L x j b.shows local) in (
+        let asks : Asks (ahead (model_next q)) act = subst (λ (z : Next). Asks (ahead z) act) (sym step_next) (is ∙ asked_alike L x j b.shows local) in (
           gone p (shown p j) a (job_take j told.0),
           asked R w qs k m es later knows kept (a.entry).kind act a.reply asks cut (subst (λ c. Right R w k m act a.reply c (kind_of (a.entry).kind)) (sym class) right)
-              ∙ ap Some (same_lane R (moved R w k m act (kind_of (a.entry).kind)) qs k (heard_at q (a.entry).kind a.reply (next_at q)) (gone p (shown p j) a (job_take j told.0)) (gone_lane a (a.entry).kind told.0 told.1)),
+              ∙ ap Some (same_lane R (moved R w k m act (kind_of (a.entry).kind)) qs k (heard_at q (a.entry).kind a.reply (ahead (model_next q))) (gone p (shown p j) a (job_take j told.0)) (gone_lane a (a.entry).kind told.0 told.1)),
           both (moved R w k m act (kind_of (a.entry).kind)).store a told.0 (job_take j told.0) told.1 (taken L x j told.0 b.shows local),
         )
 
@@ -292,21 +305,21 @@ module _ (R : Option (List Snapshot)) (w : World) (qs : List Position) (k m : �
     was_short : (a : Answer) (act : Act) → a.reply ≡ Some (Refused NoMemory) → (a.entry).kind ≡ MEMORY_KIND → Turns act 2 (heard p a)
     unfolding entered
     was_short a act told two =
-        let goes : Goes (next_at q) = subst Goes (sym step_next) tt in
+        let goes : Goes (ahead (model_next q)) = subst (λ (z : Next). Goes (ahead z)) (sym step_next) tt in
         let short_is = ap (λ (z : Next). short (run_of R w qs) k z) (nx R w qs k m es later knows kept)
-        ∙ all_short R w qs k m act (next_at q) a.reply goes (at_next R w qs k m es later knows kept) (plainly R w qs k m es later knows kept) told in
+        ∙ all_short R w qs k m act (model_next q) a.reply (no_job q) goes (at_next R w qs k m es later knows kept) (plainly R w qs k m es later knows kept) told in
         subst (λ n. Turns act n (heard p a)) two
-        (refused act a NoMemory told (subst (λ n. Becomes R w qs k m act (kind_of n) n a.reply (next_at q) (entered (known es) (run_of R w qs) w.events (noted R w qs k m n) later)) (sym two) short_is))
+        (refused act a NoMemory told (subst (λ n. Becomes R w qs k m act (kind_of n) n a.reply (model_next q) (entered (known es) (run_of R w qs) w.events (noted R w qs k m n) later)) (sym two) short_is))
 
     met_fault : (a : Answer) (act : Act) → class_of act ≡ reaching → a.reply ≡ Some (Refused (fault_refusal w.fault)) → (a.entry).kind ≡ FAULT_KIND
         → is_cut_off (run_of R w qs) k (slice_index_or es k endings.Clean) later ≡ false → Turns act 5 (heard p a)
     unfolding entered
     met_fault a act away told five cut =
-        let halts = ap (λ c. halted_on k c w.collecting) away ∙ end_halted R w qs k m (next_at q) (open_is q ∙ off) in
+        let halts = ap (λ c. halted_on k c w.collecting) away ∙ end_halted R w qs k m (model_next q) (open_model q ∙ off) in
         let fault_is = ap (λ (z : Next). Some (faulted (run_of R w qs) k w.events (slice_index_or es k endings.Clean) later z)) (nx R w qs k m es later knows kept)
-        ∙ all_faulted R w qs k m (slice_index_or es k endings.Clean) later act (next_at q) a.reply halts (plainly R w qs k m es later knows kept) cut told in
+        ∙ all_faulted R w qs k m (slice_index_or es k endings.Clean) later act (model_next q) a.reply halts (plainly R w qs k m es later knows kept) cut told in
         subst (λ n. Turns act n (heard p a)) five
-        (refused act a (fault_refusal w.fault) told (subst (λ n. Becomes R w qs k m act (kind_of n) n a.reply (next_at q) (entered (known es) (run_of R w qs) w.events (noted R w qs k m n) later)) (sym five) fault_is))
+        (refused act a (fault_refusal w.fault) told (subst (λ n. Becomes R w qs k m act (kind_of n) n a.reply (model_next q) (entered (known es) (run_of R w qs) w.events (noted R w qs k m n) later)) (sym five) fault_is))
 
     -- by its kind
     read : (n : ℕ) (a : Answer) (act : Act) → (a.entry).kind ≡ n → act ≡ act_of x → class_of (act_of x) ≡ reaching → IsList L → Right R w k m act a.reply reaching (kind_of n)
@@ -338,81 +351,75 @@ module _ (R : Option (List Snapshot)) (w : World) (qs : List Position) (k m : �
 
   -- ---- where the SYNC's command is next still
 
-  module _ (p : Position) (x : Pulling) (going : p.pull ≡ Some x) (b : Waits R w.store k p x q) where
-    wait_next : next_at q ≡ sync b.group b.left
-    unfolding next_at
-    wait_next = ap next_at b.is ∙ b.next
+  module _ (p : Position) (x : Pulling) (going : p.task ≡ Some (pulls x)) (b : Waits R w.store k p x q) where
+    wait_idle : IsIdle q.task
+    wait_idle = subst (λ (y : Position). IsIdle y.task) (sym b.is) (bare_idle p.task)
 
-    wait_off : q.collecting ≡ None
-    wait_off = sym (open_is q) ∙ ap open_at wait_next
+    wait_next : model_next q ≡ sync b.group b.left
+    unfolding next_in
+    wait_next = ap next_in (sym (model_is q wait_idle) ∙ ap next_at b.is ∙ b.next)
 
-    wait_kept : ArePlain q.job
-    wait_kept = idle_plain q.job (sync_idle q b.group b.left wait_next)
+    wait_off : sweep_in q.task ≡ None
+    wait_off = sym (open_model q) ∙ ap (λ (n : Next). open_at (ahead n)) wait_next
+
+    wait_kept : ArePlain (job_in q.task)
+    wait_kept = idle_plain (job_in q.task) (no_job q (subst IsNoStep (sym wait_next) tt))
       where
         idle_plain : (o : Option Asking) → o ≡ None → ArePlain o
         idle_plain None h = tt
         idle_plain (Some y) h = cc
 
-    wait_behind : (y : Pulling) → y ≡ comparing b.group b.remote → behind p y (next_at p) ≡ b.left
-    wait_behind y h = ap (λ (z : Pulling). behind p z (next_at p)) h ∙ ap (behind p (comparing b.group b.remote)) b.next
-
     -- what is heard
     wait_heard : (a : Answer) (y : Reply) → a.reply ≡ Some y
-        → heard p a ≡ record (pulls_on p b.left (take (comparing b.group b.remote) y)) { is_out_of_memory = wants (a.entry).kind p.collecting; is_spent = a.last || p.is_spent }
-    unfolding heard
+        → heard p a ≡ record (pulls_on p b.left (take (comparing b.group b.remote) y)) { is_out_of_memory = (a.entry).kind == MEMORY_KIND; is_spent = a.last || p.is_spent }
     wait_heard a y told =
-        ap (λ (o : Option Pulling). let u = heard_by o p (a.entry).kind a.reply in record u { is_out_of_memory = wants (a.entry).kind p.collecting; is_spent = a.last || u.is_spent }) (going ∙ ap Some b.state)
-        ∙ ap (λ (r : Option Reply). let u = heard_pulling p (comparing b.group b.remote) r in record u { is_out_of_memory = wants (a.entry).kind p.collecting; is_spent = a.last || u.is_spent }) told
-        ∙ ap (λ (left : List ℕ). let u = pulls_on p left (take (comparing b.group b.remote) y) in record u { is_out_of_memory = wants (a.entry).kind p.collecting; is_spent = a.last || u.is_spent }) (wait_behind (comparing b.group b.remote) refl)
-        ∙ ap (λ c. record (pulls_on p b.left (take (comparing b.group b.remote) y)) { is_out_of_memory = wants (a.entry).kind p.collecting; is_spent = a.last || c }) (pulls_spent p b.left (take (comparing b.group b.remote) y))
+        let open_is = going ∙ ap (λ (z : Pulling). Some (pulls z)) b.state in
+        heard_pulled p (comparing b.group b.remote) b.left a y open_is (wait_is p b.group b.group b.left b.remote open_is b.next) told
 
     abbrev waited : Answer → Job → Position
-    waited a job = record (goes_on (bare p) b.left job) { is_out_of_memory = wants (a.entry).kind p.collecting; is_spent = a.last || p.is_spent }
-
-    shut_here : p.collecting ≡ None
-    shut_here = sym (ap (λ (y : Position). y.collecting) b.is) ∙ wait_off
+    waited a job = record (goes_on (bare p) b.left job) { is_out_of_memory = (a.entry).kind == MEMORY_KIND; is_spent = a.last || p.is_spent }
 
     -- both have heard it
     wait_both : (s : Store) (a : Answer) (y : Reply) (job : Job) → a.reply ≡ Some y → ShowsJob b.list (take (comparing b.group b.remote) y) job → Beside R s k (heard p a) (waited a job)
     wait_both s a y job told shows =
         subst (λ (p' : Position). Beside R s k p' (waited a job)) (sym (wait_heard a y told))
-        (beside_bare R s k b.list p (take (comparing b.group b.remote) y) job b.left (wants (a.entry).kind p.collecting) (a.last || p.is_spent) b.there shut_here shows)
+        (beside_bare R s k b.list p (take (comparing b.group b.remote) y) job b.left ((a.entry).kind == MEMORY_KIND) (a.last || p.is_spent) b.there shows)
 
     -- a refusal is told
     wait_refused : (act : Act) (a : Answer) (z : Refusal) → a.reply ≡ Some (Refused z)
-        → Becomes R w qs k m act (kind_of (a.entry).kind) (a.entry).kind a.reply (next_at q) (entered (known es) (run_of R w qs) w.events (noted R w qs k m (a.entry).kind) later)
-        → lane_of (heard_at q (a.entry).kind (Some (Refused z)) (sync b.group b.left)) ≡ lane_of (waited a (over (Refused z)))
+        → Becomes R w qs k m act (kind_of (a.entry).kind) (a.entry).kind a.reply (model_next q) (entered (known es) (run_of R w qs) w.events (noted R w qs k m (a.entry).kind) later)
+        → lane_of (heard_at q (a.entry).kind (Some (Refused z)) (ahead (sync b.group b.left))) ≡ lane_of (waited a (over (Refused z)))
         → Turns act (a.entry).kind (heard p a)
     unfolding take compared
     wait_refused act a z told h same = (
       waited a (over (Refused z)),
-      h ∙ ap Some (same_lane R (moved R w k m act (kind_of (a.entry).kind)) qs k (heard_at q (a.entry).kind a.reply (next_at q)) (waited a (over (Refused z)))
-          (ap (λ (r : Option Reply). lane_of (heard_at q (a.entry).kind r (next_at q))) told ∙ ap (λ (y : Next). lane_of (heard_at q (a.entry).kind (Some (Refused z)) y)) wait_next ∙ same)),
+      h ∙ ap Some (same_lane R (moved R w k m act (kind_of (a.entry).kind)) qs k (heard_at q (a.entry).kind a.reply (ahead (model_next q))) (waited a (over (Refused z)))
+          (ap (λ (r : Option Reply). lane_of (heard_at q (a.entry).kind r (ahead (model_next q)))) told ∙ ap (λ (y : Next). lane_of (heard_at q (a.entry).kind (Some (Refused z)) (ahead y))) wait_next ∙ same)),
       wait_both (moved R w k m act (kind_of (a.entry).kind)).store a (Refused z) (over (Refused z)) told refl,
     )
 
     wait_short : (a : Answer) (act : Act) → a.reply ≡ Some (Refused NoMemory) → (a.entry).kind ≡ MEMORY_KIND → Turns act 2 (heard p a)
     unfolding entered heard_at goes_on
     wait_short a act told two =
-        let goes : Goes (next_at q) = subst Goes (sym wait_next) tt in
+        let goes : Goes (ahead (model_next q)) = subst (λ (z : Next). Goes (ahead z)) (sym wait_next) tt in
         let short_is = ap (λ (z : Next). short (run_of R w qs) k z) (nx R w qs k m es later knows wait_kept)
-        ∙ all_short R w qs k m act (next_at q) a.reply goes (at_next R w qs k m es later knows wait_kept) (plainly R w qs k m es later knows wait_kept) told in
+        ∙ all_short R w qs k m act (model_next q) a.reply (no_job q) goes (at_next R w qs k m es later knows wait_kept) (plainly R w qs k m es later knows wait_kept) told in
         subst (λ n. Turns act n (heard p a)) two
         (wait_refused act a NoMemory told
-        (subst (λ n. Becomes R w qs k m act (kind_of n) n a.reply (next_at q) (entered (known es) (run_of R w qs) w.events (noted R w qs k m n) later)) (sym two) short_is)
-        (ap (λ n. lane_of (heard_at q n (Some (Refused NoMemory)) (sync b.group b.left))) two ∙ ap (λ (u : Position). lane_of (tells u b.left (Refused NoMemory))) b.is))
+        (subst (λ n. Becomes R w qs k m act (kind_of n) n a.reply (model_next q) (entered (known es) (run_of R w qs) w.events (noted R w qs k m n) later)) (sym two) short_is)
+        (ap (λ n. lane_of (heard_at q n (Some (Refused NoMemory)) (ahead (sync b.group b.left)))) two ∙ ap (λ (u : Position). lane_of (tells u b.left (Refused NoMemory))) b.is))
 
     wait_fault : (a : Answer) (act : Act) → class_of act ≡ stepping → a.reply ≡ Some (Refused (fault_refusal w.fault)) → (a.entry).kind ≡ FAULT_KIND
         → is_cut_off (run_of R w qs) k (slice_index_or es k endings.Clean) later ≡ false → Turns act 5 (heard p a)
     unfolding entered heard_at goes_on
     wait_fault a act local told five cut =
-        let halts = ap (λ c. halted_on k c w.collecting) local ∙ end_halted R w qs k m (next_at q) (open_is q ∙ wait_off) in
+        let halts = ap (λ c. halted_on k c w.collecting) local ∙ end_halted R w qs k m (model_next q) (open_model q ∙ wait_off) in
         let fault_is = ap (λ (z : Next). Some (faulted (run_of R w qs) k w.events (slice_index_or es k endings.Clean) later z)) (nx R w qs k m es later knows wait_kept)
-        ∙ all_faulted R w qs k m (slice_index_or es k endings.Clean) later act (next_at q) a.reply halts (plainly R w qs k m es later knows wait_kept) cut told in
+        ∙ all_faulted R w qs k m (slice_index_or es k endings.Clean) later act (model_next q) a.reply halts (plainly R w qs k m es later knows wait_kept) cut told in
         subst (λ n. Turns act n (heard p a)) five
         (wait_refused act a (fault_refusal w.fault) told
-        (subst (λ n. Becomes R w qs k m act (kind_of n) n a.reply (next_at q) (entered (known es) (run_of R w qs) w.events (noted R w qs k m n) later)) (sym five) fault_is)
-        (ap (λ n. lane_of (heard_at q n (Some (Refused (fault_refusal w.fault))) (sync b.group b.left))) five ∙ ap (λ (u : Position). lane_of (tells u b.left (Refused (fault_refusal w.fault)))) b.is))
+        (subst (λ n. Becomes R w qs k m act (kind_of n) n a.reply (model_next q) (entered (known es) (run_of R w qs) w.events (noted R w qs k m n) later)) (sym five) fault_is)
+        (ap (λ n. lane_of (heard_at q n (Some (Refused (fault_refusal w.fault))) (ahead (sync b.group b.left)))) five ∙ ap (λ (u : Position). lane_of (tells u b.left (Refused (fault_refusal w.fault)))) b.is))
 
     -- the group that is here was told: what is later on the remote is pulled
     abbrev here : List Snapshot
@@ -437,8 +444,8 @@ module _ (R : Option (List Snapshot)) (w : World) (qs : List Position) (k m : �
     unfolding take compared
     compared_here list named =
         let fine : All (λ y. IsKey y.key) b.list = All-weaker IsSnapshot (λ y. IsKey y.key) (λ y h. h.key) b.list list.each in
-        subst (λ xs. ShowsJob b.list (pulls.next_snapshot [] xs) (job_next_snapshot [] later_there))
-        (sym (ap (filter (pulls.is_later (pulls.newest_in (group_texts b.key here)))) b.texts ∙ pulled_same b.key here b.list named.snapshots fine))
+        subst (λ xs. ShowsJob b.list (model.next_snapshot [] xs) (job_next_snapshot [] later_there))
+        (sym (ap (filter (model.is_later (model.newest_in (group_texts b.key here)))) b.texts ∙ pulled_same b.key here b.list named.snapshots fine))
         (shows_snapshots b.list [] later_there
         (All-filter (job_later (last_or None (take_first group_limit (keys_in b.key here)))) (Contains b.list) (in_group b.key b.list)
         (All-filter (λ y. same_group (group_of_key y.key) b.key) (Contains b.list) b.list (All-contains_itself b.list))))
@@ -492,36 +499,42 @@ module _ (R : Option (List Snapshot)) (w : World) (qs : List Position) (k m : �
   list_of : (o : Option (List Snapshot)) (L : List Snapshot) → o ≡ Some L → IsRemote o → IsList L
   list_of o L is h = subst IsRemote is h
 
-  module _ (p : Position) (x : Pulling) (going : p.pull ≡ Some x) (remote : IsRemote R) (named : HasKeys w.store) where
-    asks_by : (n : Next) (a : Act) → AsksBy p.pull n a → a ≡ act_of x
-    asks_by n a h = (subst (λ (o : Option Pulling). AsksBy o n a) going h).0
+  module _ (p : Position) (x : Pulling) (going : p.task ≡ Some (pulls x)) (remote : IsRemote R) (named : HasKeys w.store) where
+    asks_by : (a : Act) → Asks (next_at p) a → a ≡ act_of x
+    unfolding next_at
+    asks_by a h = by_pull x p.left (front_next (p.size - length p.left) (front p.left)) (subst (λ (t : Option Task). Asks (ahead_by t (p.size - length p.left) p.left) a) going h)
+      where
+        by_pull : (y : Pulling) (left : List ℕ) (n : Next) → Asks (pull_ahead y left n) a → a ≡ act_of y
+        by_pull (comparing group remote) left (sync name behind) h = h
+        by_pull (comparing group remote) left n h = absurd h
+        by_pull y left n h = h
 
     pulled_by : (c : Class) (e : Ending) (v : Event) (vs : List Event) (b : Pulls R p x (at qs k)) → c ≡ class_of v.act → Does c e p v vs → Right R w k m v.act (reply v) c (kind_of (kind v))
         → (kind v ≡ FAULT_KIND → is_cut_off (run_of R w qs) k (slice_index_or es k endings.Clean) later ≡ false) → Turns v.act (kind v) (heard_as c e p v.answer)
     pulled_by stepping e v vs b class does right cut =
-        let is = asks_by (next_at p) v.act does.1 in stepped p x going b v.answer v.act is (sym (ap class_of is) ∙ sym class) right cut
+        let is = asks_by v.act does.1 in stepped p x going b v.answer v.act is (sym (ap class_of is) ∙ sym class) right cut
     pulled_by reaching e v vs b class does right cut =
-        let is = asks_by (next_at p) v.act does.1 in
+        let is = asks_by v.act does.1 in
         read p x going b (kind v) v.answer v.act refl is (sym (ap class_of is) ∙ sym class) (list_of R b.list b.there remote) right cut
     pulled_by wanting e v vs b class does right cut = want p x going b (kind v) v.answer v.act refl right
-    pulled_by starting e v vs b class does right cut = absurd (asks_no_other x (subst IsOther (class ∙ ap class_of (asks_by (next_at p) v.act does.1)) tt))
-    pulled_by sweeping e v vs b class does right cut = absurd (asks_no_other x (subst IsOther (class ∙ ap class_of (asks_by (next_at p) v.act does)) tt))
-    pulled_by ending e v vs b class does right cut = cc
+    pulled_by starting e v vs b class does right cut = absurd (asks_no_other x (subst IsOther (class ∙ ap class_of (asks_by v.act does.1)) tt))
+    pulled_by sweeping e v vs b class does right cut = absurd (asks_no_other x (subst IsOther (class ∙ ap class_of (asks_by v.act does)) tt))
+    pulled_by ending e v vs b class does right cut = absurd (subst IsShut going does.2)
 
     waited_by : (c : Class) (e : Ending) (v : Event) (vs : List Event) (b : Waits R w.store k p x (at qs k)) → c ≡ class_of v.act → Does c e p v vs → Right R w k m v.act (reply v) c (kind_of (kind v))
         → (kind v ≡ FAULT_KIND → is_cut_off (run_of R w qs) k (slice_index_or es k endings.Clean) later ≡ false) → Turns v.act (kind v) (heard_as c e p v.answer)
     waited_by stepping e v vs b class does right cut =
-        let is : v.act ≡ acts.Plain (commands.Group b.group) = asks_by (next_at p) v.act does.1 ∙ ap act_of b.state in
+        let is : v.act ≡ acts.Plain (commands.Group b.group) = asks_by v.act does.1 ∙ ap act_of b.state in
         subst (λ a. Turns a (kind v) (heard p v.answer)) (sym is)
         (wait_step p x going b (kind v) v.answer refl (list_of R b.list b.there remote) named (subst (λ a. Right R w k m a (reply v) stepping (kind_of (kind v))) is right) cut)
     waited_by wanting e v vs b class does right cut = wait_want p x going b (kind v) v.answer v.act refl right
-    waited_by reaching e v vs b class does right cut = absurd (group_steps (class ∙ ap class_of (asks_by (next_at p) v.act does.1 ∙ ap act_of b.state)))
+    waited_by reaching e v vs b class does right cut = absurd (group_steps (class ∙ ap class_of (asks_by v.act does.1 ∙ ap act_of b.state)))
       where
         group_steps : (let c : Class = reaching in c) ≡ stepping → ⊥
         group_steps h = cc
-    waited_by starting e v vs b class does right cut = absurd (asks_no_other x (subst IsOther (class ∙ ap class_of (asks_by (next_at p) v.act does.1)) tt))
-    waited_by sweeping e v vs b class does right cut = absurd (asks_no_other x (subst IsOther (class ∙ ap class_of (asks_by (next_at p) v.act does)) tt))
-    waited_by ending e v vs b class does right cut = cc
+    waited_by starting e v vs b class does right cut = absurd (asks_no_other x (subst IsOther (class ∙ ap class_of (asks_by v.act does.1)) tt))
+    waited_by sweeping e v vs b class does right cut = absurd (asks_no_other x (subst IsOther (class ∙ ap class_of (asks_by v.act does)) tt))
+    waited_by ending e v vs b class does right cut = absurd (subst IsShut going does.2)
 
     -- an event of a lane whose SYNC is open
     pub reached : (c : Class) (e : Ending) (v : Event) (vs : List Event) → BesideBy R w.store k p (Some x) (at qs k) → c ≡ class_of v.act → Does c e p v vs → Right R w k m v.act (reply v) c (kind_of (kind v))
@@ -532,9 +545,9 @@ module _ (R : Option (List Snapshot)) (w : World) (qs : List Position) (k m : �
   -- ---- where none is open
 
   -- a SYNC opens by what the remote tells of its group
-  module _ (p : Position) (idle : p.pull ≡ None) (same : at qs k ≡ p) (remote : IsRemote R) where
-    pub begun_here : (v : Event) (group left : List ℕ) (r : Option Reply) (n : ℕ) → next_at p ≡ sync group left → Right R w k m (acts.RemoteList (commands.Sync group)) r reaching (kind_of n) → n ≡ 1
-        → (is_out_of_memory is_spent : Bool) → (let p' : Position = record (heard_at p n r (sync group left)) { is_out_of_memory = is_out_of_memory; is_spent = is_spent } in BesideBy R w.store k p' p'.pull (bare p'))
+  module _ (p : Position) (idle : IsIdle p.task) (same : at qs k ≡ p) (remote : IsRemote R) where
+    pub begun_here : (v : Event) (group left : List ℕ) (r : Option Reply) (n : ℕ) → next_at p ≡ ahead (sync group left) → Right R w k m (acts.RemoteList (commands.Sync group)) r reaching (kind_of n) → n ≡ 1
+        → (is_out_of_memory is_spent : Bool) → (let p' : Position = record (heard_at p n r (ahead (sync group left))) { is_out_of_memory = is_out_of_memory; is_spent = is_spent } in BesideBy R w.store k p' (pull_in p'.task) (bare p'))
     unfolding to_pull heard_at pulls_on sought next_at
     begun_here v group left r n next right one is_out_of_memory is_spent =
         let h = subst (λ i. Right R w k m (acts.RemoteList (commands.Sync group)) r reaching (kind_of i)) one right in
@@ -544,20 +557,20 @@ module _ (R : Option (List Snapshot)) (w : World) (qs : List Position) (k m : �
         let fine = list_of R list (tests.2).1 remote in
         let told : r ≡ Some (Keys (group_texts key list)) =
         subst (λ (o : Option GroupKey). IfSome o (λ g. r ≡ Some (Keys (group_texts g list)))) (tests.1).1 (reads_here R list (acts.RemoteList (commands.Sync group)) r (tests.2).1 h.2) in
-        let texts : filter pulls.is_key (group_texts key list) ≡ texts_of (in_group key list) =
-        ap (filter pulls.is_key) (remote_texts key list (fine.groups key))
+        let texts : filter model.is_key (group_texts key list) ≡ texts_of (in_group key list) =
+        ap (filter model.is_key) (remote_texts key list (fine.groups key))
         ∙ all_keys (in_group key list) (All-filter (λ y. same_group (group_of_key y.key) key) (λ y. IsKey y.key) list (All-weaker IsSnapshot (λ y. IsKey y.key) (λ y g. g.key) list fine.each)) in
-        subst (λ i. let p' : Position = record (heard_at p i r (sync group left)) { is_out_of_memory = is_out_of_memory; is_spent = is_spent } in BesideBy R w.store k p' p'.pull (bare p')) (sym one)
-        (subst (λ (o : Option Reply). let p' : Position = record (heard_at p 1 o (sync group left)) { is_out_of_memory = is_out_of_memory; is_spent = is_spent } in BesideBy R w.store k p' p'.pull (bare p')) (sym told)
+        subst (λ i. let p' : Position = record (heard_at p i r (ahead (sync group left))) { is_out_of_memory = is_out_of_memory; is_spent = is_spent } in BesideBy R w.store k p' (pull_in p'.task) (bare p')) (sym one)
+        (subst (λ (o : Option Reply). let p' : Position = record (heard_at p 1 o (ahead (sync group left))) { is_out_of_memory = is_out_of_memory; is_spent = is_spent } in BesideBy R w.store k p' (pull_in p'.task) (bare p')) (sym told)
         (inl (record {
           group = group;
-          remote = filter pulls.is_key (group_texts key list);
+          remote = filter model.is_key (group_texts key list);
           left = left;
           key = key;
           list = list;
           state = refl;
           is = refl;
-          next = next;
+          next = front_sync p.task (p.size - length p.left) p.left group left idle next;
           there = (tests.2).1;
           named = (tests.1).1;
           texts = texts;

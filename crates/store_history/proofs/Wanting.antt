@@ -13,8 +13,8 @@ use Rattle.wire_commands.specs.Fields as fields
 use Rattle.wire_commands.specs.CommandText.{nothing_more, one_text, text_and_offset, new_fixed, chunk, entry_at, append, close_index, blob, get_chunk, range, keep_at, prune, fields_of, command_of}
 use Rattle.wire_commands.specs.Inputs.{front, cut_front, body_front}
 use Rattle.store_model.specs.Job.{Asking}
-use Rattle.store_model.specs.Lanes.{Next, job_step, collecting, bye, end, front_next, command_next, lane_next}
-use Rattle.store_history.specs.LaneRun.{Position, next_at, may_want, is_stopping, job_may_want, pull_may_want, may_want_at, pull_stops, may_step}
+use Rattle.store_model.specs.Lanes.{Next, bye, end, front_next, command_next}
+use Rattle.store_history.specs.LaneRun.{Task, steps, pulls, sweeps, Ahead, ahead, ahead_by, Position, next_at, may_want, is_stopping, stops, wants_by, may_want_at, may_step, IsIdle}
 use Rattle.store_history.specs.Pulling.{Pulling, is_ending}
 
 -- ---- a body of at least two bytes is no BYE
@@ -96,29 +96,29 @@ body_not_bye (b ∷ bytes) two =
 -- ---- what is next
 
 -- neither BYE nor the end of the input is next
-abbrev pub Goes : Next → Type 0
-Goes bye = ⊥
-Goes end = ⊥
+abbrev pub Goes : Ahead → Type 0
+Goes (ahead bye) = ⊥
+Goes (ahead end) = ⊥
 Goes n = Unit {0}
 
-body_goes : (m : ℕ) (o : Option Command) (rest : List ℕ) → IsNotBye o → Goes (front_next m (body_front o rest))
+body_goes : (m : ℕ) (o : Option Command) (rest : List ℕ) → IsNotBye o → Goes (ahead (front_next m (body_front o rest)))
 unfolding IsNotBye front_next command_next
 body_goes m None rest h = tt
 body_goes m (Some commands.Bye) rest h = h
 body_goes m (Some c) rest h = tt
 
-behind_goes : (m n : ℕ) (bytes : List ℕ) → 2 ≤ n → Goes (front_next m (cut_front (cut_body n bytes)))
+behind_goes : (m n : ℕ) (bytes : List ℕ) → 2 ≤ n → Goes (ahead (front_next m (cut_front (cut_body n bytes))))
 unfolding front_next
 behind_goes m n bytes two = by_limit (nat_lt body_limit n)
   where
-    by_length : (b : Bool) → nat_lt (length bytes) n ≡ b → Goes (front_next m (cut_front (if b then short else whole (take n bytes) (drop n bytes))))
+    by_length : (b : Bool) → nat_lt (length bytes) n ≡ b → Goes (ahead (front_next m (cut_front (if b then short else whole (take n bytes) (drop n bytes)))))
     by_length true is = tt
     by_length false is =
         let held : n ≤ length bytes = ltb-false (length bytes) n is in
         let whole_body : 2 ≤ length (take n bytes) = simp length-take (omega arith) in
         body_goes m (command_of (take n bytes)) (drop n bytes) (body_not_bye (take n bytes) whole_body)
 
-    by_limit : (b : Bool) → Goes (front_next m (cut_front (if b then too_long n else if nat_lt (length bytes) n then short else whole (take n bytes) (drop n bytes))))
+    by_limit : (b : Bool) → Goes (ahead (front_next m (cut_front (if b then too_long n else if nat_lt (length bytes) n then short else whole (take n bytes) (drop n bytes)))))
     by_limit true = tt
     by_limit false = by_length (nat_lt (length bytes) n) refl
 
@@ -127,63 +127,39 @@ both true true h = (refl, refl)
 both true false h = cc
 both false b h = cc
 
-front_goes : (m : ℕ) (left : List ℕ) → may_want left ≡ true → Goes (front_next m (front left))
+front_goes : (m : ℕ) (left : List ℕ) → may_want left ≡ true → Goes (ahead (front_next m (front left)))
 unfolding may_want front cut
 front_goes m [] h = cc
 front_goes m (b ∷ bytes) h =
     let tests = both (nat_le 4 (length (b ∷ bytes))) (nat_le 2 (from_le_bytes w32 (take 4 (b ∷ bytes)))) h in
     let held : nat_lt (length (b ∷ bytes)) 4 ≡ false = grind (arith, nat_tests) in
     let two : 2 ≤ from_le_bytes w32 (take 4 (b ∷ bytes)) = grind (arith, nat_tests) in
-    subst (λ t. Goes (front_next m (cut_front (if t then short else cut_body (from_le_bytes w32 (take 4 (b ∷ bytes))) (drop 4 (b ∷ bytes)))))) (sym held)
+    subst (λ t. Goes (ahead (front_next m (cut_front (if t then short else cut_body (from_le_bytes w32 (take 4 (b ∷ bytes))) (drop 4 (b ∷ bytes))))))) (sym held)
     (behind_goes m (from_le_bytes w32 (take 4 (b ∷ bytes))) (drop 4 (b ∷ bytes)) two)
 
--- where no SYNC is open
-idle_want : (p : Position) → p.pull ≡ None → may_want_at p ≡ (is_none p.collecting && job_may_want p.job p.left)
-unfolding may_want_at
-idle_want p idle = ap (λ (o : Option Pulling). is_none p.collecting && pull_may_want o p.job p.left) idle
-
-pub want_goes : (p : Position) → p.pull ≡ None → may_want_at p ≡ true → Goes (next_at p)
-unfolding next_at lane_next
-want_goes p idle h = by_collecting p.collecting (sym (idle_want p idle) ∙ h)
+pub want_goes : (p : Position) → IsIdle p.task → may_want_at p ≡ true → Goes (next_at p)
+unfolding next_at
+want_goes p idle h = by_task p.task idle h
   where
-    by_job : (o : Option Asking) → job_may_want o p.left ≡ true
-        → Goes (elim o [ None ↦ front_next (p.size - length p.left) (front p.left) | Some j ↦ job_step j p.left ])
-    by_job None h = front_goes (p.size - length p.left) p.left h
-    by_job (Some j) h = tt
-
-    by_collecting : (c : Option Bool) → (is_none c && job_may_want p.job p.left) ≡ true
-        → Goes (elim c [
-          | None ↦ elim p.job [ None ↦ front_next (p.size - length p.left) (front p.left) | Some j ↦ job_step j p.left ]
-          | Some is_out_of_memory ↦ collecting is_out_of_memory
-        ])
-    by_collecting None h = by_job p.job h
-    by_collecting (Some is_out_of_memory) h = tt
-
--- and the lane's collector is not open
-pub want_shut : (p : Position) → may_want_at p ≡ true → p.collecting ≡ None
-unfolding may_want_at
-want_shut p h = by_collecting p.collecting h
-  where
-    by_collecting : (c : Option Bool) → (is_none c && pull_may_want p.pull p.job p.left) ≡ true → c ≡ None
-    by_collecting None h = refl
-    by_collecting (Some is_out_of_memory) h = cc
+    by_task : (t : Option Task) → IsIdle t → wants_by t p.left ≡ true → Goes (ahead_by t (p.size - length p.left) p.left)
+    by_task None idle h = front_goes (p.size - length p.left) p.left h
+    by_task (Some (steps j)) idle h = tt
+    by_task (Some (pulls x)) idle h = absurd idle
+    by_task (Some (sweeps b)) idle h = tt
 
 -- where it may be wanting for a frame
-pub wants_frame : (p : Position) → p.pull ≡ None → p.collecting ≡ None → p.job ≡ None → may_want p.left ≡ true → may_want_at p ≡ true
-wants_frame p idle shut off may = idle_want p idle ∙ ap (λ c. is_none c && job_may_want p.job p.left) shut ∙ ap (λ o. job_may_want o p.left) off ∙ may
+pub wants_frame : (p : Position) → p.task ≡ None → may_want p.left ≡ true → may_want_at p ≡ true
+wants_frame p off may = ap (λ (t : Option Task). wants_by t p.left) off ∙ may
 
--- and where a job is open that goes on
-pub wants_open : (p : Position) (j : Asking) → p.pull ≡ None → p.collecting ≡ None → p.job ≡ Some j → is_stopping j ≡ false → may_want_at p ≡ true
-wants_open p j idle shut is on = idle_want p idle ∙ ap (λ c. is_none c && job_may_want p.job p.left) shut ∙ ap (λ o. job_may_want o p.left) is ∙ ap not on
+-- and where a job or a SYNC is open that goes on
+pub wants_open : (p : Position) (j : Asking) → p.task ≡ Some (steps j) → is_stopping j ≡ false → may_want_at p ≡ true
+wants_open p j is on = ap (λ (t : Option Task). wants_by t p.left) is ∙ ap not on
 
--- and where a SYNC is open that is not ending its writer
-pub wants_pulling : (p : Position) (x : Pulling) → p.collecting ≡ None → p.pull ≡ Some x → is_ending x ≡ false → may_want_at p ≡ true
-unfolding may_want_at
-wants_pulling p x shut is on =
-    ap (λ c. is_none c && pull_may_want p.pull p.job p.left) shut ∙ ap (λ (o : Option Pulling). pull_may_want o p.job p.left) is ∙ ap not on
+pub wants_pulling : (p : Position) (x : Pulling) → p.task ≡ Some (pulls x) → is_ending x ≡ false → may_want_at p ≡ true
+wants_pulling p x is on = ap (λ (t : Option Task). wants_by t p.left) is ∙ ap not on
 
 -- ---- a step
 
 -- it may come where no answer was the last
-pub steps_on : (p : Position) → p.is_spent ≡ false → may_step p ≡ true
-steps_on p on = ap (λ b. not b || pull_stops p.pull p.job) on
+pub may_on : (p : Position) → p.is_spent ≡ false → may_step p ≡ true
+may_on p on = ap (λ b. not b || stops p.task) on

@@ -7,12 +7,13 @@ use Rattle.wire_frames.specs.Frames.{frame, short, cut}
 use Rattle.wire_commands.specs.declared.command.Command.TheVariants as commands
 use Rattle.wire_commands.specs.declared.reply.Reply.{Reply}
 use Rattle.wire_commands.specs.declared.reply.Reply.TheVariants.{Done, Collected, Refused}
+use Rattle.wire_commands.specs.Inputs.{front}
 use Rattle.wire_commands.specs.ReplyText.{reply_text}
 use Rattle.store_model.specs.declared.ending.Ending.{Ending}
 use Rattle.store_model.specs.declared.ending.Ending.TheVariants as endings
 use Rattle.store_model.specs.Job.{Asking, closing, aborting, step_of, Job, over, asking}
 use Rattle.store_model.specs.Jobs.{take as job_take}
-use Rattle.store_model.specs.Lanes.{Lane, Next, job_step, plain, sync, collect, collecting, bye, broken, end, lane_next}
+use Rattle.store_model.specs.Lanes.{Lane, Next, job_step, plain, sync, collect, collecting, bye, broken, end, front_next}
 use Rattle.store_model.specs.Weave.{is_replied}
 use Rattle.store_history.specs.declared.act.Act.{Act}
 use Rattle.store_history.specs.declared.act.Act.TheVariants as acts
@@ -39,15 +40,18 @@ plain_text told = text (map blank told)
 
 -- ---- where a lane is
 
--- The input's size and what is left of it; the job that is open, and a SYNC's; where the lane's collector is open, whether memory was wanting
--- since it opened; whether want of memory was the last that was told, or is to be; whether it ended the lane, so that only the lane's end may come,
--- behind that of its collector or of its job's session; what was told; whether the lane is over.
+-- what is open on a lane: a job, a SYNC, or the lane's collector, and whether memory was wanting since it opened
+pub data Task : Type 0 where
+  steps : Asking → Task
+  pulls : Pulling → Task
+  sweeps : Bool → Task
+
+-- The input's size and what is left of it; what is open; whether want of memory was the last that was told, or is to be; whether it ended the
+-- lane, so that only the lane's end may come, behind that of its collector or of its job's session; what was told; whether the lane is over.
 pub record Position : Type 0 where
   pub size : ℕ
   pub left : List ℕ
-  pub job : Option Asking
-  pub pull : Option Pulling
-  pub collecting : Option Bool
+  pub task : Option Task
   pub is_out_of_memory : Bool
   pub is_spent : Bool
   pub told : List Reply
@@ -57,38 +61,57 @@ abbrev pub begin : List ℕ → Position
 begin input = record {
   size = length input;
   left = input;
-  job = None;
-  pull = None;
-  collecting = None;
+  task = None;
   is_out_of_memory = false;
   is_spent = false;
   told = [];
   is_over = false;
 }
 
+abbrev pub job_in : Option Task → Option Asking
+job_in (Some (steps j)) = Some j
+job_in t = None
+
 -- the lane as `weave` has it, where no SYNC is open
 abbrev pub lane_of : Position → Lane
-lane_of p = record { size = p.size; left = p.left; job = p.job; told = plain_text p.told }
+lane_of p = record { size = p.size; left = p.left; job = job_in p.task; told = plain_text p.told }
 
--- the lane's collector goes on before its input does
-unfoldable pub next_at : Position → Next
-next_at p = elim p.collecting [ None ↦ lane_next (lane_of p) | Some is_out_of_memory ↦ collecting is_out_of_memory ]
+-- what is next on a lane: as `weave` has it, or what an open SYNC asks, and what is left behind it
+pub data Ahead : Type 0 where
+  ahead : Next → Ahead
+  pull : Pulling → List ℕ → Ahead
+
+-- until its first step a SYNC's command is next in the input
+abbrev pub pull_ahead : Pulling → List ℕ → Next → Ahead
+pull_ahead (comparing group remote) left (sync name behind) = pull (comparing group remote) behind
+pull_ahead (comparing group remote) left n = ahead end
+pull_ahead x left n = pull x left
+
+-- what is open goes on before the input does
+abbrev pub ahead_by : Option Task → ℕ → List ℕ → Ahead
+ahead_by None offset left = ahead (front_next offset (front left))
+ahead_by (Some (steps j)) offset left = ahead (job_step j left)
+ahead_by (Some (pulls x)) offset left = pull_ahead x left (front_next offset (front left))
+ahead_by (Some (sweeps is_out_of_memory)) offset left = ahead (collecting is_out_of_memory)
+
+unfoldable pub next_at : Position → Ahead
+next_at p = ahead_by p.task (p.size - length p.left) p.left
 
 -- ---- after an answer
 
--- a reply, with this left of the input and no job open
+-- a reply, with this left of the input and nothing open
 abbrev pub tells : Position → List ℕ → Reply → Position
-tells p left r = record p { left = left; job = None; pull = None; told = p.told ++ r ∷ [] }
+tells p left r = record p { left = left; task = None; told = p.told ++ r ∷ [] }
 
 -- the job is over and reports, or goes on
 unfoldable pub goes_on : Position → List ℕ → Job → Position
 goes_on p left (over report) = tells p left report
-goes_on p left (asking j) = record p { left = left; job = Some j }
+goes_on p left (asking j) = record p { left = left; task = Some (steps j) }
 
 -- a SYNC goes on, or reports
 unfoldable pub pulls_on : Position → List ℕ → SyncJob → Position
 pulls_on p left (reports report) = tells p left report
-pulls_on p left (asks x) = record p { left = left; pull = Some x }
+pulls_on p left (asks x) = record p { left = left; task = Some (pulls x) }
 
 -- what is no command is used up, with the rest of the input
 abbrev pub used_up : Position → Reply → Position
@@ -96,52 +119,39 @@ used_up p r = record (tells p [] r) { is_spent = true }
 
 -- want of memory ends the collector with its next act; any other reply has ended it
 abbrev pub swept : Position → ℕ → Reply → Position
-swept p kind r = if kind == MEMORY_KIND then record p { collecting = Some true } else tells (record p { collecting = None }) p.left r
+swept p kind r = if kind == MEMORY_KIND then record p { task = Some (sweeps true) } else tells p p.left r
 
-unfoldable pub heard_at : Position → ℕ → Option Reply → Next → Position
-heard_at p kind (Some r) (job_step j left) = goes_on p left (job_take j r)
-heard_at p kind (Some r) (plain c left) = tells p left r
-heard_at p kind (Some r) (sync group left) = if kind == PART_KIND then pulls_on p p.left (sought group r) else tells p left r
-heard_at p kind (Some r) (collect left) = tells p left r
-heard_at p kind None (collect left) = if kind == START_KIND then record p { left = left; collecting = Some false } else p
-heard_at p kind (Some r) (collecting is_out_of_memory) = swept p kind r
-heard_at p kind (Some r) (broken refusal) = if kind == MEMORY_KIND then used_up p r else p
+unfoldable pub heard_at : Position → ℕ → Option Reply → Ahead → Position
+heard_at p kind (Some r) (ahead (job_step j left)) = goes_on p left (job_take j r)
+heard_at p kind (Some r) (ahead (plain c left)) = tells p left r
+heard_at p kind (Some r) (ahead (sync group left)) = if kind == PART_KIND then pulls_on p p.left (sought group r) else tells p left r
+heard_at p kind (Some r) (ahead (collect left)) = tells p left r
+heard_at p kind None (ahead (collect left)) = if kind == START_KIND then record p { left = left; task = Some (sweeps false) } else p
+heard_at p kind (Some r) (ahead (collecting is_out_of_memory)) = swept p kind r
+heard_at p kind (Some r) (ahead (broken refusal)) = if kind == MEMORY_KIND then used_up p r else p
+heard_at p kind (Some r) (pull x left) = pulls_on p left (pull_take x r)
 heard_at p kind _ _ = p
 
 -- want of memory was the answer, or ended the collector
-abbrev pub wants : ℕ → Option Bool → Bool
-wants kind (Some true) = true
+abbrev pub wants : ℕ → Option Task → Bool
+wants kind (Some (sweeps true)) = true
 wants kind _ = kind == MEMORY_KIND
-
--- what is left behind the SYNC's command
-abbrev pub behind : Position → Pulling → Next → List ℕ
-behind p (comparing group remote) (sync name left) = left
-behind p x n = p.left
-
-abbrev pub heard_pulling : Position → Pulling → Option Reply → Position
-heard_pulling p x (Some r) = pulls_on p (behind p x (next_at p)) (pull_take x r)
-heard_pulling p x None = p
-
--- a SYNC that is open hears it, or what is next
-abbrev pub heard_by : Option Pulling → Position → ℕ → Option Reply → Position
-heard_by None p kind r = heard_at p kind r (next_at p)
-heard_by (Some x) p kind r = heard_pulling p x r
 
 -- an answer whose entry was the reserve's is the last but for the end of the collector or of a job's session, and that of the lane
 unfoldable pub heard : Position → Answer → Position
 heard p a =
-    let q = heard_by p.pull p (a.entry).kind a.reply in
-    record q { is_out_of_memory = wants (a.entry).kind p.collecting; is_spent = a.last || q.is_spent }
+    let q = heard_at p (a.entry).kind a.reply (next_at p) in
+    record q { is_out_of_memory = wants (a.entry).kind p.task; is_spent = a.last || q.is_spent }
 
 -- The lane's end. Its reply is that of BYE, or of what is no command.
-unfoldable pub last_words : Ending → Position → Next → Position
-last_words e p bye = if is_replied e then tells p [] Done else p
-last_words e p (broken refusal) = if is_replied e then tells p [] (Refused refusal) else p
+unfoldable pub last_words : Ending → Position → Ahead → Position
+last_words e p (ahead bye) = if is_replied e then tells p [] Done else p
+last_words e p (ahead (broken refusal)) = if is_replied e then tells p [] (Refused refusal) else p
 last_words e p _ = p
 
 -- An end that met a fault is not told, but that where the sink failed, or a job is open, it counts as what is next.
 abbrev pub end_faulted : Ending → Position → Option Reply → Position
-end_faulted endings.NoMemory p r = if is_none p.job then p else heard_at p 5 r (next_at p)
+end_faulted endings.NoMemory p r = if is_none (job_in p.task) then p else heard_at p 5 r (next_at p)
 end_faulted _ p r = heard_at p 5 r (next_at p)
 
 abbrev pub end_heard : Ending → Position → ℕ → Option Reply → Position
@@ -158,24 +168,14 @@ position_after e p v = heard_as (class_of v.act) e p v.answer
 -- ---- which acts the program makes
 
 -- the act for what is next
-abbrev pub Asks : Next → Act → Type 0
-Asks (job_step j left) a = a ≡ act_of_step (step_of j)
-Asks (plain c left) a = a ≡ act_of_command c
-Asks (sync group left) a = a ≡ acts.RemoteList (commands.Sync group)
-Asks (collect left) a = a ≡ acts.Start
-Asks (collecting is_out_of_memory) a = a ≡ acts.Step
+abbrev pub Asks : Ahead → Act → Type 0
+Asks (ahead (job_step j left)) a = a ≡ act_of_step (step_of j)
+Asks (ahead (plain c left)) a = a ≡ act_of_command c
+Asks (ahead (sync group left)) a = a ≡ acts.RemoteList (commands.Sync group)
+Asks (ahead (collect left)) a = a ≡ acts.Start
+Asks (ahead (collecting is_out_of_memory)) a = a ≡ acts.Step
+Asks (pull x left) a = a ≡ act_of x
 Asks _ a = ⊥
-
--- until its first step a SYNC's command is next in the input
-abbrev pub is_behind : Pulling → Next → Bool
-is_behind (comparing group remote) (sync name left) = true
-is_behind (comparing group remote) n = false
-is_behind x n = true
-
--- of a SYNC that is open what it asks
-abbrev pub AsksBy : Option Pulling → Next → Act → Type 0
-AsksBy None n a = Asks n a
-AsksBy (Some x) n a = (a ≡ act_of x) × (is_behind x n ≡ true)
 
 -- Memory may be wanting for a frame whose length is known and at least 2. A lane holds the first five bytes of a frame
 -- without memory, so it never wants any for BYE or for the end of the input.
@@ -188,43 +188,36 @@ is_stopping (closing (Refused refusal)) = true
 is_stopping (aborting report) = true
 is_stopping j = false
 
--- so while a job is open memory may be wanting at any other step
-abbrev pub job_may_want : Option Asking → List ℕ → Bool
-job_may_want None left = may_want left
-job_may_want (Some j) left = not (is_stopping j)
+-- what is open closes its session next, behind a refusal
+abbrev pub stops : Option Task → Bool
+stops (Some (steps j)) = is_stopping j
+stops (Some (pulls x)) = is_ending x
+stops t = false
 
--- and while a SYNC is open
-abbrev pub pull_may_want : Option Pulling → Option Asking → List ℕ → Bool
-pull_may_want None job left = job_may_want job left
-pull_may_want (Some x) job left = not (is_ending x)
+-- So while a job is open memory may be wanting at any other step, and while the lane's collector is open only within its acts.
+abbrev pub wants_by : Option Task → List ℕ → Bool
+wants_by None left = may_want left
+wants_by (Some (sweeps is_out_of_memory)) left = false
+wants_by t left = not (stops t)
 
--- While the lane's collector is open memory may be wanting only within its acts.
-unfoldable pub may_want_at : Position → Bool
-may_want_at p = is_none p.collecting && pull_may_want p.pull p.job p.left
+abbrev pub may_want_at : Position → Bool
+may_want_at p = wants_by p.task p.left
 
 -- A job that is stopping closes its session also where want of memory ended the lane: the entry is in the lane's reserve.
-abbrev pub job_stops : Option Asking → Bool
-job_stops None = false
-job_stops (Some j) = is_stopping j
-
-abbrev pub pull_stops : Option Pulling → Option Asking → Bool
-pull_stops None job = job_stops job
-pull_stops (Some x) job = is_ending x
-
 abbrev pub may_step : Position → Bool
-may_step p = not p.is_spent || pull_stops p.pull p.job
+may_step p = not p.is_spent || stops p.task
 
 -- How a lane may end where this is next. Want of memory ended it where that was the last answer, or one behind which no more than its job's
 -- session was closed: a job that was refused has closed its session. Where the source failed or gave too much, no job is open, and only a part of
 -- a frame is left without an answer.
-abbrev pub EndsSo : Ending → Position → Next → Type 0
-EndsSo endings.Clean p bye = p.is_spent ≡ false
-EndsSo endings.Clean p end = p.is_spent ≡ false
-EndsSo (endings.Broken place) p (broken refusal) = (p.is_spent ≡ false) × (place ≡ p.size - length p.left)
-EndsSo endings.SourceFault p n = (p.is_spent ≡ false) × (p.job ≡ None) × (cut p.left ≡ short)
-EndsSo endings.SourceTooLong p n = (p.is_spent ≡ false) × (p.job ≡ None) × (cut p.left ≡ short)
+abbrev pub EndsSo : Ending → Position → Ahead → Type 0
+EndsSo endings.Clean p (ahead bye) = p.is_spent ≡ false
+EndsSo endings.Clean p (ahead end) = p.is_spent ≡ false
+EndsSo (endings.Broken place) p (ahead (broken refusal)) = (p.is_spent ≡ false) × (place ≡ p.size - length p.left)
+EndsSo endings.SourceFault p n = (p.is_spent ≡ false) × (p.task ≡ None) × (cut p.left ≡ short)
+EndsSo endings.SourceTooLong p n = (p.is_spent ≡ false) × (p.task ≡ None) × (cut p.left ≡ short)
 EndsSo endings.SinkFault p n = Unit {0}
-EndsSo endings.NoMemory p n = ((p.is_out_of_memory || p.is_spent) ≡ true) × (job_stops p.job ≡ false)
+EndsSo endings.NoMemory p n = ((p.is_out_of_memory || p.is_spent) ≡ true) × (stops p.task ≡ false)
 EndsSo _ p n = ⊥
 
 -- the lane's end, and no other event, follows
@@ -232,15 +225,26 @@ abbrev pub EndFollows : List Event → Type 0
 EndFollows (v ∷ []) = (class_of v.act ≡ ending) × (kind v ≡ END_KIND)
 EndFollows _ = ⊥
 
+-- no SYNC is open
+abbrev pub IsIdle : Option Task → Type 0
+IsIdle (Some (pulls x)) = ⊥
+IsIdle t = Unit {0}
+
+-- neither a collector nor a SYNC is open
+abbrev pub IsShut : Option Task → Type 0
+IsShut (Some (pulls x)) = ⊥
+IsShut (Some (sweeps is_out_of_memory)) = ⊥
+IsShut t = Unit {0}
+
 -- The program makes this act here, before these events of its own. A lane ends its collector and its SYNC before it ends. An end that met a fault
 -- comes again.
 abbrev pub Does : Class → Ending → Position → Event → List Event → Type 0
-Does stepping e p v vs = (may_step p ≡ true) × AsksBy p.pull (next_at p) v.act
-Does reaching e p v vs = (p.is_spent ≡ false) × AsksBy p.pull (next_at p) v.act
-Does starting e p v vs = (p.is_spent ≡ false) × AsksBy p.pull (next_at p) v.act
-Does sweeping e p v vs = AsksBy p.pull (next_at p) v.act
+Does stepping e p v vs = (may_step p ≡ true) × Asks (next_at p) v.act
+Does reaching e p v vs = (p.is_spent ≡ false) × Asks (next_at p) v.act
+Does starting e p v vs = (p.is_spent ≡ false) × Asks (next_at p) v.act
+Does sweeping e p v vs = Asks (next_at p) v.act
 Does wanting e p v vs = (p.is_spent ≡ false) × (may_want_at p ≡ true)
-Does ending e p v vs = EndsSo e p (next_at p) × (kind v ≡ FAULT_KIND → EndFollows vs) × (p.collecting ≡ None) × (p.pull ≡ None)
+Does ending e p v vs = EndsSo e p (next_at p) × (kind v ≡ FAULT_KIND → EndFollows vs) × IsShut p.task
 
 -- The lane's own events from this position on are a run of its program, and this is what it told in the end.
 abbrev pub Runs : Ending → Position → List Event → List Reply → Type 0
