@@ -1,5 +1,5 @@
 """Programs that scripts of this folder prove and build beside the product. Each stands in a module: its name (`CRATE`), the crates that it
-cites (`CITES`), and the texts of its files (`FILES`). It is proved to be safe (no contract says what it prints) and built as the product is, and stays in
+cites (`CITES`), the texts of its files (`FILES`), and of its specs and proofs, by their places, where it has some (`PROOFS`). It is proved to be safe (no contract says what it prints) and built as the product is, and stays in
 crates/pbstore/out until the code is newer."""
 import os, shutil, subprocess, sys, tempfile
 import program_parts
@@ -54,9 +54,11 @@ def make_tree(program, folder, names):
         it.write("".join(rows) + f"{program.CRATE}: {program.CITES}\n")
     shutil.copy(os.path.join(TOP, "HANDLES"), folder)
     place = os.path.join(folder, "crates", program.CRATE)
-    os.makedirs(os.path.join(place, "src"))
-    for name, text in program.FILES.items():
-        with open(os.path.join(place, "src", f"{name}.rt"), "w") as it:
+    files = {f"src/{name}.rt": text for name, text in program.FILES.items()}
+    files |= {f"{name}.antt": text for name, text in getattr(program, "PROOFS", {}).items()}
+    for name, text in files.items():
+        os.makedirs(os.path.dirname(os.path.join(place, name)), exist_ok=True)
+        with open(os.path.join(place, name), "w") as it:
             it.write(text)
     return place
 
@@ -66,7 +68,7 @@ def built(program):
     names, log = crates_below(program.CITES.split()), f"{path_of(program)}.log"
     if is_built(program, names):
         return path_of(program)
-    if not os.path.exists(os.path.join(TOP, "crates", "pbs_server", "out", "rlib", "stamp")):
+    if "pbs_server" in names and not os.path.exists(os.path.join(TOP, "crates", "pbs_server", "out", "rlib", "stamp")):
         # (which proves crates side by side)
         tell(program, "proving what the product is made of")
         subprocess.run([f"{TOP}/pbstore"], stderr=subprocess.DEVNULL)

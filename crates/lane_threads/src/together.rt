@@ -42,7 +42,7 @@ pub fn serve_all<
         ports.old ports.new r.0 r.1.items) }
     ensures err { IfErr result (λ c. (c ≡ core) × (ports.new ≡ ports.old)) }
 {
-    match Shared::<D, E, C, N>::make(alloc, core) {
+    match Shared::<D, E, C, N>::make(rt, alloc, core) {
         Ok((shared, seat)) => {
             let mut seat = seat;
             let on = Service {
@@ -51,7 +51,7 @@ pub fn serve_all<
                 gate,
             };
             let reports = serve_lanes(rt, &on, &mut seat, 0, ports);
-            Ok((shared.close(seat), reports))
+            Ok((shared.close(rt, seat), reports))
         }
         Err(core) => Err(core),
     }

@@ -1,5 +1,5 @@
 //! The writer's half. Its place is behind the turn.
-ghost use Rattle.std.specs.Prelude.{◌≡◌, ◌<◌, ◌^◌, ◌++◌, ◌∷◌, [], List, length, drop, IfOk};
+ghost use Rattle.std.specs.Prelude.{◌≡◌, ◌<◌, ◌^◌, ◌++◌, ◌∷◌, [], true, List, length, drop, IfOk};
 ghost use mathlib.Core.List.{IsPrefix};
 ghost use Rattle.store_history.specs.declared.act.Event.{Event};
 ghost use Rattle.left_right.specs.Sides.{view};
@@ -22,7 +22,19 @@ pub struct Poster<L: Lawful> {
     ghost none: { drop writer.behind writer.log.items ≡ [] },
 }
 
-/// Puts one operation into the log. The log has room for it, but in the first calls.
+/// Puts one operation into the log, if there is memory for it.
+fn try_put<L: Lawful>(writer: &mut ListingWriter<L>, next: Listing) -> bool
+    ensures desk { writer.new.desk ≡ writer.old.desk }
+    ensures put { result ≡ true → drop writer.new.behind writer.new.log.items
+        ≡ drop writer.old.behind writer.old.log.items ++ next ∷ [] }
+{
+    match writer.append(next) {
+        Ok(()) => true,
+        Err(_) => false,
+    }
+}
+
+/// Puts one operation into the log. The log has room for it.
 fn put<L: Lawful, R: Wait>(rt: &R, writer: &mut ListingWriter<L>, next: Listing)
     ensures desk { writer.new.desk ≡ writer.old.desk }
     ensures put { drop writer.new.behind writer.new.log.items
@@ -67,8 +79,13 @@ fn show_as<L: Lawful, G: Whole, R: Wait>(
 }
 
 impl<L: Lawful> Poster<L> {
-    /// The listing before any event, with room for so many views.
-    pub fn make(alloc: Global, listed: Vec<Listed>, views: usize) -> Result<Poster<L>, AllocError>
+    /// The listing before any event, with room for so many views. It is shown twice, so that the log has its room.
+    pub fn make<R: Wait>(
+        rt: &R,
+        alloc: Global,
+        listed: Vec<Listed>,
+        views: usize,
+    ) -> Result<Poster<L>, AllocError>
         requires views { (0 < views) × (views < 2 ^ 32) }
         requires first { L.is [] listed.items }
         ensures { IfOk result (λ p. (view p.writer.desk.place ≡ [])
@@ -76,9 +93,29 @@ impl<L: Lawful> Poster<L> {
     {
         let first = Listing::first(alloc, listed)?;
         let second = first.share()?;
-        Ok(Poster {
+        let again = first.share()?;
+        let poster = Poster {
             writer: Writer::new(alloc, first, second, views)?,
-        })
+        };
+        poster.with_room(rt, again)
+    }
+
+    /// Shows the listing of no event again, for which the log grows.
+    fn with_room<R: Wait>(self, rt: &R, again: Listing) -> Result<Poster<L>, AllocError>
+        requires start { view self.writer.desk.place ≡ [] }
+        requires none { again.count ≡ 0 }
+        requires shows { L.is [] (rows again) }
+        ensures { IfOk result (λ p. (view p.writer.desk.place ≡ [])
+            × (rows p.writer.desk.shown.value ≡ rows again)) }
+    {
+        let Poster { mut writer } = self;
+        if try_put(&mut writer, again) {
+            let writer = show_as::<L, Brand, R>(rt, writer, 0);
+            Ok(Poster { writer })
+        } else {
+            drop(writer.take(rt));
+            Err(AllocError)
+        }
     }
 
     /// What is shown.

@@ -81,17 +81,25 @@ const AGAIN: (&[u8], &[u8]) = (
 /// The session is on lane 0. On lane 1 `host/b` is backed up at the same time.
 fn try_ending(rt: &(impl Threads + Wait + Abort + Sync), alloc: Global, row: &Ending) {
     let (sent, read, write, told, kinds) = *row;
-    let (store, seat) = must(rt, opened(alloc, must(rt, Watch::of(alloc, false))));
-    let ending = must(rt, Talk::failing(alloc, sent, told, read, write));
-    let other = must(rt, Talk::of(alloc, BACKUPS[1], BACKED_UP));
-    let mut both = (ending, other);
+    let (store, mut seat) = must(rt, opened(rt, alloc, must(rt, Watch::of(alloc, false))));
+    let mut ending = must(rt, Talk::failing(alloc, sent, told, read, write));
+    let mut other = must(rt, Talk::of(alloc, BACKUPS[1], BACKED_UP));
     let mut again = must(rt, Talk::of(alloc, AGAIN.0, AGAIN.1));
-    let seat = two_sessions(rt, alloc, &store, seat, 0, &mut both, &FreeGate);
-    let seat = session(rt, alloc, &store, seat, 2, &mut again, &FreeGate);
-    for talk in [&both.0, &both.1, &again] {
+    two_sessions(
+        rt,
+        alloc,
+        &store,
+        &mut seat,
+        0,
+        &mut ending,
+        &mut other,
+        &FreeGate,
+    );
+    session(rt, alloc, &store, &mut seat, 2, &mut again, &FreeGate);
+    for talk in [&ending, &other, &again] {
         talk.assert_told(rt);
     }
-    let order = order_of(store, seat);
+    let order = order_of(rt, store, seat);
     assert_lane(rt, alloc, &order, 0, kinds);
     assert_lane(rt, alloc, &order, 1, &[0, 0, 0, 6]);
     assert_lane(rt, alloc, &order, 2, &[0, 0, 6]);

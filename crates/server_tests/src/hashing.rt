@@ -18,7 +18,7 @@ use std::process::Abort;
 use std::sync::Wait;
 use std::sync::atomic::AtomicBool;
 use std::sync::atomic::Ordering::SeqCst;
-use std::thread::{Threads, join, yield_now};
+use std::thread::{Threads, join_mut, yield_now};
 use store_types::Entry;
 
 /// How many acts another thread does while the lane hashes.
@@ -55,22 +55,14 @@ impl SecondBegun {
 }
 
 /// LIST on lane 1, one after another.
-fn list_often<R: Wait>(
-    rt: &R,
-    alloc: Global,
-    store: &Store,
-    seat: Place,
-    gate: &SecondBegun,
-) -> Place
-    requires { CanAct store.now.turn.id seat }
-    ensures { ComesBackIdle seat result }
+fn list_often<R: Wait>(rt: &R, alloc: Global, store: &Store, seat: &mut Place, gate: &SecondBegun)
+    requires { CanAct store.now.turn.id seat.old }
+    ensures { ComesBackIdle seat.old seat.new }
 {
-    let mut seat = seat;
     gate.wait();
     for _ in 0..ACTS {
-        let _ = store.act(rt, alloc, &mut seat, 1, list_act(alloc));
+        let _ = store.act(rt, alloc, seat, 1, list_act(alloc));
     }
-    seat
 }
 
 /// OPEN_WRITER and a CHUNK of the greatest size on lane 0. As the CHUNK has begun, another thread acts on lane 1.
@@ -78,28 +70,28 @@ fn chunk_beside<R: Threads + Wait + Sync>(
     rt: &R,
     alloc: Global,
     store: &Store,
-    seat: Place,
+    seat: &mut Place,
     chunk: &mut Talk,
     gate: &SecondBegun,
-) -> Place
-    requires can { CanAct store.now.turn.id seat }
-    requires rises { OwnRises seat }
-    requires reach { 2 ≤ seat.reach }
-    ensures { ComesBackIdle seat result }
+)
+    requires can { CanAct store.now.turn.id seat.old }
+    requires rises { OwnRises seat.old }
+    requires reach { 2 ≤ seat.old.reach }
+    ensures { ComesBackIdle seat.old seat.new }
 {
-    let (left, right) = store.split(seat);
-    let (left, right) = join(
+    let mut right = store.split_off(seat);
+    let ((), ()) = join_mut(
         rt,
-        || -> Place
-            requires { CanAct store.now.turn.id left × OwnRises left × IsSync R.row }
-            ensures { ComesBackIdle left result }
-        { session(rt, alloc, store, left, 0, chunk, gate) },
-        || -> Place
+        &mut || -> ()
+            requires { CanAct store.now.turn.id seat.now × OwnRises seat.now × IsSync R.row }
+            ensures { ComesBackIdle seat.entry.now seat.exit.now }
+        { session(rt, alloc, store, seat, 0, chunk, gate) },
+        &mut || -> ()
             requires { CanAct store.now.turn.id right × IsSync R.row }
-            ensures { ComesBackIdle right result }
-        { list_often(rt, alloc, store, right, gate) },
+            ensures { ComesBackIdle right.entry right.exit }
+        { list_often(rt, alloc, store, &mut right, gate) },
     );
-    store.join(left, right)
+    store.absorb(seat, right);
 }
 
 /// The second entry of lane 0 is behind all of lane 1.
@@ -118,13 +110,13 @@ fn try_once(rt: &(impl Threads + Wait + Abort + Sync), alloc: Global) -> bool {
         rt,
         Talk::of(alloc, &must(rt, with_zeros(alloc, front, zeros)), replies),
     );
-    let (store, seat) = must(rt, opened(alloc, must(rt, Watch::of(alloc, false))));
+    let (store, mut seat) = must(rt, opened(rt, alloc, must(rt, Watch::of(alloc, false))));
     let gate = SecondBegun {
         has_begun: AtomicBool::new(false),
     };
-    let seat = chunk_beside(rt, alloc, &store, seat, &mut chunk, &gate);
+    chunk_beside(rt, alloc, &store, &mut seat, &mut chunk, &gate);
     chunk.assert_told(rt);
-    is_last_but_end(&order_of(store, seat))
+    is_last_but_end(&order_of(rt, store, seat))
 }
 
 /// A lane that had the turn as it hashes would let none of these acts go before its own.

@@ -107,21 +107,26 @@ fn kinds_of(order: &[Entry], lane: u32) -> u64 {
 #[test]
 fn a_lane_lacks_memory(rt: HostRuntime) {
     let alloc = rt.alloc();
-    let Some((mut backups, mut later)) = handed_in(alloc) else {
+    let Some(((mut one, mut other), (mut next, mut last))) = handed_in(alloc) else {
         return;
     };
     let Ok(watch) = Watch::of(alloc, false) else {
         return;
     };
-    let Ok((store, seat)) = opened(alloc, watch) else {
-        return;
+    let (store, mut seat) = match opened(&rt, alloc, watch) {
+        Ok(made) => made,
+        Err(_not_opened) => return,
     };
     let gate = MeetingGate::of(2, LOOKS);
-    let seat = two_sessions(&rt, alloc, &store, seat, 0, &mut backups, &gate);
-    let seat = two_sessions(&rt, alloc, &store, seat, 2, &mut later, &FreeGate);
-    let order = order_of(store, seat);
-    assert_group(&rt, &order, 0, &backups.0, &NEXT[0], &later.0);
-    assert_group(&rt, &order, 1, &backups.1, &NEXT[1], &later.1);
+    two_sessions(
+        &rt, alloc, &store, &mut seat, 0, &mut one, &mut other, &gate,
+    );
+    two_sessions(
+        &rt, alloc, &store, &mut seat, 2, &mut next, &mut last, &FreeGate,
+    );
+    let order = order_of(&rt, store, seat);
+    assert_group(&rt, &order, 0, &one, &NEXT[0], &next);
+    assert_group(&rt, &order, 1, &other, &NEXT[1], &last);
     let kinds = (
         kinds_of(&order, 0),
         kinds_of(&order, 1),

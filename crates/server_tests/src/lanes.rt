@@ -1,7 +1,7 @@
 //! Sessions on lanes of one store, one after another.
 
 use crate::asserts::must;
-use crate::stores::opened;
+use crate::stores::{opened, order_of};
 use crate::talks::{Talk, session};
 use crate::watch::Watch;
 use core_state::Act;
@@ -36,14 +36,15 @@ fn held_snapshots_stay(rt: HostRuntime) {
         &rt,
         Bytes::from_slice(alloc, b"host/a/2020-01-15T06:30:03Z"),
     );
-    let (store, seat) = must(&rt, opened(alloc, must(&rt, Watch::of(alloc, false))));
-    let mut seat = session(&rt, alloc, &store, seat, 3, &mut backups, &FreeGate);
+    let (store, mut seat) = must(&rt, opened(&rt, alloc, must(&rt, Watch::of(alloc, false))));
+    session(&rt, alloc, &store, &mut seat, 3, &mut backups, &FreeGate);
     let open = Act::Plain(Command::OpenReader { snapshot });
     let _ = store.act(&rt, alloc, &mut seat, 5, open);
-    let mut seat = session(&rt, alloc, &store, seat, 4, &mut held, &FreeGate);
+    session(&rt, alloc, &store, &mut seat, 4, &mut held, &FreeGate);
     let close = Act::Plain(Command::CloseReader);
     let _ = store.act(&rt, alloc, &mut seat, 5, close);
-    let _ = session(&rt, alloc, &store, seat, 2, &mut removed, &FreeGate);
+    session(&rt, alloc, &store, &mut seat, 2, &mut removed, &FreeGate);
+    let _ = order_of(&rt, store, seat);
     for talk in [&backups, &held, &removed] {
         talk.assert_told(&rt);
     }

@@ -16,6 +16,8 @@ mod lacking;
 #[cfg(test)]
 mod lanes;
 #[cfg(test)]
+mod rounds;
+#[cfg(test)]
 mod seats;
 #[cfg(test)]
 mod serving;
@@ -23,5 +25,7 @@ mod serving;
 mod stores;
 #[cfg(test)]
 mod talks;
+#[cfg(test)]
+mod views;
 #[cfg(test)]
 mod watch;

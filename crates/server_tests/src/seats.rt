@@ -13,7 +13,7 @@ use core_state::Act;
 use std::alloc::Global;
 use std::process::Abort;
 use std::sync::{Arc, Wait};
-use std::thread::{Threads, join, yield_now};
+use std::thread::{Threads, join_mut, yield_now};
 use store_types::{Bytes, Entry};
 use wire_commands::Command;
 
@@ -82,22 +82,20 @@ fn act_and_look<R: Wait + Abort>(
     rt: &R,
     alloc: Global,
     store: &Store,
-    seat: Place,
+    seat: &mut Place,
     lane: u32,
     when: When,
     watch: &WatchHandle,
-) -> Place
+)
     requires lane { lane < 64 }
-    requires can { CanAct store.now.turn.id seat }
-    ensures { ComesBackIdle seat result }
+    requires can { CanAct store.now.turn.id seat.old }
+    ensures { ComesBackIdle seat.old seat.new }
 {
-    let mut seat = seat;
-    let before = wait(store, &mut seat, when, watch);
-    let _ = store.act(rt, alloc, &mut seat, lane, list_act(alloc));
-    let own = store.front(&mut seat);
-    let last = look(store, &mut seat, 2);
+    let before = wait(store, seat, when, watch);
+    let _ = store.act(rt, alloc, seat, lane, list_act(alloc));
+    let own = store.front(seat);
+    let last = look(store, seat, 2);
     assert_fronts(rt, when, before, own, last);
-    seat
 }
 
 /// Two threads do so at once, on lanes 0 and 1.
@@ -105,28 +103,28 @@ fn act_in_two<R: Threads + Wait + Abort + Sync>(
     rt: &R,
     alloc: Global,
     store: &Store,
-    seat: Place,
+    seat: &mut Place,
     times: &(When, When),
     watch: &WatchHandle,
-) -> Place
-    requires can { CanAct store.now.turn.id seat }
-    requires reach { 2 ≤ seat.reach }
-    ensures { ComesBackIdle seat result }
+)
+    requires can { CanAct store.now.turn.id seat.old }
+    requires reach { 2 ≤ seat.old.reach }
+    ensures { ComesBackIdle seat.old seat.new }
 {
     let (one, other) = *times;
-    let (left, right) = store.split(seat);
-    let (left, right) = join(
+    let mut right = store.split_off(seat);
+    let ((), ()) = join_mut(
         rt,
-        || -> Place
-            requires { CanAct store.now.turn.id left × IsSync R.row }
-            ensures { ComesBackIdle left result }
-        { act_and_look(rt, alloc, store, left, 0, one, watch) },
-        || -> Place
+        &mut || -> ()
+            requires { CanAct store.now.turn.id seat.now × IsSync R.row }
+            ensures { ComesBackIdle seat.entry.now seat.exit.now }
+        { act_and_look(rt, alloc, store, seat, 0, one, watch) },
+        &mut || -> ()
             requires { CanAct store.now.turn.id right × IsSync R.row }
-            ensures { ComesBackIdle right result }
-        { act_and_look(rt, alloc, store, right, 1, other, watch) },
+            ensures { ComesBackIdle right.entry right.exit }
+        { act_and_look(rt, alloc, store, &mut right, 1, other, watch) },
     );
-    store.join(left, right)
+    store.absorb(seat, right);
 }
 
 /// One of them waits for a look of the other.
@@ -158,9 +156,9 @@ fn try_two(
     times: &(When, When),
 ) -> [u64; 4] {
     let watch = must(rt, Watch::of(alloc, is_held(times)));
-    let (store, seat) = must(rt, opened(alloc, must(rt, Arc::try_clone(&watch))));
-    let seat = act_in_two(rt, alloc, &store, seat, times, &watch);
-    let order = order_of(store, seat);
+    let (store, mut seat) = must(rt, opened(rt, alloc, must(rt, Arc::try_clone(&watch))));
+    act_in_two(rt, alloc, &store, &mut seat, times, &watch);
+    let order = order_of(rt, store, seat);
     same_numbers(rt, &[watch.overlaps()], &[0]);
     must(rt, pair_of(&order).ok_or("not two entries"))
 }

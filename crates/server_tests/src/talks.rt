@@ -8,12 +8,12 @@ ghost use Rattle.server_tests.specs.Seats.{ComesBackIdle};
 
 use crate::asserts::same;
 use crate::stores::{Place, Store};
-use lane::{Ending, Port, run_lane};
+use lane::{Ending, Port, run_with};
 use port_traits::{Gate, MemSink, MemSource};
 use std::alloc::{AllocError, Global};
 use std::process::Abort;
 use std::sync::Wait;
-use std::thread::{Threads, join};
+use std::thread::{Threads, join_mut};
 
 /// What a lane is sent and is to be told, and what it was told and how it ended.
 #[derive(Drop)]
@@ -70,20 +70,19 @@ pub(crate) fn session(
     rt: &(impl Threads + Wait + Sync),
     alloc: Global,
     store: &Store,
-    seat: Place,
+    seat: &mut Place,
     lane: u32,
     talk: &mut Talk,
     gate: &impl Gate,
-) -> Place
+)
     requires lane { lane < 64 }
-    requires can { CanAct store.now.turn.id seat }
-    requires rises { OwnRises seat }
-    ensures back { ComesBackIdle seat result }
-    ensures rises { OwnRises result }
+    requires can { CanAct store.now.turn.id seat.old }
+    requires rises { OwnRises seat.old }
+    ensures back { ComesBackIdle seat.old seat.new }
+    ensures rises { OwnRises seat.new }
 {
-    let (seat, report) = run_lane(rt, alloc, store, seat, lane, &mut talk.port, gate);
+    let report = run_with(rt, alloc, store, seat, lane, &mut talk.port, gate);
     talk.ending = report.ending;
-    seat
 }
 
 /// Two at once, on this lane and the next, each in a thread of its own.
@@ -91,31 +90,33 @@ pub(crate) fn two_sessions<R: Threads + Wait + Sync, G: Gate + Sync>(
     rt: &R,
     alloc: Global,
     store: &Store,
-    seat: Place,
+    seat: &mut Place,
     lane: u32,
-    talks: &mut (Talk, Talk),
+    one: &mut Talk,
+    other: &mut Talk,
     gate: &G,
-) -> Place
+)
     requires lane { lane + 1 < 64 }
-    requires can { CanAct store.now.turn.id seat }
-    requires rises { OwnRises seat }
-    requires reach { 2 ≤ seat.reach }
-    ensures back { ComesBackIdle seat result }
-    ensures rises { OwnRises result }
+    requires can { CanAct store.now.turn.id seat.old }
+    requires rises { OwnRises seat.old }
+    requires reach { 2 ≤ seat.old.reach }
+    ensures back { ComesBackIdle seat.old seat.new }
+    ensures rises { OwnRises seat.new }
 {
-    let (one, other) = talks;
     let next = lane + 1;
-    let (left, right) = store.split(seat);
-    let (left, right) = join(
+    let mut right = store.split_off(seat);
+    let ((), ()) = join_mut(
         rt,
-        || -> Place
-            requires { CanAct store.now.turn.id left × OwnRises left × (lane < 64) × IsSync R.row }
-            ensures { ComesBackIdle left result }
-        { session(rt, alloc, store, left, lane, one, gate) },
-        || -> Place
-            requires { CanAct store.now.turn.id right × OwnRises right × (next < 64) × IsSync R.row }
-            ensures { ComesBackIdle right result }
-        { session(rt, alloc, store, right, next, other, gate) },
+        &mut || -> ()
+            requires { CanAct store.now.turn.id seat.now × OwnRises seat.now
+                × (lane < 64) × IsSync R.row }
+            ensures { ComesBackIdle seat.entry.now seat.exit.now }
+        { session(rt, alloc, store, seat, lane, one, gate) },
+        &mut || -> ()
+            requires { CanAct store.now.turn.id right × OwnRises right
+                × (next < 64) × IsSync R.row }
+            ensures { ComesBackIdle right.entry right.exit }
+        { session(rt, alloc, store, &mut right, next, other, gate) },
     );
-    store.join(left, right)
+    store.absorb(seat, right);
 }

@@ -3,4 +3,8 @@ mod Asking
 mod Answering
 pub mod Reserving
 mod Coming
+mod Listing
+mod Showing
+mod Noting
+mod Wanting
 mod Lives

@@ -1,7 +1,7 @@
 -- What a core behind the turn stands for, on any disk.
 use Rattle.disk_trait.specs.declared.disk.Disk.{Ghosts}
 use Rattle.disk_trait.specs.Disk.{Rose}
-use Rattle.std.specs.Prelude.{ℕ, ◌≡◌, ◌≤◌, ◌<◌, ◌^◌, false, List, [], ◌∷◌, length, None, IsSome}
+use Rattle.std.specs.Prelude.{ℕ, ◌≡◌, ◌≤◌, ◌<◌, ◌^◌, false, List, [], ◌∷◌, ◌++◌, length, map, Option, None, Some, IsSome}
 use Rattle.port_traits.specs.declared.clock.Clock as clocks
 use Rattle.turn_lock.specs.State.{SeatState, TableId}
 use Rattle.store_history.specs.declared.act.Event.{Event}
@@ -9,6 +9,11 @@ use Rattle.store_history.specs.History.{entries}
 use Rattle.core_state.specs.declared.state.Core.{Core}
 use Rattle.core_state.specs.Entering.{SameEntries}
 use Rattle.core_state.specs.History.{History}
+use Rattle.listing_views.specs.declared.listed.Listed.{Listed}
+use Rattle.listing_views.specs.Rows.{rows_behind}
+use Rattle.store_types.specs.declared.names.SnapshotKey.{SnapshotKey}
+use Rattle.core_admin.specs.Listings.{rows_behind as listed_behind}
+use Rattle.shared_store.specs.Views.{AreQuiet, list_row, rows_of}
 use Rattle.core_state.specs.Records.{AreKept, Reaches, Records}
 
 -- the seat is of this turn, and does not have it
@@ -43,6 +48,21 @@ pub record ComesTo {D E C : Type 0} (d : Ghosts D) (e : Ghosts E) (clock : clock
 abbrev pub HasCome : {D E C : Type 0} → Ghosts D → Ghosts E → clocks.Ghosts C → (Core D E C → Type 0) → List Event → Type 0
 HasCome {D} {E} {C} d e clock is_first events = (core : Core D E C) × ComesTo d e clock is_first core events
 
+-- what a view may show after these events: the rows of a core that came to them
+pub record CameTo {D E C : Type 0} (d : Ghosts D) (e : Ghosts E) (clock : clocks.Ghosts C) (is_first : Core D E C → Type 0) (events : List Event) (rows : List Listed) : Type 0 where
+  pub core : Core D E C
+  pub comes : ComesTo d e clock is_first core events
+  pub rows_are : rows ≡ rows_of (core.parts).catalogue.listed
+
+-- The core came to these events. What is shown after the first of them are its rows, and no event behind these changed the listing.
+pub record StandsFor {D E C : Type 0} (d : Ghosts D) (e : Ghosts E) (clock : clocks.Ghosts C) (is_first : Core D E C → Type 0) (core : Core D E C) (posted : Option (List Event × List Listed)) (events : List Event) : Type 0 where
+  pub comes : ComesTo d e clock is_first core events
+  pub shown : List Event
+  pub rest : List Event
+  pub whole : shown ++ rest ≡ events
+  pub quiet : AreQuiet rest
+  pub posted_is : posted ≡ Some (shown, rows_of (core.parts).catalogue.listed)
+
 -- a first core, which recorded some history without events
 pub record IsFresh {D E C : Type 0} (clock : clocks.Ghosts C) (core : Core D E C) : Type 0 where
   pub began : History
@@ -63,3 +83,10 @@ pub record SameCore {D E C : Type 0} (old new : Core D E C) : Type 0 where
   pub collector : new.collector ≡ old.collector
   pub last : new.last ≡ old.last
   pub fault : new.fault ≡ old.fault
+
+-- the first 1,024 rows behind a key, of a core that came to these events: those that LIST tells
+pub record ShowsBehind {D E C : Type 0} (d : Ghosts D) (e : Ghosts E) (clock : clocks.Ghosts C) (is_first : Core D E C → Type 0) (after : Option SnapshotKey) (events : List Event) (told : List Listed) : Type 0 where
+  pub core : Core D E C
+  pub comes : ComesTo d e clock is_first core events
+  pub told_is : told ≡ rows_behind after (rows_of (core.parts).catalogue.listed)
+  pub as_list : map list_row told ≡ listed_behind after (core.parts).catalogue.listed

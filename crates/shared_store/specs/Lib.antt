@@ -2,3 +2,4 @@ pub mod Asked
 pub mod AnsweredBy
 pub mod Comes
 pub mod Applied
+pub mod Views

@@ -13,7 +13,10 @@ ghost use Rattle.seat_history.specs.Entered.{HasEntered, OwnRises};
 ghost use Rattle.shared_store.specs.Applied.{ActsOn};
 ghost use Rattle.shared_store.specs.Comes.{AreAnswered, CanAct, ComesTo, HasCome, IsFresh};
 
+use crate::board::make_board;
 use crate::known::{Known, Origin};
+use crate::seat::Seat;
+use crate::view::Place;
 use core_state::{Act, Answer, Core};
 use disk_trait::Disk;
 use port_traits::Clock;
@@ -22,18 +25,18 @@ use std::snapshot::Snapshot;
 use std::sync::Wait;
 use turn_lock::Turn;
 
-/// What a thread acts with.
-pub type Seat<D, E, C, N> = turn_lock::Seat<Known<D, E, C, N>>;
-
-/// A core that threads act on in turn.
-#[derive(Drop)]
+/// A core that threads act on in turn, and whose listing they view meanwhile. It is ended by `close` alone.
 pub struct Shared<D: Disk, E: Disk, C: Clock, N: Origin<Core<D, E, C>>> {
     pub turn: Turn<Known<D, E, C, N>>,
 }
 
+/// A store that is shared, its first seat, and places for views.
+pub type WithViews<D, E, C, N> = (Shared<D, E, C, N>, Seat<D, E, C, N>, Vec<Place<D, E, C, N>>);
+
 impl<D: Disk, E: Disk, C: Clock, N: Origin<Core<D, E, C>>> Shared<D, E, C, N> {
     /// A turn round the core, and its first seat. The core comes back where memory ran out.
-    pub fn make(
+    pub fn make<R: Wait>(
+        rt: &R,
         alloc: Global,
         core: Core<D, E, C>,
     ) -> Result<(Shared<D, E, C, N>, Seat<D, E, C, N>), Core<D, E, C>>
@@ -42,16 +45,44 @@ impl<D: Disk, E: Disk, C: Clock, N: Origin<Core<D, E, C>>> Shared<D, E, C, N> {
         ensures ok { IfOk result (λ r. IsNewTurn [] (r.0.turn, r.1)) }
         ensures err { IfErr result (λ c. c ≡ core) }
     {
-        match Turn::make(alloc, Known::new(core)) {
-            Ok((turn, seat)) => Ok((Shared { turn }, seat)),
+        let (shared, seat, _) = Shared::make_with_views(rt, alloc, core, 0)?;
+        Ok((shared, seat))
+    }
+
+    /// The same, with places for so many views, which have learnt nothing. The core comes back where memory ran out.
+    pub fn make_with_views<R: Wait>(
+        rt: &R,
+        alloc: Global,
+        core: Core<D, E, C>,
+        views: usize,
+    ) -> Result<WithViews<D, E, C, N>, Core<D, E, C>>
+        requires origin { N.is core }
+        requires fresh { IsFresh C.Clock core }
+        requires views { views ≤ 64 }
+        ensures ok { IfOk result (λ r. IsNewTurn [] (r.0.turn, r.1)) }
+        ensures places { IfOk result (λ r. length r.2.items ≡ views) }
+        ensures err { IfErr result (λ c. c ≡ core) }
+    {
+        let Ok((poster, places)) = make_board(rt, alloc, &core, views) else {
+            return Err(core);
+        };
+        match Turn::make(alloc, Known::new(core, poster)) {
+            Ok((turn, inner)) => Ok((Shared { turn }, Seat { inner, note: 0 }, places)),
             Err(known) => {
-                let Known { core, .. } = known;
+                let Known {
+                    core,
+                    poster,
+                    origin: _,
+                } = known;
+                if let Some(poster) = poster {
+                    poster.end(rt);
+                }
                 Err(core)
             }
         }
     }
 
-    /// Does one act in one hold of the turn. Where there is no room for its entry, it holds the turn until there is.
+    /// Does one act in one hold of the turn, in which the listing after it is shown too. Where there is no room for its entry, it holds the turn until there is.
     pub fn act<R: Wait>(
         &self,
         rt: &R,
@@ -69,17 +100,19 @@ impl<D: Disk, E: Disk, C: Clock, N: Origin<Core<D, E, C>>> Shared<D, E, C, N> {
         // the core behind the turn came to this history
         ensures comes { HasCome D.Disk E.Disk C.Clock N.is seat.new.seen }
         // how the act found it, and what it did to it
-        ensures acts { ActsOn D.Disk E.Disk C.Clock N.is lane act result seat.old.seen seat.new.seen }
+        ensures acts { ActsOn D.Disk E.Disk C.Clock N.is lane act result
+            seat.old.seen seat.new.seen }
         // each act of the history has one of the answers that it may have
         ensures answered { AreAnswered seat.new.seen }
         ensures told { IsTold act result }
         ensures lane { result.entry.lane ≡ lane }
         ensures text { IfSome result.reply ReplyHasText }
     {
-        let mut held = self.turn.take(rt, seat);
+        let mut held = self.turn.take(rt, &mut seat.inner);
         let asked = Snapshot::of(&act);
-        let answer = held.value.apply(rt, alloc, lane, act);
-        held.pass(&self.turn, seat, &(asked, &answer));
+        let (answer, note) = held.value.enter(rt, alloc, lane, act, &seat.inner);
+        held.pass(&self.turn, &mut seat.inner, &(asked, &answer));
+        seat.note = note;
         answer
     }
 
@@ -91,7 +124,7 @@ impl<D: Disk, E: Disk, C: Clock, N: Origin<Core<D, E, C>>> Shared<D, E, C, N> {
         ensures length { result ≡ length seat.new.seen }
         ensures at_least { length seat.old.seen ≤ result }
     {
-        self.turn.front(seat)
+        self.turn.front(&mut seat.inner)
     }
 
     /// Makes two seats of one. The second has seen as much, and has entered nothing.
@@ -102,7 +135,9 @@ impl<D: Disk, E: Disk, C: Clock, N: Origin<Core<D, E, C>>> Shared<D, E, C, N> {
         ensures left { result.0 ≡ seat_after_split seat }
         ensures right { result.1 ≡ seat_split_off seat }
     {
-        self.turn.split(seat)
+        let Seat { inner, note } = seat;
+        let (left, right) = self.turn.split(inner);
+        (Seat { inner: left, note }, Seat { inner: right, note })
     }
 
     /// Makes one seat of two. It has seen what the one that saw more had seen, and has both seats' own places.
@@ -114,7 +149,9 @@ impl<D: Disk, E: Disk, C: Clock, N: Origin<Core<D, E, C>>> Shared<D, E, C, N> {
         ensures right { IsPrefix right.seen result.seen }
         ensures rises { RisesWithin 0 (length result.seen) result.mine }
     {
-        self.turn.join(left, right)
+        let mut seat = left;
+        self.absorb(&mut seat, right);
+        seat
     }
 
     /// Takes a second seat out of one. It has seen as much, and has entered nothing.
@@ -125,7 +162,9 @@ impl<D: Disk, E: Disk, C: Clock, N: Origin<Core<D, E, C>>> Shared<D, E, C, N> {
         ensures left { seat.new ≡ seat_after_split seat.old }
         ensures right { result ≡ seat_split_off seat.old }
     {
-        self.turn.split_off(seat)
+        let inner = self.turn.split_off(&mut seat.inner);
+        let note = seat.note;
+        Seat { inner, note }
     }
 
     /// Puts a second seat into one, as `join` does.
@@ -137,11 +176,13 @@ impl<D: Disk, E: Disk, C: Clock, N: Origin<Core<D, E, C>>> Shared<D, E, C, N> {
         ensures right { IsPrefix other.seen seat.new.seen }
         ensures rises { RisesWithin 0 (length seat.new.seen) seat.new.mine }
     {
-        self.turn.absorb(seat, other);
+        let Seat { inner, note } = other;
+        self.turn.absorb(&mut seat.inner, inner);
+        seat.note = seat.note.max(note);
     }
 
-    /// Ends the run. The core has come to the whole history, and each place of it is the seat's own.
-    pub fn close(self, seat: Seat<D, E, C, N>) -> Core<D, E, C>
+    /// Ends the run, once no view reads any more. The core has come to the whole history, and each place of it is the seat's own.
+    pub fn close<R: Wait>(self, rt: &R, seat: Seat<D, E, C, N>) -> Core<D, E, C>
         requires own { seat.turn ≡ self.turn.id }
         requires idle { seat.holding ≡ false }
         requires whole { seat.reach ≡ 2 ^ 32 }
@@ -150,7 +191,15 @@ impl<D: Disk, E: Disk, C: Clock, N: Origin<Core<D, E, C>>> Shared<D, E, C, N> {
             seat.mine ≡ range_with_len before (length seat.seen - before) }
     {
         let Shared { turn } = self;
-        let Known { core, .. } = turn.close(seat);
+        let Seat { inner, note: _ } = seat;
+        let Known {
+            core,
+            poster,
+            origin: _,
+        } = turn.close(inner);
+        if let Some(poster) = poster {
+            poster.end(rt);
+        }
         core
     }
 }

@@ -1,0 +1,5 @@
+//! The tests of listings that are shown.
+#![tactic(auto)]
+
+#[cfg(test)]
+mod rows;
