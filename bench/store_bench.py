@@ -171,16 +171,11 @@ def timed(call):
     return time.monotonic() - before
 
 
-class Store:
-    """`./pbstore` on a fresh datastore folder, with a session that is sent part by part."""
+class Lane:
+    """A session of a run, which is sent part by part."""
 
-    def __init__(self, work):
-        # (the program is built where it isn't yet, and not in the time that is measured)
-        subprocess.run([f"{TOP}/pbstore"], stderr=subprocess.DEVNULL)
-        root, session = f"{work}/datastore", f"{work}/session"
-        os.mkdir(root)
-        os.mkfifo(session)
-        self.run = subprocess.Popen([f"{TOP}/pbstore", "run", root, session])
+    def __init__(self, run, session):
+        self.run = run
         self.input = open(self.opened(session), "wb", buffering=0)
         fcntl.fcntl(self.input, fcntl.F_SETPIPE_SZ, MIB)
         self.replies = open(self.waited_for(f"{session}.out"), "rb")
@@ -222,11 +217,14 @@ class Store:
         """Where the next reply will stand in the file of the replies."""
         return self.replies.tell()
 
-    def send(self, part, answer=0):
-        """Sends the commands, and waits for their replies, each of which is to have this number."""
+    def ask(self, part):
+        """Sends the commands."""
         with open(part.path, "rb") as it:
             while some := it.read(MIB):
                 self.input.write(some)
+
+    def hear(self, part, answer=0):
+        """Waits for the commands' replies, each of which is to have this number."""
         at = self.place()
         for _ in range(part.commands):
             length, number = struct.unpack("<IB", self.read(5))
@@ -237,10 +235,29 @@ class Store:
                 self.wait()
             self.replies.seek(at)
 
-    def end(self):
-        """Ends the session, and gives the store's greatest resident memory in bytes."""
+    def send(self, part, answer=0):
+        self.ask(part)
+        self.hear(part, answer)
+
+    def close(self):
         self.input.write(frame(bye()))
         self.input.close()
+
+
+class Store(Lane):
+    """`./pbstore` on a fresh datastore folder, with one session."""
+
+    def __init__(self, work):
+        # (the program is built where it isn't yet, and not in the time that is measured)
+        subprocess.run([f"{TOP}/pbstore"], stderr=subprocess.DEVNULL)
+        root, session = f"{work}/datastore", f"{work}/session"
+        os.mkdir(root)
+        os.mkfifo(session)
+        super().__init__(subprocess.Popen([f"{TOP}/pbstore", "run", root, session]), session)
+
+    def end(self):
+        """Ends the session, and gives the store's greatest resident memory in bytes."""
+        self.close()
         _, status, used = os.wait4(self.run.pid, 0)
         self.run.returncode = status
         if status:
