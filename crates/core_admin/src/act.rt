@@ -64,7 +64,10 @@ pub fn admin_act<D: Disk, E, C: Clock>(
     ensures unreadable { CoreUnreadable D.Disk (λ _. asked_of_admin act) core.old lane result }
 {
     match begin(core, alloc, lane, &act) {
-        Admitted::Answered(answer) => answer,
+        Admitted::Answered(answer) => {
+            drop(act);
+            answer
+        }
         Admitted::At(at) => {
             let ended = perform(&mut core.parts, alloc, at, act);
             settle(core, at, ended)

@@ -67,7 +67,10 @@ pub fn remote_act<D: Disk, E: Disk, C: Clock>(
     ensures by_remote { RemoteGives E.Disk core.old act result }
 {
     match begin(core, alloc, lane, &act) {
-        Admitted::Answered(answer) => answer,
+        Admitted::Answered(answer) => {
+            drop(act);
+            answer
+        }
         Admitted::At(at) => {
             let ended = reach(&core.parts, &mut core.remote, alloc, lane, act);
             settle_read(core, at, ended)

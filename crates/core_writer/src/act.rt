@@ -102,7 +102,10 @@ pub fn writer_act<D: Disk, E, C: Clock>(
     ensures unreadable { CoreUnreadable D.Disk (asked_of_writer act) core.old lane result }
 {
     match begin(core, alloc, lane, &act) {
-        Admitted::Answered(answer) => answer,
+        Admitted::Answered(answer) => {
+            drop(act);
+            answer
+        }
         Admitted::At(at) => {
             let ended = perform(&mut core.parts, &mut core.upkeep, alloc, at, act);
             settle(core, at, ended)

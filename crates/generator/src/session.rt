@@ -37,11 +37,13 @@ const MANIFEST_NAME: &[u8; 15] = b"index.json.blob";
 
 /// Puts a command behind an input.
 #[tactic(auto, unfolding(crate::specs::Sessions::input_of))]
-fn put(alloc: Global, input: &mut Vec<u8>, command: &Command) -> Result<(), AllocError>
-    requires { HasText command.now }
-    ensures { Puts input.old.items input.new.items (command.now ∷ []) result }
+fn put(alloc: Global, input: &mut Vec<u8>, command: Command) -> Result<(), AllocError>
+    requires { HasText command }
+    ensures { Puts input.old.items input.new.items (command ∷ []) result }
 {
-    let body = command.text(alloc)?;
+    let text = command.text(alloc);
+    drop(command);
+    let body = text?;
     input.extend_from_slice(&(body.len() as u32).to_le_bytes())?;
     input.extend_from_slice(&body)
 }
@@ -60,11 +62,11 @@ fn blob_of(alloc: Global, bytes: &[u8]) -> Result<Bytes, AllocError>
 fn put_collections(alloc: Global, input: &mut Vec<u8>) -> Result<(), AllocError>
     ensures { Puts input.old.items input.new.items collections result }
 {
-    put(alloc, input, &Command::Gc)?;
-    put(alloc, input, &Command::Gc)?;
-    put(alloc, input, &Command::Gc)?;
-    put(alloc, input, &Command::Gc)?;
-    put(alloc, input, &Command::Bye)
+    put(alloc, input, Command::Gc)?;
+    put(alloc, input, Command::Gc)?;
+    put(alloc, input, Command::Gc)?;
+    put(alloc, input, Command::Gc)?;
+    put(alloc, input, Command::Bye)
 }
 
 /// Behind the first snapshot the pieces of the base may be named.
@@ -75,7 +77,7 @@ fn put_previous(alloc: Global, input: &mut Vec<u8>, j: u32) -> Result<(), AllocE
         return Ok(());
     }
     let file = Bytes::from_slice(alloc, ARCHIVE_NAME)?;
-    put(alloc, input, &Command::Previous { file, offset: 0 })
+    put(alloc, input, Command::Previous { file, offset: 0 })
 }
 
 /// The writer is opened, and its archive begun.
@@ -85,10 +87,10 @@ fn put_opening(alloc: Global, input: &mut Vec<u8>, k: u32, j: u32) -> Result<(),
     ensures { Puts input.old.items input.new.items (opening k j) result }
 {
     let snapshot = snapshot_of(alloc, k, j)?;
-    put(alloc, input, &Command::OpenWriter { snapshot })?;
+    put(alloc, input, Command::OpenWriter { snapshot })?;
     put_previous(alloc, input, j)?;
     let file = Bytes::from_slice(alloc, ARCHIVE_NAME)?;
-    put(alloc, input, &Command::NewDynamic { file })
+    put(alloc, input, Command::NewDynamic { file })
 }
 
 /// Sends the piece of a seed, and gives its digest and its length.
@@ -99,7 +101,7 @@ fn put_chunk(alloc: Global, input: &mut Vec<u8>, seed: u64) -> Result<(Digest32,
     let bytes = piece(alloc, seed)?;
     let digest = Digest32(Sha256::digest(bytes.as_slice()));
     let blob = blob_of(alloc, &bytes)?;
-    put(alloc, input, &Command::Chunk { digest, blob })?;
+    put(alloc, input, Command::Chunk { digest, blob })?;
     Ok((digest, bytes.len() as u32))
 }
 
@@ -191,7 +193,7 @@ fn put_append(
     ensures { Puts input.old.items input.new.items (append k j ∷ []) result }
 {
     let entries = Rows::from_vec(entries_of(alloc, made)?);
-    put(alloc, input, &Command::Append { number: 0, entries })
+    put(alloc, input, Command::Append { number: 0, entries })
 }
 
 /// The manifest lists the archive.
@@ -210,7 +212,7 @@ fn put_manifest(
     let text = manifest(alloc, k, j, csum, size)?;
     let blob = blob_of(alloc, &text)?;
     let file = Bytes::from_slice(alloc, MANIFEST_NAME)?;
-    put(alloc, input, &Command::Blob { file, blob })
+    put(alloc, input, Command::Blob { file, blob })
 }
 
 /// The archive is completed, and the manifest sent.
@@ -236,9 +238,9 @@ fn put_closing(
         size,
         csum,
     };
-    put(alloc, input, &close)?;
+    put(alloc, input, close)?;
     put_manifest(alloc, input, k, j, &csum, size)?;
-    put(alloc, input, &Command::Finish)
+    put(alloc, input, Command::Finish)
 }
 
 /// Sends a snapshot, and gives the digest and the length of each of its pieces, by those of the snapshot before.
@@ -279,9 +281,9 @@ fn put_upkeep(alloc: Global, input: &mut Vec<u8>, k: u32) -> Result<(), AllocErr
     ensures { Puts input.old.items input.new.items (upkeep k) result }
 {
     let snapshot = snapshot_of(alloc, k, 3)?;
-    put(alloc, input, &Command::Verify { snapshot })?;
+    put(alloc, input, Command::Verify { snapshot })?;
     let snapshot = snapshot_of(alloc, k, 0)?;
-    put(alloc, input, &Command::Forget { snapshot })?;
+    put(alloc, input, Command::Forget { snapshot })?;
     let group = group_of(alloc, k)?;
     let keep = Keep {
         last: 2,
@@ -292,8 +294,8 @@ fn put_upkeep(alloc: Global, input: &mut Vec<u8>, k: u32) -> Result<(), AllocErr
         yearly: 0,
     };
     let dry = false;
-    put(alloc, input, &Command::Prune { group, keep, dry })?;
-    put(alloc, input, &Command::Bye)
+    put(alloc, input, Command::Prune { group, keep, dry })?;
+    put(alloc, input, Command::Bye)
 }
 
 /// The input of lane `k`, of the lanes 0 to `n` with `n` from 1 to 63. It depends on `k` alone, and has at most 512 KiB.

@@ -60,8 +60,10 @@ fn closes_again(report: Reply, reply: Reply) -> State
     ensures text { EndsInText (job_in result) }
 {
     if is_refused(&report) {
+        drop(reply);
         return State::Closing(report);
     }
+    drop(report);
     State::Closing(reply)
 }
 
@@ -77,10 +79,13 @@ pub fn closed(report: Reply, reply: Reply) -> State
         return closes_again(report, reply);
     }
     if is_refused(&report) {
+        drop(reply);
         return State::Over(report);
     }
     if !is_refused(&reply) {
+        drop(reply);
         return State::Over(report);
     }
+    drop(report);
     State::Over(reply)
 }

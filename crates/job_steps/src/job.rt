@@ -127,11 +127,11 @@ impl Job {
         let state = mem::replace(&mut self.state, State::Over(Reply::Done));
         match state.take(rt, alloc, reply) {
             Ok(state) => {
-                self.state = state;
+                drop(mem::replace(&mut self.state, state));
                 Ok(())
             }
             Err(state) => {
-                self.state = state;
+                drop(mem::replace(&mut self.state, state));
                 Err(AllocError)
             }
         }
@@ -199,6 +199,7 @@ impl State {
         let Some(mark) = mark_by(&reply) else {
             return State::Over(reply);
         };
+        drop(reply);
         rows[place].mark = mark;
         State::going_on(rows, place + 1)
     }

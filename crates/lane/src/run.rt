@@ -284,6 +284,7 @@ fn serve<
     gate.before(lane, progress.number);
     let told = do_command(rt, alloc, shared, seat, lane, command);
     let ending = told.give(&mut port.sink, &mut progress.given);
+    drop(told);
     gate.after(lane, progress.number);
     progress.number = progress.number.saturating_add(1);
     progress.input.advance();
@@ -308,22 +309,21 @@ fn do_command<R: Threads + Wait + Sync, D: Disk, E: Disk, C: Clock, N: Origin<Co
 {
     if is_job(&command) {
         let job = Job::start(alloc, &command);
-        return do_task(rt, alloc, shared, seat, lane, &command, job);
+        let told = do_task(rt, alloc, shared, seat, lane, &command, job);
+        drop(command);
+        return told;
     }
     if is_gc(&command) {
-        return do_task(
-            rt,
-            alloc,
-            shared,
-            seat,
-            lane,
-            &command,
-            Ok(Collection::new()),
-        );
+        let gc = Ok(Collection::new());
+        let told = do_task(rt, alloc, shared, seat, lane, &command, gc);
+        drop(command);
+        return told;
     }
     if let Command::Sync { group } = &command {
         let pull = Pull::start(alloc, group.as_slice());
-        return do_task(rt, alloc, shared, seat, lane, &command, pull);
+        let told = do_task(rt, alloc, shared, seat, lane, &command, pull);
+        drop(command);
+        return told;
     }
     ask(rt, alloc, shared, seat, lane, act_of(&shared.turn, command))
 }

@@ -145,43 +145,59 @@ fn serve_run<R: Threads + Wait + Sync, J: Sink>(
 }
 
 /// The journal is the order's file, where the words name one, and else standard output.
+fn serve_paths<R: Threads + Wait + Sync>(
+    rt: HostRuntime,
+    threads: &R,
+    words: &[String],
+    paths: &Paths<'_>,
+) -> Result<Status, AllocError> {
+    match paths.order {
+        Some(path) => {
+            let mut journal = FileSink::create(&rt, path);
+            serve_run(rt, threads, words, paths, &mut journal)
+        }
+        None => {
+            let mut journal = FileSink::over(io::writer(&rt));
+            serve_run(rt, threads, words, paths, &mut journal)
+        }
+    }
+}
+
+fn serve_plan<R: Threads + Wait + Sync>(
+    rt: HostRuntime,
+    threads: &R,
+    words: &[String],
+    plan: &Result<Plan, WordFault>,
+) -> Result<Status, AllocError> {
+    match plan {
+        Err(WordFault::NoMemory) => Ok(Status::NoMemory),
+        Ok(
+            Plan::Check {
+                root,
+                order,
+                remote,
+                sessions,
+            },
+        ) => {
+            let check = Check {
+                root: root.as_str(),
+                order: order.as_str(),
+                remote: text_of(remote),
+                sessions: sessions.as_slice(),
+            };
+            serve_check(rt, threads, words, &check)
+        }
+        _ => serve_paths(rt, threads, words, &paths_of(plan)),
+    }
+}
+
 fn serve_words<R: Threads + Wait + Sync>(
     rt: HostRuntime,
     threads: &R,
     words: &[String],
 ) -> Result<Status, AllocError> {
     let plan = plan_words(rt.alloc(), words);
-    if let Err(WordFault::NoMemory) = plan {
-        return Ok(Status::NoMemory);
-    }
-    if let Ok(
-        Plan::Check {
-            root,
-            order,
-            remote,
-            sessions,
-        },
-    ) = &plan
-    {
-        let check = Check {
-            root: root.as_str(),
-            order: order.as_str(),
-            remote: text_of(remote),
-            sessions: sessions.as_slice(),
-        };
-        return serve_check(rt, threads, words, &check);
-    }
-    let paths = paths_of(&plan);
-    match paths.order {
-        Some(path) => {
-            let mut journal = FileSink::create(&rt, path);
-            serve_run(rt, threads, words, &paths, &mut journal)
-        }
-        None => {
-            let mut journal = FileSink::over(io::writer(&rt));
-            serve_run(rt, threads, words, &paths, &mut journal)
-        }
-    }
+    serve_plan(rt, threads, words, &plan)
 }
 
 fn run<R: Threads + Wait + Sync>(rt: HostRuntime, threads: &R) -> Status {

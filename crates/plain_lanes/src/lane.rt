@@ -12,6 +12,7 @@ use crate::next::{Next, next_at};
 use port_traits::MemSink;
 use std::alloc::{AllocError, Global};
 use std::marker::Model;
+use std::mem;
 use store_types::Bytes;
 use wire_commands::Reply;
 
@@ -102,7 +103,7 @@ impl<'a> Lane<'a> {
         let bytes = reply_bytes(alloc, reply)?;
         self.told.extend_from_slice(&bytes)?;
         self.left = left;
-        self.job = None;
+        drop(self.job.take());
         Ok(())
     }
 
@@ -113,7 +114,7 @@ impl<'a> Lane<'a> {
     {
         let bytes = reply_bytes(alloc, reply)?;
         self.told.extend_from_slice(&bytes)?;
-        self.job = None;
+        drop(self.job.take());
         Ok(())
     }
 
@@ -122,7 +123,7 @@ impl<'a> Lane<'a> {
         ensures { self.new ≡ record self.old { left = left.now; job = Some asking } }
     {
         self.left = left;
-        self.job = Some(asking);
+        drop(mem::replace(&mut self.job, Some(asking)));
     }
 
     /// This is left of the input.
@@ -146,9 +147,10 @@ impl<'a> Lane<'a> {
         let Lane {
             size: _,
             left: _,
-            job: _,
+            job,
             told,
         } = self;
+        drop(job);
         Bytes::from_vec(told)
     }
 }

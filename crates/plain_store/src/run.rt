@@ -353,7 +353,10 @@ impl<'a> Run<'a> {
     {
         match self.take_next(alloc, lane)? {
             Next::Job(asking, left) => {
-                let reply = self.store.do_step(alloc, lane, moment, &asking)?;
+                let Ok(reply) = self.store.do_step(alloc, lane, moment, &asking) else {
+                    drop(asking);
+                    return Err(AllocError);
+                };
                 let job = asking.take(alloc, reply)?;
                 self.go_on(alloc, lane, left, job)?;
                 Ok(true)

@@ -104,16 +104,21 @@ pub(crate) fn answer(
     let code = asked.first().copied().unwrap_or(0);
     let reply = reply_of(rt, alloc, code, body);
     assert!(rt; is_reply_to(&step, &reply));
+    drop(step);
     must(rt, job.take(rt, alloc, reply));
     asked
 }
 
 /// The frame of what a job reports that asks nothing more.
 pub(crate) fn report_of(rt: &impl Abort, alloc: Global, job: Job) -> Vec<u8> {
-    let asks_more = must(rt, job.next(alloc)).is_some();
+    let next = must(rt, job.next(alloc));
+    let asks_more = next.is_some();
+    drop(next);
     assert!(rt; !asks_more);
+    let report = job.report();
     let mut sink = MemSink::new(alloc, Vec::new(alloc));
-    must(rt, job.report().put(&mut sink));
+    must(rt, report.put(&mut sink));
+    drop(report);
     sink.into_bytes()
 }
 
@@ -131,7 +136,9 @@ fn is_job(command: &Command) -> bool
 pub(crate) fn started(rt: &impl Abort, alloc: Global, body: &[u8]) -> Job {
     let command = must(rt, must(rt, Command::read(alloc, body)));
     assert!(rt; is_job(&command));
-    must(rt, Job::start(alloc, &command))
+    let job = must(rt, Job::start(alloc, &command));
+    drop(command);
+    job
 }
 
 /// The frames of the steps that a job asks by these replies.

@@ -132,7 +132,7 @@ impl Pull {
 fn put(place: &mut State, state: State)
     ensures { place.new ≡ state }
 {
-    *place = state;
+    drop(mem::replace(place, state));
 }
 
 impl State {

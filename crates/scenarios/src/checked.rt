@@ -2,6 +2,7 @@
 
 use crate::compared::file_at;
 use crate::differs::Differs;
+use crate::plan::Plan;
 use crate::session::{Asked, Disks, serve_check, words};
 use crate::words::{same, text_of};
 use crate::woven::Plains;
@@ -33,6 +34,13 @@ fn ports_of(alloc: Global, files: &[Vec<u8>]) -> Result<Vec<Port<MemSource, MemS
         })?;
     }
     Ok(ports)
+}
+
+/// The check of these files.
+fn asked_of(alloc: Global, files: &[Vec<u8>]) -> Result<Asked, AllocError> {
+    let ports = ports_of(alloc, files)?;
+    let words = words(alloc, &["check", "root", "order"], files.len() / 2)?;
+    Ok(Asked { words, ports })
 }
 
 /// A status, and the line behind it, if there is one. It is ended.
@@ -115,17 +123,58 @@ impl Checked {
         Ok(checked)
     }
 
+    /// Checks a run that had this plan's order, and left what it wants.
+    pub fn planned<R: Threads + Wait + Sync>(
+        rt: &R,
+        alloc: Global,
+        disks: Disks,
+        plan: &Plan,
+    ) -> Result<Checked, Differs> {
+        let files = plan.wanted_files()?;
+        let plains = Plains::load(alloc, &disks)?;
+        Checked::of(rt, alloc, disks, plains, files)
+    }
+
     /// What is told of the files, which is what the plain copy comes to.
     fn check<R: Threads + Wait + Sync>(&self, rt: &R, alloc: Global) -> Result<String, Differs> {
-        let asked = Asked {
-            words: words(alloc, &["check", "root", "order"], self.files.len() / 2)?,
-            ports: ports_of(alloc, &self.files)?,
-        };
+        let asked = asked_of(alloc, &self.files)?;
         let (status, line) = serve_check(rt, alloc, asked, self.disks.copies(alloc)?)?;
         let told = told_with(alloc, status.name(), line)?;
         let wanted = self.plains.told_of(alloc, &self.files)?;
         same(told.clone()?, wanted.as_str())?;
         Ok(told)
+    }
+
+    fn byte_at(&self, file: usize, place: usize) -> Option<u8> {
+        file_at(&self.files, file).get(place).copied()
+    }
+
+    /// A file with other bytes in place of those from one place up to another.
+    fn spliced(
+        &self,
+        alloc: Global,
+        file: usize,
+        from: usize,
+        until: usize,
+        others: &[u8],
+    ) -> Result<Vec<u8>, AllocError> {
+        spliced(alloc, file_at(&self.files, file), from, until, others)
+    }
+
+    /// The order's file with the entry at a place twice.
+    fn twice(&self, alloc: Global, place: usize, next: usize) -> Result<Vec<u8>, AllocError> {
+        let bytes = file_at(&self.files, 0);
+        let entry = bytes.get(place..next).unwrap_or(&[]);
+        spliced(alloc, bytes, place, place, entry)
+    }
+
+    /// The order's file with the entry at a place behind the next.
+    fn turned(&self, alloc: Global, place: usize, next: usize) -> Result<Vec<u8>, AllocError> {
+        let bytes = file_at(&self.files, 0);
+        let last = next.saturating_add(ENTRY_SIZE);
+        let mut turned = bytes.get(next..last).unwrap_or(&[]).to_vec(alloc)?;
+        turned.extend_from_slice(bytes.get(place..next).unwrap_or(&[]))?;
+        spliced(alloc, bytes, place, last, &turned)
     }
 
     /// Puts these bytes in place of a file's, which it gives.
@@ -161,18 +210,31 @@ impl Checked {
         counts: &mut Counts,
     ) -> Result<(), Differs> {
         let next = place.saturating_add(1);
-        let bytes = file_at(&self.files, file);
-        let more = spliced(alloc, bytes, place, place, &[42])?;
-        if let Some(byte) = bytes.get(place) {
-            let other = spliced(alloc, bytes, place, next, &[*byte ^ 1])?;
-            let gone = spliced(alloc, bytes, place, next, &[])?;
+        if let Some(byte) = self.byte_at(file, place) {
+            let other = self.spliced(alloc, file, place, next, &[byte ^ 1])?;
             self.check_with(rt, alloc, file, other, counts)?;
+            let gone = self.spliced(alloc, file, place, next, &[])?;
             self.check_with(rt, alloc, file, gone, counts)?;
         }
+        let more = self.spliced(alloc, file, place, place, &[42])?;
         self.check_with(rt, alloc, file, more, counts)
     }
 
-    /// Each byte of each file so, and one behind the last: how often the replies are equal, are not, and how often there is no order.
+    /// Each byte of a file so, and one behind the last.
+    fn check_file<R: Threads + Wait + Sync>(
+        &mut self,
+        rt: &R,
+        alloc: Global,
+        file: usize,
+        counts: &mut Counts,
+    ) -> Result<(), Differs> {
+        for place in 0..=file_at(&self.files, file).len() {
+            self.check_byte(rt, alloc, file, place, counts)?;
+        }
+        Ok(())
+    }
+
+    /// Each file so: how often the replies are equal, are not, and how often there is no order.
     pub fn check_bytes<R: Threads + Wait + Sync>(
         &mut self,
         rt: &R,
@@ -180,9 +242,7 @@ impl Checked {
     ) -> Result<String, Differs> {
         let mut counts = Counts::default();
         for file in 0..self.files.len() {
-            for place in 0..=file_at(&self.files, file).len() {
-                self.check_byte(rt, alloc, file, place, &mut counts)?;
-            }
+            self.check_file(rt, alloc, file, &mut counts)?;
         }
         Ok(counts.text(alloc)?)
     }
@@ -195,17 +255,12 @@ impl Checked {
         place: usize,
         counts: &mut Counts,
     ) -> Result<(), Differs> {
-        let bytes = file_at(&self.files, 0);
         let next = place.saturating_add(ENTRY_SIZE);
-        let last = next.saturating_add(ENTRY_SIZE);
-        let entry = bytes.get(place..next).unwrap_or(&[]);
-        let gone = spliced(alloc, bytes, place, next, &[])?;
-        let twice = spliced(alloc, bytes, place, place, entry)?;
-        let mut turned = bytes.get(next..last).unwrap_or(&[]).to_vec(alloc)?;
-        turned.extend_from_slice(entry)?;
-        let later = spliced(alloc, bytes, place, last, &turned)?;
+        let gone = self.spliced(alloc, 0, place, next, &[])?;
         self.check_with(rt, alloc, 0, gone, counts)?;
+        let twice = self.twice(alloc, place, next)?;
         self.check_with(rt, alloc, 0, twice, counts)?;
+        let later = self.turned(alloc, place, next)?;
         self.check_with(rt, alloc, 0, later, counts)
     }
 

@@ -32,21 +32,21 @@ pub fn holds(stage: &mut Stage, left: &Left, word: &str, rest: &str) -> Result<(
 
 /// What stands behind a word that speaks of the last session.
 fn said(alloc: Global, left: &Left, disk: &MemoryDisk, word: &str) -> Result<String, Differs> {
-    let text = match word.as_bytes() {
-        b"kinds" => kinds(alloc, &left.order)?,
-        b"moments" => moments(alloc, &left.order)?,
-        b"entries" => text_of(alloc, &[left.order.len() as u64])?,
-        b"calls" => text_of(alloc, &left.report.calls)?,
-        b"writes" => writes(alloc, left, disk.steps())?,
-        b"made" => text_of(alloc, &[made(left.disk)])?,
-        b"remote-made" => text_of(alloc, &[made(left.remote)])?,
-        b"faults" => text_of(alloc, &[left.disk.faults])?,
-        b"remote-faults" => text_of(alloc, &[left.remote.faults])?,
-        b"place" => place(alloc, left)?,
-        b"saved" => String::from_str(alloc, is_saved(left))?,
+    let text: Result<String, AllocError> = match word.as_bytes() {
+        b"kinds" => kinds(alloc, &left.order),
+        b"moments" => moments(alloc, &left.order),
+        b"entries" => text_of(alloc, &[left.order.len() as u64]),
+        b"calls" => text_of(alloc, &left.report.calls),
+        b"writes" => writes(alloc, left, disk.steps()),
+        b"made" => text_of(alloc, &[made(left.disk)]),
+        b"remote-made" => text_of(alloc, &[made(left.remote)]),
+        b"faults" => text_of(alloc, &[left.disk.faults]),
+        b"remote-faults" => text_of(alloc, &[left.remote.faults]),
+        b"place" => place(alloc, left),
+        b"saved" => String::from_str(alloc, is_saved(left)),
         _ => return Err(Differs::Unread),
     };
-    Ok(text)
+    Ok(text?)
 }
 
 fn kinds(alloc: Global, order: &[Entry]) -> Result<String, AllocError> {

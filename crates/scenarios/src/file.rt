@@ -1,6 +1,6 @@
 //! The scenarios of a file, one behind another.
 
-use crate::stage::{Kept, Stage};
+use crate::stage::Stage;
 use std::alloc::Global;
 use std::io;
 use std::sync::Wait;
@@ -13,7 +13,54 @@ pub struct Count {
     pub differ: u64,
 }
 
-/// Plays the scenarios of a file, and prints the first line of each that does not hold. A file without any differs too.
+/// A line begins a scenario, is done or tested, or is passed over.
+fn play_line<P: Print, R: Threads + Wait + Sync>(
+    rt: &P,
+    threads: &R,
+    stage: &mut Stage,
+    file: &str,
+    number: usize,
+    line: &str,
+    count: &mut Count,
+) -> io::Result<()> {
+    if let Some(name) = line.strip_prefix("= ") {
+        stage.begin_scenario(name)?;
+        count.all = count.all.saturating_add(1);
+        return Ok(());
+    }
+    if line.is_empty() || line.starts_with('#') || stage.has_differed {
+        return Ok(());
+    }
+    if let Err(error) = stage.obey(threads, number, line) {
+        println!(rt; "{file}:{number}: {}: {error}", stage.name)?;
+        stage.has_differed = true;
+        count.differ = count.differ.saturating_add(1);
+    }
+    Ok(())
+}
+
+/// The same of all lines of a file. One without a scenario differs.
+fn play_lines<P: Print, R: Threads + Wait + Sync>(
+    rt: &P,
+    threads: &R,
+    stage: &mut Stage,
+    file: &str,
+    text: &str,
+    count: &mut Count,
+) -> io::Result<()> {
+    let before = count.all;
+    for (place, line) in text.lines().enumerate() {
+        let number = place.saturating_add(1);
+        play_line(rt, threads, stage, file, number, line, count)?;
+    }
+    if count.all == before {
+        println!(rt; "{file}: no scenario")?;
+        count.differ = count.differ.saturating_add(1);
+    }
+    Ok(())
+}
+
+/// Plays the scenarios of a file, and prints the first line of each that does not hold.
 pub fn play_file<P: Print, R: Threads + Wait + Sync>(
     rt: &P,
     threads: &R,
@@ -22,27 +69,8 @@ pub fn play_file<P: Print, R: Threads + Wait + Sync>(
     text: &str,
     count: &mut Count,
 ) -> io::Result<()> {
-    let mut kept: Kept = Vec::new(alloc);
     let mut stage = Stage::new(alloc, "")?;
-    let mut has_differed = false;
-    let before = count.all;
-    for (place, line) in text.lines().enumerate() {
-        let number = place.saturating_add(1);
-        if let Some(name) = line.strip_prefix("= ") {
-            stage = Stage::new(alloc, name)?;
-            has_differed = false;
-            count.all = count.all.saturating_add(1);
-        } else if line.is_empty() || line.starts_with('#') || has_differed {
-            continue;
-        } else if let Err(error) = stage.obey(threads, &mut kept, number, line) {
-            println!(rt; "{file}:{number}: {}: {error}", stage.name)?;
-            has_differed = true;
-            count.differ = count.differ.saturating_add(1);
-        }
-    }
-    if count.all == before {
-        println!(rt; "{file}: no scenario")?;
-        count.differ = count.differ.saturating_add(1);
-    }
-    Ok(())
+    let played = play_lines(rt, threads, &mut stage, file, text, count);
+    drop(stage);
+    played
 }

@@ -43,6 +43,14 @@ const STANDING: u64 = 1_600_000_000;
 /// There are 64 lanes.
 const LAST_LANE: u64 = 63;
 
+/// Adds a session's input, and its replies.
+fn push_session(files: &mut Vec<Vec<u8>>, talk: &Talk, replies: Vec<u8>) -> Result<(), AllocError> {
+    let sent = talk.sent.clone()?;
+    files.push(sent)?;
+    files.push(replies)?;
+    Ok(())
+}
+
 impl Plan {
     /// One session, to which nothing is sent; the clock stands, and nothing fails.
     pub fn new(alloc: Global) -> Result<Plan, AllocError> {
@@ -163,8 +171,7 @@ impl Plan {
         let mut files = Vec::new(self.alloc);
         files.push(left.file.clone()?)?;
         for (talk, told) in self.talks.iter().zip(left.told.iter()) {
-            files.push(talk.sent.clone()?)?;
-            files.push(told.clone()?)?;
+            push_session(&mut files, talk, told.clone()?)?;
         }
         Ok(files)
     }
@@ -174,8 +181,7 @@ impl Plan {
         let mut files = Vec::new(self.alloc);
         files.push(self.order.clone()?)?;
         for talk in &self.talks {
-            files.push(talk.sent.clone()?)?;
-            files.push(talk.wanted()?)?;
+            push_session(&mut files, talk, talk.wanted()?)?;
         }
         Ok(files)
     }

@@ -1,7 +1,7 @@
 //! Sessions are served, and what they leave is kept for the lines behind them.
 
 use crate::differs::Differs;
-use crate::gate::LineClock;
+use crate::gate::{GateHandle, LineClock};
 use crate::plan::Plan;
 use crate::taken::TakenDisk;
 use crate::words::{push_number, same};
@@ -122,18 +122,23 @@ fn told_by(
     Ok(told)
 }
 
-/// Does what is asked on disks that fail as they should.
+/// The clock of a plan, by whose gate it is read.
+fn clock_of(plan: &Plan, gate: &GateHandle) -> Result<LineClock, AllocError> {
+    let clock = plan.clock()?;
+    Ok(LineClock::new(clock, Arc::try_clone(gate)?))
+}
+
+/// Does what is asked on disks that fail as they should, by this clock and this gate.
 fn serve_on<R: Threads + Wait + Sync>(
     rt: &R,
     alloc: Global,
-    plan: &Plan,
     asked: Asked,
     disk: Taken,
     remote: Option<Failed>,
+    clock: LineClock,
+    gate: GateHandle,
 ) -> Result<Run, AllocError> {
     let Asked { words, mut ports } = asked;
-    let gate = plan.gate()?;
-    let clock = LineClock::new(plan.clock()?, Arc::try_clone(&gate)?);
     let mut journal = MemSink::new(alloc, Vec::new(alloc));
     let served = serve(
         rt,
@@ -215,6 +220,77 @@ fn ended(alloc: Global, served: &Over, plan: &Plan) -> Result<String, AllocError
     Ok(text)
 }
 
+/// How many steps both disks have had that write.
+fn steps_of(disk: &MemoryDisk, remote: &Option<MemoryDisk>) -> (usize, usize) {
+    (disk.steps().len(), counts_of(remote).1)
+}
+
+impl Run {
+    /// What it left beside the disks, and these, which had so many calls before. None where the remote was written, which had so many steps.
+    fn left(self, ended: String, before: (u64, u64), steps: usize) -> Option<(Left, Disks)> {
+        let Run {
+            served,
+            told,
+            journal,
+            gave_up,
+        } = self;
+        let disk_counts = counted(before.0, &served.disk);
+        let came = served.disk.came;
+        let (remote_counts, remote) = handed_back(before.1, served.remote);
+        let disk = served.disk.into_inner().into_inner();
+        let is_written = counts_of(&remote).1 != steps;
+        let left = Left {
+            status: served.status,
+            ended,
+            order: served.order,
+            report: served.report,
+            told,
+            file: journal,
+            disk: disk_counts,
+            remote: remote_counts,
+            came,
+            gave_up,
+        };
+        if is_written {
+            drop(left);
+            return None;
+        }
+        Some((left, Disks { disk, remote }))
+    }
+
+    /// The status of a check, and the line that is told. None where something was written into a port, or to a disk, which had so many steps.
+    fn told_alone(self, steps: (usize, usize)) -> Option<(Status, Vec<u8>)> {
+        let Run {
+            served,
+            told,
+            journal,
+            gave_up: _,
+        } = self;
+        let status = served.status;
+        let is_told = told.iter().any(|told| !told.is_empty());
+        let (_, remote) = handed_back(0, served.remote);
+        let disk = served.disk.into_inner().into_inner();
+        if is_told || steps_of(&disk, &remote) != steps {
+            return None;
+        }
+        Some((status, journal))
+    }
+}
+
+/// Does what is asked on these disks, as it is planned.
+fn serve_planned<R: Threads + Wait + Sync>(
+    rt: &R,
+    alloc: Global,
+    plan: &Plan,
+    asked: Asked,
+    disks: Disks,
+) -> Result<Run, AllocError> {
+    let gate = plan.gate()?;
+    let clock = clock_of(plan, &gate)?;
+    let (disk, remote) = failing(plan, disks)?;
+    serve_on(rt, alloc, asked, disk, remote, clock, gate)
+}
+
 /// Checks what is asked so, where nothing fails: the status, and the line that is told. Nothing is written to a disk or into a port.
 pub fn serve_check<R: Threads + Wait + Sync>(
     rt: &R,
@@ -222,23 +298,14 @@ pub fn serve_check<R: Threads + Wait + Sync>(
     asked: Asked,
     disks: Disks,
 ) -> Result<(Status, Vec<u8>), Differs> {
+    let steps = steps_of(&disks.disk, &disks.remote);
     let plan = Plan::new(alloc)?;
-    let steps = (disks.disk.steps().len(), counts_of(&disks.remote).1);
-    let (disk, remote) = failing(&plan, disks)?;
-    let Run {
-        served,
-        told,
-        journal,
-        gave_up: _,
-    } = serve_on(rt, alloc, &plan, asked, disk, remote)?;
-    let status = served.status;
-    let is_told = told.iter().any(|told| !told.is_empty());
-    let (_, remote) = handed_back(0, served.remote);
-    let disk = served.disk.into_inner().into_inner();
-    if is_told || (disk.steps().len(), counts_of(&remote).1) != steps {
-        return Err(Differs::Found(String::from_str(alloc, "a write of a check")?));
+    let run = serve_planned(rt, alloc, &plan, asked, disks);
+    drop(plan);
+    match run?.told_alone(steps) {
+        Some(told) => Ok(told),
+        None => Err(Differs::Found(String::from_str(alloc, "a write of a check")?)),
     }
-    Ok((status, journal))
 }
 
 /// Serves the sessions that are planned. The remote is not written.
@@ -250,35 +317,14 @@ pub fn serve_plan<R: Threads + Wait + Sync>(
 ) -> Result<(Left, Disks), Differs> {
     let before = disks.disk.calls();
     let (remote_before, steps) = counts_of(&disks.remote);
-    let (disk, remote) = failing(plan, disks)?;
     let ports = plan.ports()?;
     let words = words(alloc, &["run", "root", "--order=file"], ports.len())?;
-    let asked = Asked { words, ports };
-    let Run {
-        served,
-        told,
-        journal,
-        gave_up,
-    } = serve_on(rt, alloc, plan, asked, disk, remote)?;
-    let ended = ended(alloc, &served, plan)?;
-    let (remote_counts, remote) = handed_back(remote_before, served.remote);
-    if counts_of(&remote).1 != steps {
-        return Err(Differs::Found(String::from_str(alloc, "a write of the remote")?));
+    let run = serve_planned(rt, alloc, plan, Asked { words, ports }, disks)?;
+    let ended = ended(alloc, &run.served, plan)?;
+    match run.left(ended, (before, remote_before), steps) {
+        Some(left) => Ok(left),
+        None => Err(Differs::Found(String::from_str(alloc, "a write of the remote")?)),
     }
-    let left = Left {
-        status: served.status,
-        ended,
-        order: served.order,
-        report: served.report,
-        told,
-        file: journal,
-        disk: counted(before, &served.disk),
-        remote: remote_counts,
-        came: served.disk.came,
-        gave_up,
-    };
-    let disk = served.disk.into_inner().into_inner();
-    Ok((left, Disks { disk, remote }))
 }
 
 impl Left {

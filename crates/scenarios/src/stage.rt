@@ -8,15 +8,12 @@ use crate::plan::Plan;
 use crate::session::{Disks, Left, copy_of, copy_of_remote};
 use crate::stops::{Found, Sweep, Whole};
 use crate::words::{number_of, same, split};
-use crate::woven::{Compared, Plains, serve_compared};
+use crate::woven::{Compared, serve_compared};
 use disk_trait::{Disk, MemoryDisk};
 use std::alloc::{AllocError, Global};
 use std::mem;
 use std::sync::Wait;
 use std::thread::Threads;
-
-/// Disks that scenarios left for later ones, by name.
-pub type Kept = Vec<(String, MemoryDisk)>;
 
 /// What stands, and what is planned. Lines speak of one disk, the datastore's at first.
 #[derive(Drop)]
@@ -35,6 +32,10 @@ pub struct Stage {
     left: Option<Left>,
     /// The last run that was checked.
     checked: Option<Checked>,
+    /// A line of the scenario did not hold.
+    pub has_differed: bool,
+    /// Disks that earlier scenarios of the file left for later ones, by name.
+    kept: Vec<(String, MemoryDisk)>,
 }
 
 /// A file's name, which may have any letters.
@@ -48,24 +49,35 @@ pub fn name_of(alloc: Global, text: &str) -> Result<String, Differs> {
 impl Stage {
     /// An empty datastore without a remote.
     pub fn new(alloc: Global, name: &str) -> Result<Stage, AllocError> {
+        let name = String::from_str(alloc, name)?;
+        let plan = Plan::new(alloc)?;
         Ok(Stage {
             alloc,
-            name: String::from_str(alloc, name)?,
+            name,
             disk: MemoryDisk::new(alloc),
             other: None,
             is_there: false,
-            plan: Plan::new(alloc)?,
+            plan,
             sweep: Sweep::new(alloc),
             left: None,
             checked: None,
+            has_differed: false,
+            kept: Vec::new(alloc),
         })
+    }
+
+    /// Another scenario begins, with an empty datastore and without a remote.
+    pub fn begin_scenario(&mut self, name: &str) -> Result<(), AllocError> {
+        let mut next = Stage::new(self.alloc, name)?;
+        next.kept = mem::replace(&mut self.kept, Vec::new(self.alloc));
+        drop(mem::replace(self, next));
+        Ok(())
     }
 
     /// Does what a line says, or tests it.
     pub fn obey<R: Threads + Wait + Sync>(
         &mut self,
         rt: &R,
-        kept: &mut Kept,
         number: usize,
         line: &str,
     ) -> Result<(), Differs> {
@@ -75,26 +87,20 @@ impl Stage {
             b"checks" => self.check(rt, rest),
             b"checked" | b"changed" | b"reordered" => self.check_again(rt, word, rest),
             b"sweep" => self.sweep(rt, number_of(rest)?),
-            _ => self.prepare(kept, number, word, rest),
+            _ => self.prepare(number, word, rest),
         }
     }
 
     /// Does what a line says of the disks.
-    fn prepare(
-        &mut self,
-        kept: &mut Kept,
-        number: usize,
-        word: &str,
-        rest: &str,
-    ) -> Result<(), Differs> {
+    fn prepare(&mut self, number: usize, word: &str, rest: &str) -> Result<(), Differs> {
         match word.as_bytes() {
             b"put" => self.put(rest),
             b"gone" => self.remove(rest),
             b"there" => self.turn(true),
             b"here" => self.turn(false),
             b"crash" => self.crash(rest),
-            b"keep" => self.keep(kept, rest),
-            b"from" => self.begin(kept, rest),
+            b"keep" => self.keep(rest),
+            b"from" => self.begin(rest),
             b"found" => self.find(number, rest),
             b"name" => self.add_name(rest),
             b"whole" => self.leave(number, rest),
@@ -160,20 +166,26 @@ impl Stage {
         Ok(())
     }
 
-    fn keep(&self, kept: &mut Kept, name: &str) -> Result<(), Differs> {
+    fn keep(&mut self, name: &str) -> Result<(), Differs> {
+        let disk = copy_of(self.alloc, &self.disk)?;
         let name = String::from_str(self.alloc, name)?;
-        kept.push((name, copy_of(self.alloc, &self.disk)?))?;
+        self.kept.push((name, disk))?;
         Ok(())
     }
 
-    fn begin(&mut self, kept: &Kept, name: &str) -> Result<(), Differs> {
-        for (known, disk) in kept {
+    /// A copy of the first disk that was kept so.
+    fn copy_kept(&self, name: &str) -> Result<MemoryDisk, Differs> {
+        for (known, disk) in &self.kept {
             if known.as_str() == name {
-                self.disk = copy_of(self.alloc, disk)?;
-                return Ok(());
+                return Ok(copy_of(self.alloc, disk)?);
             }
         }
         Err(Differs::Unread)
+    }
+
+    fn begin(&mut self, name: &str) -> Result<(), Differs> {
+        self.disk = self.copy_kept(name)?;
+        Ok(())
     }
 
     fn find(&mut self, line: usize, text: &str) -> Result<(), Differs> {
@@ -208,11 +220,14 @@ impl Stage {
     /// Stops the session that is planned at each of its calls.
     fn sweep<R: Threads + Wait + Sync>(&mut self, rt: &R, calls: u64) -> Result<(), Differs> {
         let alloc = self.alloc;
+        let disk = copy_of(alloc, &self.disk)?;
         let mut plan = mem::replace(&mut self.plan, Plan::new(alloc)?);
         let mut sweep = mem::replace(&mut self.sweep, Sweep::new(alloc));
-        let disk = copy_of(alloc, &self.disk)?;
         let remote = self.other.take();
-        sweep.try_calls(rt, alloc, &mut plan, &Disks { disk, remote }, calls)
+        let tried = sweep.try_calls(rt, alloc, &mut plan, &Disks { disk, remote }, calls);
+        drop(plan);
+        drop(sweep);
+        tried
     }
 
     /// The datastore, and the remote if any; or the remote alone, while lines speak of it.
@@ -252,30 +267,57 @@ impl Stage {
         self.checked = Some(checked);
     }
 
+    /// Serves what is planned on these disks. Goes on with what was served, where it ended so.
+    fn serve_once<R: Threads + Wait + Sync>(
+        &mut self,
+        rt: &R,
+        plan: &Plan,
+        disks: Disks,
+        ended: &str,
+    ) -> Result<Result<(), Differs>, Differs> {
+        let compared = serve_compared(rt, self.alloc, plan, disks)?;
+        let holds = compared.left.compare(self.alloc, plan, ended);
+        if holds.is_ok() {
+            self.go_on(compared);
+        } else {
+            drop(compared);
+        }
+        Ok(holds)
+    }
+
     /// Serves what is planned. Where it is to be tried more than once, so on copies, until what is wanted comes about.
-    fn serve<R: Threads + Wait + Sync>(&mut self, rt: &R, ended: &str) -> Result<(), Differs> {
-        let alloc = self.alloc;
-        let plan = mem::replace(&mut self.plan, Plan::new(alloc)?);
+    fn serve_tries<R: Threads + Wait + Sync>(
+        &mut self,
+        rt: &R,
+        plan: &Plan,
+        ended: &str,
+    ) -> Result<(), Differs> {
         for _ in 1..plan.tries {
-            let compared = serve_compared(rt, alloc, &plan, self.copy_disks()?)?;
-            if compared.left.compare(alloc, &plan, ended).is_ok() {
-                self.go_on(compared);
+            let disks = self.copy_disks()?;
+            if self.serve_once(rt, plan, disks, ended)?.is_ok() {
                 return Ok(());
             }
         }
-        let compared = serve_compared(rt, alloc, &plan, self.take_disks())?;
-        compared.left.compare(alloc, &plan, ended)?;
-        self.go_on(compared);
-        Ok(())
+        let disks = self.take_disks();
+        self.serve_once(rt, plan, disks, ended)?
+    }
+
+    /// Serves what is planned, and plans anew.
+    fn serve<R: Threads + Wait + Sync>(&mut self, rt: &R, ended: &str) -> Result<(), Differs> {
+        let plan = mem::replace(&mut self.plan, Plan::new(self.alloc)?);
+        let served = self.serve_tries(rt, &plan, ended);
+        drop(plan);
+        served
     }
 
     /// Checks a run that is planned, of which the replies that are wanted were kept.
     fn check<R: Threads + Wait + Sync>(&mut self, rt: &R, wanted: &str) -> Result<(), Differs> {
         let alloc = self.alloc;
-        let plan = mem::replace(&mut self.plan, Plan::new(alloc)?);
         let disks = self.copy_disks()?;
-        let plains = Plains::load(alloc, &disks)?;
-        let checked = Checked::of(rt, alloc, disks, plains, plan.wanted_files()?)?;
+        let plan = mem::replace(&mut self.plan, Plan::new(alloc)?);
+        let checked = Checked::planned(rt, alloc, disks, &plan);
+        drop(plan);
+        let checked = checked?;
         let told = checked.told.clone()?;
         self.checked = Some(checked);
         same(told, wanted)

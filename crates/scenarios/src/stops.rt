@@ -5,7 +5,7 @@ use crate::bytes::shown;
 use crate::checks::first_other;
 use crate::differs::Differs;
 use crate::plan::Plan;
-use crate::session::{Disks, Left, copy_of, copy_of_remote, serve_plan};
+use crate::session::{Disks, Left, copy_of_remote, serve_plan};
 use crate::words::{number_of, same, split, text_of};
 use disk_trait::{Disk, MemoryDisk};
 use std::alloc::{AllocError, Global};
@@ -118,6 +118,16 @@ fn compare_failed(left: &Left, alloc: Global, plan: &Plan, all: u64) -> Result<(
     plan.compare_failed(&left.told, failed, acts.done)
 }
 
+/// What a session is told that fails as it is planned, or of which nothing fails.
+fn compare_acts(left: &Left, alloc: Global, plan: &Plan, all: Option<u64>) -> Result<(), Differs> {
+    match all {
+        Some(all) => compare_failed(left, alloc, plan, all)?,
+        None => left.compare(alloc, plan, "Ok")?,
+    }
+    let wanted = if all.is_some() { "1" } else { "0" };
+    same(text_of(alloc, &[left.disk.faults])?, wanted)
+}
+
 impl Sweep {
     /// Nothing may be found, and any file be left.
     pub fn new(alloc: Global) -> Sweep {
@@ -182,6 +192,28 @@ impl Sweep {
         Ok(())
     }
 
+    /// What a later session left, and these disks, are one of the states. A remote has all that the datastore has.
+    fn find(
+        &mut self,
+        alloc: Global,
+        left: &Left,
+        disks: &mut Disks,
+        acts: Acts,
+    ) -> Result<(), Differs> {
+        let Some(first) = self.founds.first() else {
+            return Err(Differs::Unread);
+        };
+        same(left.ended.clone()?, "Ok")?;
+        left.compare_usual(alloc, &first.plan)?;
+        if !self.fits(alloc, &left.told, &mut disks.disk, acts)? {
+            return Err(Differs::Found(text_of(alloc, &[acts.done])?));
+        }
+        match &mut disks.remote {
+            Some(remote) => same(first_other(alloc, &mut disks.disk, remote)?, ""),
+            None => Ok(()),
+        }
+    }
+
     /// A later session finds one of the states. Beside a remote it pulls what is left.
     fn try_later<R: Threads + Wait + Sync>(
         &mut self,
@@ -194,15 +226,10 @@ impl Sweep {
             return Err(Differs::Unread);
         };
         let (left, mut disks) = serve_plan(rt, alloc, &first.plan, disks)?;
-        same(left.ended.clone()?, "Ok")?;
-        left.compare_usual(alloc, &first.plan)?;
-        if !self.fits(alloc, &left.told, &mut disks.disk, acts)? {
-            return Err(Differs::Found(text_of(alloc, &[acts.done])?));
-        }
-        match &mut disks.remote {
-            Some(remote) => same(first_other(alloc, &mut disks.disk, remote)?, ""),
-            None => Ok(()),
-        }
+        let found = self.find(alloc, &left, &mut disks, acts);
+        drop(left);
+        drop(disks);
+        found
     }
 
     /// What a crash of each kind leaves.
@@ -231,17 +258,16 @@ impl Sweep {
         disks: &Disks,
         all: Option<u64>,
     ) -> Result<Acts, Differs> {
-        let disk = copy_of(alloc, &disks.disk)?;
-        let remote = copy_of_remote(alloc, &disks.remote)?;
-        let (left, disks) = serve_plan(rt, alloc, plan, Disks { disk, remote })?;
-        match all {
-            Some(all) => compare_failed(&left, alloc, plan, all)?,
-            None => left.compare(alloc, plan, "Ok")?,
-        }
-        let wanted = if all.is_some() { "1" } else { "0" };
-        same(text_of(alloc, &[left.disk.faults])?, wanted)?;
+        let (left, disks) = serve_plan(rt, alloc, plan, disks.copies(alloc)?)?;
         let acts = acts_of(&left);
-        self.try_crashes(rt, alloc, &disks, acts)?;
+        let told = compare_acts(&left, alloc, plan, all);
+        drop(left);
+        let tried = match told {
+            Ok(()) => self.try_crashes(rt, alloc, &disks, acts),
+            Err(differs) => Err(differs),
+        };
+        drop(disks);
+        tried?;
         Ok(acts)
     }
 

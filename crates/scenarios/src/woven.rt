@@ -163,26 +163,54 @@ pub struct Compared {
     pub checked: Checked,
 }
 
-/// Serves what is planned, compares several sessions with the plain copy, and checks the run. Of several sessions, each of which was told all,
-/// the replies are equal.
+/// What stands before a run: copies of the disks, and the plain copies.
+#[derive(Drop)]
+struct Before {
+    disks: Disks,
+    plains: Plains,
+}
+
+impl Before {
+    fn of(alloc: Global, disks: &Disks) -> Result<Before, Differs> {
+        let plains = Plains::load(alloc, disks)?;
+        let disks = disks.copies(alloc)?;
+        Ok(Before { disks, plains })
+    }
+
+    /// Compares several sessions with the plain copy, and checks the run. Of several sessions, each of which was told all, the replies are
+    /// equal.
+    fn check<R: Threads + Wait + Sync>(
+        self,
+        rt: &R,
+        alloc: Global,
+        plan: &Plan,
+        left: &Left,
+    ) -> Result<Checked, Differs> {
+        let Before { disks, plains } = self;
+        let are_several = plan.talks.len() > 1;
+        if are_several {
+            plains.compare(alloc, plan, left)?;
+        }
+        let is_equal = are_several && left.told_all() && !plains.is_damaged;
+        let files = plan.files(left)?;
+        let checked = Checked::of(rt, alloc, disks, plains, files)?;
+        if is_equal {
+            same(checked.told.clone()?, "Ok equal")?;
+        }
+        Ok(checked)
+    }
+}
+
+/// Serves what is planned, and checks the run.
 pub fn serve_compared<R: Threads + Wait + Sync>(
     rt: &R,
     alloc: Global,
     plan: &Plan,
     disks: Disks,
 ) -> Result<Compared, Differs> {
-    let before = disks.copies(alloc)?;
-    let plains = Plains::load(alloc, &disks)?;
+    let before = Before::of(alloc, &disks)?;
     let (left, disks) = serve_plan(rt, alloc, plan, disks)?;
-    let are_several = plan.talks.len() > 1;
-    if are_several {
-        plains.compare(alloc, plan, &left)?;
-    }
-    let is_equal = are_several && left.told_all() && !plains.is_damaged;
-    let checked = Checked::of(rt, alloc, before, plains, plan.files(&left)?)?;
-    if is_equal {
-        same(checked.told.clone()?, "Ok equal")?;
-    }
+    let checked = before.check(rt, alloc, plan, &left)?;
     Ok(Compared {
         left,
         disks,

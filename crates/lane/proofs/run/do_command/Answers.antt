@@ -15,34 +15,34 @@ use Rattle.lane.proofs.run.do_command.Goals as goal
 pub start-job-requires : goal.start-job-requires
 start-job-requires g c = job_by c.args.command (sym c.is_job.ensures ∙ c.if-is_job.true)
 
-pub do_task-requires-clause-task : goal.do_task-requires-clause-task
-do_task-requires-clause-task g c κs lives = job_task c.args.command (job_by c.args.command (sym c.is_job.ensures ∙ c.if-is_job.true))
+pub do_task-told-requires-clause-task : goal.do_task-told-requires-clause-task
+do_task-told-requires-clause-task g c κs lives = job_task c.args.command (job_by c.args.command (sym c.is_job.ensures ∙ c.if-is_job.true))
 
-pub do_task-requires-clause-first : goal.do_task-requires-clause-first
-do_task-requires-clause-first g c κs lives = job_first c.args.command c.start-job.result (job_by c.args.command (sym c.is_job.ensures ∙ c.if-is_job.true)) c.start-job.ensures
+pub do_task-told-requires-clause-first : goal.do_task-told-requires-clause-first
+do_task-told-requires-clause-first g c κs lives = job_first c.args.command c.start-job.result (job_by c.args.command (sym c.is_job.ensures ∙ c.if-is_job.true)) c.start-job.ensures
 
-pub do_task-requires-clause-wants : goal.do_task-requires-clause-wants
-do_task-requires-clause-wants g c κs lives = job_wants c.args.command c.start-job.result (job_by c.args.command (sym c.is_job.ensures ∙ c.if-is_job.true))
+pub do_task-told-requires-clause-wants : goal.do_task-told-requires-clause-wants
+do_task-told-requires-clause-wants g c κs lives = job_wants c.args.command c.start-job.result (job_by c.args.command (sym c.is_job.ensures ∙ c.if-is_job.true))
 
 -- ---- a GC
 
-pub do_task-requires-then-is_gc-clause-task : goal.do_task-requires-then-is_gc-clause-task
-do_task-requires-then-is_gc-clause-task g c κs lives = subst IsTask (sym (gc_by c.args.command (sym c.is_gc.ensures ∙ c.if-is_gc.true))) tt
+pub do_task-told-requires-then-is_gc-clause-task : goal.do_task-told-requires-then-is_gc-clause-task
+do_task-told-requires-then-is_gc-clause-task g c κs lives = subst IsTask (sym (gc_by c.args.command (sym c.is_gc.ensures ∙ c.if-is_gc.true))) tt
 
-pub do_task-requires-then-is_gc-clause-first : goal.do_task-requires-then-is_gc-clause-first
-do_task-requires-then-is_gc-clause-first g c κs lives = c.new.ensures ∙ ap first_stage (sym (gc_by c.args.command (sym c.is_gc.ensures ∙ c.if-is_gc.true)))
+pub do_task-told-requires-then-is_gc-clause-first : goal.do_task-told-requires-then-is_gc-clause-first
+do_task-told-requires-then-is_gc-clause-first g c κs lives = c.new.ensures ∙ ap first_stage (sym (gc_by c.args.command (sym c.is_gc.ensures ∙ c.if-is_gc.true)))
 
 -- ---- a SYNC
 
-pub do_task-requires-in-Sync-clause-task : goal.do_task-requires-in-Sync-clause-task
-do_task-requires-in-Sync-clause-task g c κs lives = subst IsTask (sym c.in-Sync.is) tt
+pub do_task-told-requires-in-Sync-clause-task : goal.do_task-told-requires-in-Sync-clause-task
+do_task-told-requires-in-Sync-clause-task g c κs lives = subst IsTask (sym c.in-Sync.is) tt
 
-pub do_task-requires-in-Sync-clause-first : goal.do_task-requires-in-Sync-clause-first
-do_task-requires-in-Sync-clause-first g c κs lives = pull_first c.args.command c.in-Sync.group c.start-pull.result c.in-Sync.is
+pub do_task-told-requires-in-Sync-clause-first : goal.do_task-told-requires-in-Sync-clause-first
+do_task-told-requires-in-Sync-clause-first g c κs lives = pull_first c.args.command c.in-Sync.group c.start-pull.result c.in-Sync.is
     (subst (λ (text : List ℕ). IfOk c.start-pull.result (λ job. job ≡ asks (seeking text))) c.as_slice.ensures c.start-pull.ensures)
 
-pub do_task-requires-in-Sync-clause-wants : goal.do_task-requires-in-Sync-clause-wants
-do_task-requires-in-Sync-clause-wants g c κs lives = pull_may c.args.command c.in-Sync.group c.start-pull.result c.in-Sync.is
+pub do_task-told-requires-in-Sync-clause-wants : goal.do_task-told-requires-in-Sync-clause-wants
+do_task-told-requires-in-Sync-clause-wants g c κs lives = pull_may c.args.command c.in-Sync.group c.start-pull.result c.in-Sync.is
 
 -- ---- a command of one act
 

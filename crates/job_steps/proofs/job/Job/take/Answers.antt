@@ -24,9 +24,9 @@ take-requires-clause-ends g c κs lives = subst EndsInText (sym (ap job_in c.rep
 pub returns-in-Ok-clause-ok : goal.returns-in-Ok-clause-ok
 returns-in-Ok-clause-ok g c =
     let before = ap job_in c.replace-state.ensures.value ∙ c.self.view_is in
-    c.in-Ok.ensures.ok ∙ ap (λ (j : Job). take_more j c.args.reply) before
+    ap job_in c.replace.ensures.after ∙ c.in-Ok.ensures.ok ∙ ap (λ (j : Job). take_more j c.args.reply) before
 
 pub returns-in-Err-clause-err : goal.returns-in-Err-clause-err
 returns-in-Err-clause-err g c =
     let before = ap job_in c.replace-state.ensures.value ∙ c.self.view_is in
-    (c.in-Err.ensures.err.0 ∙ before, subst (λ (j : Job). IsPartRead (next j) c.args.reply) before c.in-Err.ensures.err.1)
+    (ap job_in c.replace-in-Err.ensures.after ∙ c.in-Err.ensures.err.0 ∙ before, subst (λ (j : Job). IsPartRead (next j) c.args.reply) before c.in-Err.ensures.err.1)

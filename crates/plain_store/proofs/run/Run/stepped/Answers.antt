@@ -24,8 +24,8 @@ returns-in_ok-go_on-in-Job-clause-enters c =
     let told : Run = record { store = s; remote = option_map (λ p. p.now.snapshots) inside.remote; lanes = inside.lanes.items; collecting = inside.collecting; fault = inside.fault } in
     let before = c.self.view_is ∙ c.in_ok-next.ensures.left in
     let stored : inside.store ≡ r.store = ap (λ (x : Run). x.store) before in
-    let done = c.in_ok-reply-in-Job.ensures.step ∙ ap (λ x. answered x (step_outcome x k moment (step_of a))) stored in
-    job_stepped r k c.requires.lane n c.in_ok-next.ensures.next moment a left (ap shown_next c.in-Job.is) s c.in_ok-reply-in-Job.reply (shown_job c.in_ok-job-in-Job.job)
+    let done = c.in-Ok.ensures.step ∙ ap (λ x. answered x (step_outcome x k moment (step_of a))) stored in
+    job_stepped r k c.requires.lane n c.in_ok-next.ensures.next moment a left (ap shown_next c.in-Job.is) s c.in-Ok.reply (shown_job c.in_ok-job-in-Job.job)
     told c.go_on.new.self done c.in_ok-job-in-Job.ensures.job (ap (λ (x : Run). with_store x s) before) c.in_ok-go_on-in-Job.ensures.goes
 
 pub returns-in-Command-clause-enters : goal.returns-in-Command-clause-enters
