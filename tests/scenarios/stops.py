@@ -176,9 +176,9 @@ SCENARIOS = [
     swept("a backup, one over it, and a FORGET", ARCHIVES, 36, ARCHIVES_FOUND),
     swept("uploads that are aborted, and cut off", UPLOADS, 29, UPLOADS_FOUND),
     swept("a PRUNE of two snapshots", PRUNES, 26, PRUNES_FOUND),
-    # the chunk has four calls, the index three, FINISH four, DOWNLOAD two and three to open the index, RANGE and GET_CHUNK two each, and FILES one
-    swept("a fixed archive that is restored and listed", RESTORES, 27, RESTORES_FOUND),
-    swept("two backups of an archive, and a restore", archives.AGAIN, 44, AGAIN_FOUND),
+    # the chunk has four calls, the index three, FINISH four, DOWNLOAD two and three to open the index, RANGE one for a page and two, GET_CHUNK two, and FILES one
+    swept("a fixed archive that is restored and listed", RESTORES, 28, RESTORES_FOUND),
+    swept("two backups of an archive, and a restore", archives.AGAIN, 45, AGAIN_FOUND),
     swept("a FORGET, and a PRUNE behind it", prunes.GONE, 27, GONE_FOUND),
     # VERIFY has one for FILES, two for each file, and four for each chunk: its entry and its file
     swept("a backup that is verified", VERIFIES, 34, VERIFIES_FOUND),

@@ -44,8 +44,9 @@ READS = [
     ("a page of an index that is opened", 4, [OPEN_READER, *other_told(ROOT_READ, unreadable(A_ROOT)), ABC_BLOB]),
     ("the size of a chunk", 5, [OPEN_READER, ROOT_READ, *other_told(ABC_BLOB, ABC_GONE)]),
     ("a chunk", 6, [OPEN_READER, ROOT_READ, *other_told(ABC_BLOB, ABC_TORN)]),
-    ("the size of the first chunk of a range", 5, [OPEN_READER, ROOT_READ, *other_told(ALL_FIVE, ABC_GONE)]),
-    ("the first chunk of a range", 6, [OPEN_READER, ROOT_READ, *other_told(ALL_FIVE, ABC_TORN)]),
+    ("the page of a range", 5, [OPEN_READER, ROOT_READ, *other_told(ALL_FIVE, unreadable(A_ROOT))]),
+    ("the size of the first chunk of a range", 6, [OPEN_READER, ROOT_READ, *other_told(ALL_FIVE, ABC_GONE)]),
+    ("the first chunk of a range", 7, [OPEN_READER, ROOT_READ, *other_told(ALL_FIVE, ABC_TORN)]),
     ("the manifest at FILES", 0, [(files(A), unreadable(PLAIN)), LISTED]),
     ("a blob of the base", 1, [(open_writer(A_LATER), base(A)), *other_told((previous("a.conf.blob"), part(CONF)), unreadable(A_CONF))]),
 ]
@@ -101,6 +102,8 @@ READS_LONG = [
     (download("root.fidx", LONG_END), part(LONG_INDEX, LONG_END)),
     (LONG_RANGE, rest(b"xxxx")),
 ]
+# Behind six calls of DOWNLOAD a range in both pages reads the first one, a chunk by two calls, the second page, and the chunk again.
+RANGES_LONG = [OPEN_READER, READS_LONG[4], *other_told(READS_LONG[5], unreadable(A_LONG))]
 MARKS_LONG = [(gc(), unreadable(A_LONG)), (gc(), collected(NOW, NOW - 86_700, 1, 0, 0))]
 
 
@@ -152,6 +155,8 @@ SCENARIOS = [
     scenario(LONG, flat(place(*it) for it in LONG_FILES), talk([(LIST, rows((A, 2)))]), keep(LONG)),
     *(without_page(f"{name}, as a writer is told,", call, NAMES) for call, name in enumerate(TELLS)),
     *(without_page(f"{name}, as it is downloaded,", call, READS_LONG) for call, name in enumerate(TELLS)),
+    without_page("page 0, as a range is read,", 6, RANGES_LONG),
+    without_page("page 1, as a range is read,", 9, RANGES_LONG),
     *(without_page(f"{name}, as it is marked,", call, MARKS_LONG) for call, name in enumerate(OPENS)),
     *(without(f"{name}, as it is verified", OPENED + call, [(verify(A), reply), (forget(A), DONE)]) for name, call, reply in VERIFIED),
 ]

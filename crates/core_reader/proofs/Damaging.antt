@@ -1,7 +1,6 @@
 -- When a chunk is told to be damaged.
 use Rattle.disk_trait.specs.declared.disk.Disk.{Ghosts}
-use Rattle.std.proofs.Common.{◌≡◌, ℕ, List, [], ◌∷◌, ◌++◌, Option, Some, None, Result, Ok, Err, IsErrAnd, refl, sym, ap, subst, ◌∙◌, arith}
-use Rattle.std.specs.List.{Contains}
+use Rattle.std.proofs.Common.{◌≡◌, ℕ, Option, Some, None, Result, Ok, Err, IsErrAnd, sym, ap, subst, ◌∙◌, arith}
 use Rattle.port_traits.specs.Readings.{Readings}
 use Rattle.disk_trait.specs.Files.{Files}
 use Rattle.disk_trait.specs.declared.disk.DiskError.{DiskError}
@@ -10,23 +9,20 @@ use Rattle.store_types.specs.declared.names.Digest32.{Digest32}
 use Rattle.store_types.specs.declared.refusal.ChunkFault.{ChunkFault}
 use Rattle.store_types.specs.declared.refusal.Refusal.{Refusal}
 use Rattle.store_types.specs.declared.refusal.Refusal.TheVariants.{Damaged, NoMemory, DiskFault, Halted}
-use Rattle.store_types.specs.Chain.Refusing.{◌>>=◌}
 use Rattle.store_types.specs.declared.order.TheConstants.{COMMAND_KIND, MEMORY_KIND, FAULT_KIND}
 use Rattle.wire_commands.specs.declared.reply.Reply.{Reply}
-use Rattle.wire_commands.specs.declared.reply.Reply.TheVariants.{Data, Refused}
+use Rattle.wire_commands.specs.declared.reply.Reply.TheVariants.{Refused}
 use Rattle.store_history.specs.declared.act.Answer.{Answer}
-use Rattle.restore_reader.specs.declared.ranges.Part.{Part}
-use Rattle.restore_reader.specs.Cutting.{cut}
 use Rattle.core_state.specs.declared.parts.Parts.{Parts}
 use Rattle.core_state.specs.declared.state.Core.{Core}
 use Rattle.core_state.specs.Begins.{Refuses, short as is_out_of_memory, halted as is_halted, IsReady}
 use Rattle.core_state.specs.Settles.{Settles, kind_by, reply_by}
 use Rattle.core_state.specs.Stops.{told}
-use Rattle.store_stops.specs.Stops.{Gives, IfRefused}
+use Rattle.store_stops.specs.Stops.{IfRefused}
 use Rattle.store_stops.specs.declared.stop.Stop.{Stop}
 use Rattle.store_stops.specs.declared.stop.Stop.TheVariants as kinds
-use Rattle.core_reader.specs.Chunks.{or_damaged, part_chunk_at, part_found, parts_at, IsDamageAmong, StopsAmong, StopsAt}
-use Rattle.core_reader.specs.Damages.{digests_of, first_wrong, TellsDamaged}
+use Rattle.core_reader.specs.Chunks.{StopsAt}
+use Rattle.core_reader.specs.Damages.{TellsDamaged}
 
 -- ---- replies
 
@@ -43,55 +39,6 @@ fault_undamaged digest found e = cc
 pub halted_undamaged : (place : ℕ) → IsUndamaged (Some (Refused (Halted place)))
 halted_undamaged place digest found e = cc
 
--- ---- what is read
-
-no_damage : (m : Files) (x : Part) (rest : List Part) (p : List ℕ) → part_chunk_at m x ≡ Ok p → first_wrong m (x ∷ rest) ≡ first_wrong m rest
-no_damage m x rest p at = by_found (part_found m x) at
-  where
-    by_found : (r : Result (List ℕ) ChunkFault) → or_damaged x.digest r ≡ Ok p → ◌≡◌ {A = Option (Digest32 × ChunkFault)} (elim r [ Ok piece ↦ first_wrong m rest | Err found ↦ Some (x.digest, found) ]) (first_wrong m rest)
-    by_found (Ok piece) e = refl
-    by_found (Err found) e = cc
-
-this_damage : (m : Files) (x : Part) (d : Digest32) (rest : List Part) (found : ChunkFault) → part_chunk_at m x ≡ Err (Damaged d found) → first_wrong m (x ∷ rest) ≡ Some (d, found)
-this_damage m x d rest found at = by_found (part_found m x) at
-  where
-    by_found : (r : Result (List ℕ) ChunkFault) → or_damaged x.digest r ≡ Err (Damaged d found) → ◌≡◌ {A = Option (Digest32 × ChunkFault)} (elim r [ Ok piece ↦ first_wrong m rest | Err fault ↦ Some (x.digest, fault) ]) (Some (d, found))
-    by_found (Ok piece) e = cc
-    by_found (Err fault) e = cc
-
-pub parts_whole : (m : Files) (parts : List Part) (bytes : List ℕ) → parts_at m parts ≡ Ok bytes → first_wrong m parts ≡ None
-parts_whole m [] bytes is = refl
-parts_whole m (x ∷ xs) bytes is = by_chunk (part_chunk_at m x) refl (λ rest e. parts_whole m xs rest e) is
-  where
-    Later : Type 0
-    Later = (rest : List ℕ) → parts_at m xs ≡ Ok rest → first_wrong m xs ≡ None
-
-    by_rest : (r : Result (List ℕ) Refusal) (q : List ℕ) → parts_at m xs ≡ r → Later → (r >>= λ rest. Ok (cut x q ++ rest)) ≡ Ok bytes → first_wrong m xs ≡ None
-    by_rest (Ok rest) q e later is = later rest e
-    by_rest (Err refusal) q e later is = cc
-
-    by_chunk : (r : Result (List ℕ) Refusal) → part_chunk_at m x ≡ r → Later → (r >>= λ q. parts_at m xs >>= λ rest. Ok (cut x q ++ rest)) ≡ Ok bytes → first_wrong m (x ∷ xs) ≡ None
-    by_chunk (Ok q) e later is = no_damage m x xs q e ∙ by_rest (parts_at m xs) q refl later is
-    by_chunk (Err refusal) e later is = cc
-
-pub parts_damage : (m : Files) (parts : List Part) (d : Digest32) (found : ChunkFault) → parts_at m parts ≡ Err (Damaged d found) → first_wrong m parts ≡ Some (d, found)
-parts_damage m [] d found is = cc
-parts_damage m (x ∷ xs) d found is = by_chunk (part_chunk_at m x) refl (λ e. parts_damage m xs d found e) is
-  where
-    Later : Type 0
-    Later = parts_at m xs ≡ Err (Damaged d found) → first_wrong m xs ≡ Some (d, found)
-
-    errs : (r : Refusal) → ◌≡◌ {A = Result (List ℕ) Refusal} (Err r) (Err (Damaged d found)) → r ≡ Damaged d found
-    errs r e = cc
-
-    by_rest : (r : Result (List ℕ) Refusal) (q : List ℕ) → parts_at m xs ≡ r → Later → (r >>= λ rest. Ok (cut x q ++ rest)) ≡ Err (Damaged d found) → first_wrong m xs ≡ Some (d, found)
-    by_rest (Ok rest) q e later is = cc
-    by_rest (Err refusal) q e later is = later (e ∙ ap (λ y. Err y) (errs refusal is))
-
-    by_chunk : (r : Result (List ℕ) Refusal) → part_chunk_at m x ≡ r → Later → (r >>= λ q. parts_at m xs >>= λ rest. Ok (cut x q ++ rest)) ≡ Err (Damaged d found) → first_wrong m (x ∷ xs) ≡ Some (d, found)
-    by_chunk (Ok q) e later is = no_damage m x xs q e ∙ by_rest (parts_at m xs) q refl later is
-    by_chunk (Err refusal) e later is = this_damage m x d xs found (e ∙ ap (λ y. Err y) (errs refusal is))
-
 -- ---- what is told
 
 nothing_first : {A : Type 0} (x : A) → None ≡ Some x → ⊥
@@ -103,10 +50,6 @@ by_stopped : {D : Type 0} (g : Ghosts D) (disk : D) (may : Digest32 → Type 0) 
 by_stopped g disk may damage stop (Ok reply) is tells = absurd is
 by_stopped g disk may damage stop (Err x) is tells =
     subst (λ y. TellsDamaged g disk may damage (kind_by (told (Err y))) (Some (reply_by (told (Err y))))) (sym is) tells
-
--- of the chunks of these parts the first that is damaged, or not as long as the index says, is told
-abbrev pub TellsWrong : {D : Type 0} → Ghosts D → D → List Part → ℕ → Option Reply → Type 0
-TellsWrong g disk parts kind reply = TellsDamaged g disk (λ digest. Contains (digests_of parts) digest) (λ m. first_wrong m parts) kind reply
 
 module _ {D : Type 0} (g : Ghosts D) (disk : D) (may : Digest32 → Type 0) (damage : Files → Option (Digest32 × ChunkFault)) where
   -- nothing is damaged
@@ -183,49 +126,6 @@ module _ {D : Type 0} (g : Ghosts D) (disk : D) (may : Digest32 → Type 0) (dam
       by_stop (kinds.Refused refusal) h first = damages_told digest (h.0).0 refusal (h.0).1 named (λ honest. first honest (h.0).0 (ap (λ r. kinds.Refused r) (h.0).1))
       by_stop kinds.NoMemory h first = damages_failed DiskMemory
       by_stop kinds.DiskFailed h first = damages_failed DiskFailed
-
--- ---- of the parts of a range
-
-module _ {D : Type 0} (g : Ghosts D) (disk : D) where
-  wrong_told : (parts : List Part) (refusal : Refusal) → IsDamageAmong (digests_of parts) refusal
-      → (g.honest disk → (d : Digest32) (f : ChunkFault) → refusal ≡ Damaged d f → first_wrong (g.content disk) parts ≡ Some (d, f)) → TellsWrong g disk parts 0 (Some (Refused refusal))
-  wrong_told parts refusal among first =
-      damages_told g disk (λ digest. Contains (digests_of parts) digest) (λ m. first_wrong m parts) among.0 (among.2).0 refusal (among.2).1 among.1 (λ h. first h among.0 (among.2).0 (among.2).1)
-
-  -- stopped before they are read: none is needed
-  pub wrong_unread : (parts : List Part) (stop : Stop) (result : Result Reply Stop) → IsErrAnd result (λ x. x ≡ stop)
-      → IfRefused (λ refusal. (parts ≡ []) × ((digest : Digest32) (found : ChunkFault) → refusal ≡ Damaged digest found → ⊥)) stop
-      → TellsWrong g disk parts (kind_by (told result)) (Some (reply_by (told result)))
-  wrong_unread parts stop result stops none = damages_unread g disk (λ digest. Contains (digests_of parts) digest) (λ m. first_wrong m parts) stop result stops (by_stop stop none)
-    where
-      by_stop : (stop : Stop) → IfRefused (λ refusal. (parts ≡ []) × ((digest : Digest32) (found : ChunkFault) → refusal ≡ Damaged digest found → ⊥)) stop
-          → IfRefused (λ refusal. (g.honest disk → first_wrong (g.content disk) parts ≡ None) × ((digest : Digest32) (found : ChunkFault) → refusal ≡ Damaged digest found → ⊥)) stop
-      by_stop (kinds.Refused refusal) h = (λ honest. ap (first_wrong (g.content disk)) h.0, h.1)
-      by_stop kinds.NoMemory h = tt
-      by_stop kinds.DiskFailed h = tt
-
-  -- by what was read
-  pub wrong_read : {A : Type 0} (show : A → List ℕ) (parts read : List Part) (stop : Stop) (result : Result Reply Stop) → IsErrAnd result (λ x. x ≡ stop)
-      → parts ≡ read → StopsAmong (digests_of read) stop → (g.honest disk → Gives show (Err stop) (parts_at (g.content disk) read))
-      → TellsWrong g disk parts (kind_by (told result)) (Some (reply_by (told result)))
-  wrong_read show parts read stop result stops is among gives =
-      subst (λ ps. TellsWrong g disk ps (kind_by (told result)) (Some (reply_by (told result)))) (sym is)
-      (by_stopped g disk (λ digest. Contains (digests_of read) digest) (λ m. first_wrong m read) stop result stops (by_stop stop among gives))
-    where
-      by_stop : (stop : Stop) → StopsAmong (digests_of read) stop → (g.honest disk → Gives show (Err stop) (parts_at (g.content disk) read))
-          → TellsWrong g disk read (kind_by (told (Err stop))) (Some (reply_by (told (Err stop))))
-      by_stop (kinds.Refused refusal) h gives =
-          wrong_told read refusal h.0 (λ honest d f e. parts_damage (g.content disk) read d f (gives honest ∙ ap (λ x. Err x) e))
-      by_stop kinds.NoMemory h gives = damages_failed g disk (λ digest. Contains (digests_of read) digest) (λ m. first_wrong m read) DiskMemory
-      by_stop kinds.DiskFailed h gives = damages_failed g disk (λ digest. Contains (digests_of read) digest) (λ m. first_wrong m read) DiskFailed
-
-  -- all that is needed was given
-  pub wrong_none : (parts read : List Part) (bytes sent : List ℕ) → parts ≡ read → (g.honest disk → parts_at (g.content disk) read ≡ Ok bytes)
-      → TellsWrong g disk parts 0 (Some (Data sent))
-  wrong_none parts read bytes sent is gives =
-      subst (λ ps. TellsWrong g disk ps 0 (Some (Data sent))) (sym is)
-      (damages_none g disk (λ digest. Contains (digests_of read) digest) (λ m. first_wrong m read) 0 (Some (Data sent)) (λ d f e. cc)
-      (λ honest. parts_whole (g.content disk) read bytes (gives honest)))
 
 -- ---- acts
 

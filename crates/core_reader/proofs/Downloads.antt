@@ -24,8 +24,12 @@ use Rattle.store_model.specs.Steps.{outcome}
 use Rattle.restore_reader.specs.Session.{Reading}
 use Rattle.paged_indexes.specs.declared.kinds.IndexKind.{IndexKind}
 use Rattle.snapshot_files.specs.Parts.{part_at, part_from}
-use Rattle.snapshot_files.specs.Indexes.{Indexed, index_at}
-use Rattle.snapshot_files.proofs.Archives.{archive_at}
+use Rattle.snapshot_files.specs.Indexes.{Indexed, index_at, index_opened, kind_of_index, layout_kind}
+use Rattle.snapshot_files.proofs.Archives.{archive_at, layout_index}
+use Rattle.store_files.specs.Folder.{file_path}
+use Rattle.paged_indexes.specs.declared.index.IndexPages.{IndexPages}
+use Rattle.paged_indexes.specs.Index.{opened}
+use Rattle.restore_reader.specs.Shown.{pages_of}
 use Rattle.core_state.specs.declared.parts.Parts.{Parts}
 use Rattle.core_state.specs.declared.kept.Listed.{Listed}
 use Rattle.core_state.specs.declared.kept.Session.{Session}
@@ -46,6 +50,7 @@ use Rattle.core_state.proofs.Soundness.{shows_changed}
 use Rattle.core_state.proofs.Finding.{is_some}
 use Rattle.core_state.proofs.Found.{IsThere, is_there, not_there, there_named, there_text, there_kind, there_fits}
 use Rattle.core_reader.specs.Asked.{asked_at, file_asked, whole_for}
+use Rattle.core_reader.proofs.Kept.{kept_is, opens_as}
 use Rattle.core_reader.proofs.Noted.{note_key, note_none, whole_archive}
 use Rattle.core_reader.proofs.OpenSteps.{sound_reader, disk_reader}
 
@@ -261,6 +266,7 @@ module _ {D : Type 0} (d : Ghosts D) (old : Parts D) (s : Store) (lane m : ℕ) 
   record IsIndex (of_kind : IndexKind) : Type 0 where
     pub one : Archive
     pub is_one_of : stored ≡ archive one
+    pub kind_is : of_kind ≡ layout_kind one.layout
     pub read : index_at (d.content old.disk) path of_kind offset ≡ read_index (file_text stored) offset (ends_from 0 one.pieces)
 
   index_there : (of_kind : IndexKind) → whole_for r name ≡ Some of_kind → IsIndex of_kind
@@ -273,6 +279,7 @@ module _ {D : Type 0} (d : Ghosts D) (old : Parts D) (s : Store) (lane m : ℕ) 
       record {
         one = a;
         is_one_of = w.1;
+        kind_is = w.2;
         read =
             ap (λ b. index_at (d.content old.disk) path b offset) w.2
             ∙ archive_at (d.content old.disk) path offset a fits text
@@ -285,14 +292,21 @@ module _ {D : Type 0} (d : Ghosts D) (old : Parts D) (s : Store) (lane m : ℕ) 
       refused_there refusal (refused_part (part_from (file_text stored) offset) (ends_from 0 (x.one).pieces) refusal (sym x.read ∙ tells))
 
   -- it is given, and noted
-  pub index_given : (new : Parts D) (x : Indexed) (of_kind : IndexKind) (noted : Session) → lane < 64 → whole_for r name ≡ Some of_kind → index_at (d.content old.disk) path of_kind offset ≡ Ok x
-      → ((a : Archive) → content_at (files_named v.key s.snapshots) name ≡ Some (archive a) → x.entries ≡ ends_from 0 a.pieces → noted ≡ shown_session s.snapshots (reader (note name (archive a) v)))
+  pub index_given : (new : Parts D) (x : Indexed) (of_kind : IndexKind) (kept : IndexPages) (noted : Session) → lane < 64 → whole_for r name ≡ Some of_kind → index_at (d.content old.disk) path of_kind offset ≡ Ok x
+      → index_opened (d.content old.disk) path of_kind ≡ Ok kept
+      → ((a : Archive) → content_at (files_named v.key s.snapshots) name ≡ Some (archive a) → x.entries ≡ ends_from 0 a.pieces → kept ≡ pages_of name (file_path v.key name) (file_text (archive a))
+      → noted ≡ shown_session s.snapshots (reader (note name (archive a) v)))
       → (d.honest old.disk → d.content new.disk ≡ d.content old.disk) → new.catalogue.listed ≡ old.catalogue.listed → new.sessions.items ≡ set old.sessions.items lane noted → new.locks ≡ old.locks
       → (after_it : Store) × (outcome s lane m (Download name offset) ≡ Ok (after_it, x.part)) × Shows new after_it × IsOnDisk (d.content new.disk) after_it
-  index_given new x of_kind noted lt whole tells notes same c l k =
+  index_given new x of_kind kept noted lt whole tells opens notes same c l k =
       let sound = (h.shows).sound in
       let i = index_there of_kind whole in
       let a = i.one in
+      let text : get (d.content old.disk) path ≡ Some (file_text (archive a)) = text_there ∙ ap (λ y. Some (file_text y)) i.is_one_of in
+      let kind : names_content (archive a) name ≡ true = ap (λ y. names_content y name) (sym i.is_one_of) ∙ kind_there in
+      let opened_as : opened (d.content old.disk) path (kind_of_index name) ≡ Ok kept =
+      ap (opened (d.content old.disk) path) (layout_index a name kind ∙ sym i.kind_is) ∙ opens_as (d.content old.disk) path of_kind kept opens in
+      let pages = kept_is (d.content old.disk) s.snapshots v.key name path there a text kept opened_as in
       let told = indexed (part_from (file_text stored) offset) (ends_from 0 a.pieces) x (sym i.read ∙ tells) in
       let w = note name (archive a) v in
       let at_name : content_at (files_named v.key s.snapshots) name ≡ Some (archive a) =
@@ -301,7 +315,7 @@ module _ {D : Type 0} (d : Ghosts D) (old : Parts D) (s : Store) (lane m : ℕ) 
       let within : lane < length s.sessions = omega (arith, sound.lanes, lt) in (
         with_session s lane (reader w),
         step_there ∙ ap (λ y. with_part s lane (note name y v) (part_from (file_text stored) offset)) i.is_one_of ∙ ap (with_part s lane w) told.0,
-        shows_changed old new s lane (reader w) noted c l (notes a at_name told.1)
+        shows_changed old new s lane (reader w) noted c l (notes a at_name told.1 pages)
             (locked_reads_on old.locks new.locks s lane v w within k at (note_key name (archive a) v) (h.shows).locks) (sound_reader s lane w lt reads sound) h.shows,
         disk_reader (d.content new.disk) s lane w within (subst (λ f. IsOnDisk f s) (sym (same h.honest)) h.files),
       )
@@ -331,18 +345,21 @@ module _ {D : Type 0} (d : Ghosts D) (old : Parts D) (s : Store) (lane m : ℕ) 
       let (v, at, is) = reader_shown old s lane asked.reading h.shows lt asked.reads in
       index_refused d old s lane m file path offset v asked.reading at is asked.named h asked.found refusal of_kind (asked.whole_is ∙ some) (ap (λ p. index_at (d.content old.disk) p of_kind offset) (sym same) ∙ gives)
 
-  pub asked_index_given : (new : Parts D) (x : Indexed) (of_kind : IndexKind) (q name : List ℕ) (before noted : Session) → q ≡ path → name ≡ file → whole ≡ Some of_kind → index_at (d.content old.disk) q of_kind offset ≡ Ok x
+  pub asked_index_given : (new : Parts D) (x : Indexed) (of_kind : IndexKind) (q name : List ℕ) (kept : IndexPages) (before noted : Session) → q ≡ path → name ≡ file → whole ≡ Some of_kind
+      → index_at (d.content old.disk) q of_kind offset ≡ Ok x → index_opened (d.content old.disk) q of_kind ≡ Ok kept
       → before ≡ get_or old.sessions.items lane before
       → ((snapshots : List Snapshot) (r : model.Reader) (a : Archive) → before ≡ shown_session snapshots (reader r) → content_at (files_named r.key snapshots) name ≡ Some (archive a) → x.entries ≡ ends_from 0 a.pieces
-      → noted ≡ shown_session snapshots (reader (note name (archive a) r)))
+      → kept ≡ pages_of name (file_path r.key name) (file_text (archive a)) → noted ≡ shown_session snapshots (reader (note name (archive a) r)))
       → (d.honest old.disk → d.content new.disk ≡ d.content old.disk) → new.catalogue.listed ≡ old.catalogue.listed → new.sessions.items ≡ set old.sessions.items lane noted → new.locks ≡ old.locks
       → (after_it : Store) × (outcome s lane m (Download file offset) ≡ Ok (after_it, x.part)) × Shows new after_it × IsOnDisk (d.content new.disk) after_it
-  asked_index_given new x of_kind q name before noted same named some gives here notes content c l k =
+  asked_index_given new x of_kind q name kept before noted same named some gives opens here notes content c l k =
       let (v, at, is) = reader_shown old s lane asked.reading h.shows lt asked.reads in
       let shown = at_lane old.sessions.items s lane before (h.shows).sessions ((h.shows).sound).lanes lt here in
-      index_given d old s lane m file path offset v asked.reading at is asked.named h asked.found new x of_kind noted lt (asked.whole_is ∙ some) (ap (λ p. index_at (d.content old.disk) p of_kind offset) (sym same) ∙ gives)
-      (λ a there ends. subst (λ n. noted ≡ shown_session s.snapshots (reader (note n (archive a) v))) named
-      (notes s.snapshots v a (shown ∙ ap (shown_session s.snapshots) at) (subst (λ n. content_at (files_named v.key s.snapshots) n ≡ Some (archive a)) (sym named) there) ends))
+      index_given d old s lane m file path offset v asked.reading at is asked.named h asked.found new x of_kind kept noted lt (asked.whole_is ∙ some)
+      (ap (λ p. index_at (d.content old.disk) p of_kind offset) (sym same) ∙ gives) (ap (λ p. index_opened (d.content old.disk) p of_kind) (sym same) ∙ opens)
+      (λ a there ends pages. subst (λ n. noted ≡ shown_session s.snapshots (reader (note n (archive a) v))) named
+      (notes s.snapshots v a (shown ∙ ap (shown_session s.snapshots) at) (subst (λ n. content_at (files_named v.key s.snapshots) n ≡ Some (archive a)) (sym named) there) ends
+      (subst (λ n. kept ≡ pages_of n (file_path v.key n) (file_text (archive a))) (sym named) pages)))
       content c l k
 
 -- where nothing was noted the sessions are as before

@@ -24,13 +24,13 @@ use Rattle.chunk_store.specs.Faults.{IsDamageAsked, IsNotDamaged}
 use Rattle.chunk_store.specs.declared.chunk.LoadFault.{LoadFault}
 use Rattle.chunk_store.specs.declared.chunk.LoadFault.TheVariants as loads
 use Rattle.chunk_store.proofs.Blobs.{data_behind_header, data_is, checked_piece}
-use Rattle.core_state.specs.Replies.{refuses_get, refuses_range}
+use Rattle.core_state.specs.Replies.{refuses_get}
 use Rattle.core_state.specs.Unchanged.{is_uncalled}
 use Rattle.snapshot_files.specs.Reads.{StopHasText}
 use Rattle.store_stops.specs.Stops.{Gives, IfRefused}
 use Rattle.store_stops.specs.declared.stop.Stop.{Stop}
 use Rattle.store_stops.specs.declared.stop.Stop.TheVariants.{Refused, NoMemory, DiskFailed}
-use Rattle.core_reader.specs.Chunks.{or_damaged, of_length, bytes_at, bytes_in, chunk_at, part_chunk_at, parts_at, stop_by_load, IsDamageOf, StopsAmong, StopsAt}
+use Rattle.core_reader.specs.Chunks.{behind, or_damaged, of_length, bytes_at, bytes_in, chunk_at, part_chunk_at, parts_at, stop_by_load, IsDamageOf, IsUnrefused, StopsAmong, StopsAt}
 
 -- ---- pieces that stand there
 
@@ -99,14 +99,6 @@ held_part m (x ∷ xs) (p ∷ ps) (suc i) d are held lt = held_part m xs ps i d 
 
 -- ---- parts one after another
 
--- behind bytes that were read before
-abbrev pub behind : List ℕ → Result (List ℕ) Refusal → Result (List ℕ) Refusal
-behind front r = r >>= λ rest. Ok (front ++ rest)
-
-pub none_behind : (r : Result (List ℕ) Refusal) → r ≡ behind [] r
-none_behind (Ok rest) = refl
-none_behind (Err refusal) = refl
-
 -- one part more
 pub part_more : (m : Files) (front : List ℕ) (xs rest : List Part) (x : Part) (piece : List ℕ) → xs ≡ x ∷ rest → part_chunk_at m x ≡ Ok piece
     → behind front (parts_at m xs) ≡ behind (front ++ cut x piece) (parts_at m rest)
@@ -146,13 +138,25 @@ short_only {A} (Err stop) is failed = apart (sym is ∙ same stop failed)
     apart e = cc
 
 -- where a chunk is to be had it stops by no refusal
-pub none_stopped : {A B : Type 0} (f : A → List ℕ) (g : B → List ℕ) (p all : List ℕ) (stop : Stop) → Gives f (Err stop) (Ok p) → Gives g (Err stop) (Ok all)
-none_stopped f g p all (Refused refusal) gives = absurd (refused_apart p refusal gives)
+pub unrefused_by : {A B : Type 0} (result : Result B Stop) (stop : Stop) (f : A → List ℕ) (p : List ℕ) → IsErrAnd result (λ x. x ≡ stop) → Gives f (Err stop) (Ok p) → IsUnrefused result
+unrefused_by (Ok x) stop f p is gives = absurd is
+unrefused_by {A} (Err x) stop f p is gives = subst (λ s. IfRefused (λ refusal. ⊥) s) (sym is) (by_stop stop gives)
   where
-    refused_apart : (p : List ℕ) (refusal : Refusal) → ◌≡◌ {A = Result (List ℕ) Refusal} (Ok p) (Err refusal) → ⊥
-    refused_apart p refusal e = cc
-none_stopped f g p all NoMemory gives = tt
-none_stopped f g p all DiskFailed gives = tt
+    refused_apart : (refusal : Refusal) → ◌≡◌ {A = Result (List ℕ) Refusal} (Ok p) (Err refusal) → ⊥
+    refused_apart refusal e = cc
+
+    by_stop : (stop : Stop) → Gives f (Err stop) (Ok p) → IfRefused (λ refusal. ⊥) stop
+    by_stop (Refused refusal) gives = refused_apart refusal gives
+    by_stop NoMemory gives = tt
+    by_stop DiskFailed gives = tt
+
+pub short_unrefused : {A : Type 0} (result : Result A Stop) → IsErrAnd result (λ x. x ≡ NoMemory) → IsUnrefused result
+short_unrefused (Ok x) is = absurd is
+short_unrefused (Err x) is = subst (λ s. IfRefused (λ refusal. ⊥) s) (sym is) tt
+
+pub handed_unrefused : {A : Type 0} (result : Result A Stop) (stop : Stop) → IsErrAnd result (λ x. x ≡ stop) → IfRefused (λ refusal. ⊥) stop → IsUnrefused result
+handed_unrefused (Ok x) stop is h = absurd is
+handed_unrefused (Err x) stop is h = subst (λ s. IfRefused (λ refusal. ⊥) s) (sym is) h
 
 true_false : true ≡ false → ⊥
 true_false e = cc
@@ -182,16 +186,6 @@ pub among_text : (digests : List Digest32) (stop : Stop) → StopsAmong digests 
 among_text digests (Refused refusal) h = h.1
 among_text digests NoMemory h = tt
 among_text digests DiskFailed h = tt
-
-pub among_ranged : (digests : List Digest32) (stop : Stop) → StopsAmong digests stop → IfRefused (λ refusal. IsTrue (refuses_range refusal)) stop
-among_ranged digests (Refused refusal) h = ap refuses_range (((h.0).2).1)
-among_ranged digests NoMemory h = tt
-among_ranged digests DiskFailed h = tt
-
-pub among_called : (digests : List Digest32) (stop : Stop) (P : Type 0) → StopsAmong digests stop → IfRefused (λ refusal. is_uncalled refusal ≡ true → P) stop
-among_called digests (Refused refusal) P h = damage_called (h.0).0 refusal P ((h.0).2)
-among_called digests NoMemory P h = tt
-among_called digests DiskFailed P h = tt
 
 -- nothing more
 pub parts_done : (m : Files) (front : List ℕ) (xs : List Part) → xs ≡ [] → behind front (parts_at m xs) ≡ Ok front

@@ -17,7 +17,9 @@ use Rattle.paged_indexes.specs.declared.kinds.IndexKind.{IndexKind}
 use Rattle.paged_indexes.specs.declared.kinds.IndexKind.TheVariants.{Fixed, Dynamic}
 use Rattle.snapshot_files.specs.Indexes.{kind_named, layout_kind}
 use Rattle.snapshot_files.proofs.Archives.{layout_named}
-use Rattle.store_files.specs.DynamicIndex.{Ended}
+use Rattle.store_types.specs.declared.names.SnapshotKey.{SnapshotKey}
+use Rattle.paged_indexes.specs.declared.index.IndexPages.{IndexPages}
+use Rattle.restore_reader.specs.declared.index.Table.{Table}
 use Rattle.core_state.specs.Named.{is_named}
 use Rattle.core_state.specs.Shown.{files_named, shown_session, shown_reader}
 use Rattle.core_state.specs.declared.kept.Session.{Session}
@@ -57,15 +59,15 @@ none_whole b e = cc
 some_whole : (a b : IndexKind) → Some a ≡ Some b → a ≡ b
 some_whole a b e = cc
 
-any_noted : (files : List File) (name : List ℕ) (names : List (List ℕ)) → list_any (λ x. bytes_eq name x.name) (map (shown_noted files) names) ≡ list_any (bytes_eq name) names
-any_noted files name [] = refl
-any_noted files name (n ∷ ns) = ap (λ b. bytes_eq name n || b) (any_noted files name ns)
+any_noted : (key : SnapshotKey) (files : List File) (name : List ℕ) (names : List (List ℕ)) → list_any (λ x. bytes_eq name x.name) (map (shown_noted key files) names) ≡ list_any (bytes_eq name) names
+any_noted key files name [] = refl
+any_noted key files name (n ∷ ns) = ap (λ b. bytes_eq name n || b) (any_noted key files name ns)
 
 -- nothing is noted where the file isn't read whole
 pub note_none : (ss : List Snapshot) (r : model.Reader) (name : List ℕ) (c : Content) → names_content c name ≡ true → whole_for (shown_reader ss r) name ≡ None → note name c r ≡ r
 note_none ss r name (blob bytes) kind whole = refl
 note_none ss r name (archive a) kind whole =
-    by_test (is_noted r name) (ap (λ b. if b then None else kind_named name) (sym (any_noted (files_named r.key ss) name r.noted)) ∙ whole)
+    by_test (is_noted r name) (ap (λ b. if b then None else kind_named name) (sym (any_noted r.key (files_named r.key ss) name r.noted)) ∙ whole)
   where
     by_test : (b : Bool) → (if b then None else kind_named name) ≡ None → cond b r (record r { noted = r.noted ++ name ∷ [] }) ≡ r
     by_test true e = refl
@@ -105,11 +107,12 @@ shown_note ss r name a new is =
 
 -- ---- sessions stay named
 
-is_named-noting : (name : List ℕ) (entries : List Ended) (x : Session) → is_named (noting name entries x) ≡ is_named x
-is_named-noting name entries Idle = refl
-is_named-noting name entries (Writer w) = refl
-is_named-noting name entries (Reader r) = refl
+is_named-noting : (name : List ℕ) (table : Table) (pages : IndexPages) (x : Session) → is_named (noting name table pages x) ≡ is_named x
+is_named-noting name table pages Idle = refl
+is_named-noting name table pages (Writer w) = refl
+is_named-noting name table pages (Reader r) = refl
 
-pub named_after : {E : Type 0} (result : Result (Unit {0}) E) (old new : Session) (name : List ℕ) (entries : List Ended) → OnOk result (new ≡ noting name entries old) → OnErr result (new ≡ old) → is_named old ≡ true → is_named new ≡ true
-named_after (Ok u) old new name entries ok err h = ap is_named ok ∙ is_named-noting name entries old ∙ h
-named_after (Err e) old new name entries ok err h = ap is_named err ∙ h
+pub named_after : {E : Type 0} (result : Result (Unit {0}) E) (old new : Session) (name : List ℕ) (table : Table) (pages : IndexPages) → OnOk result (new ≡ noting name table pages old) → OnErr result (new ≡ old)
+    → is_named old ≡ true → is_named new ≡ true
+named_after (Ok u) old new name table pages ok err h = ap is_named ok ∙ is_named-noting name table pages old ∙ h
+named_after (Err e) old new name table pages ok err h = ap is_named err ∙ h

@@ -1,50 +1,53 @@
 -- RANGE is the store's.
-use Rattle.std.proofs.Common.{◌≡◌, ◌<◌, ◌≤◌, ℕ, true, false, List, [], drop, length, Option, Some, None, is_some, option_map, Result, Ok, Err, IfOk, IfErr, IsErrAnd, IsErrOf, IsTrue, Vec, map, refl, sym, ap, subst, ◌∙◌, arith}
-use Rattle.std.specs.Prelude.{MatchResult}
-use Rattle.std.specs.declared.alloc.Global.{Global}
-use Rattle.std.specs.List.{All}
-use Rattle.std.proofs.lemmas.List.Elements.{All-drop}
+use Rattle.std.proofs.Common.{◌≡◌, ◌+◌, ◌-◌, ◌<◌, ℕ, true, false, List, [], drop, take, length, get_or, Option, Some, None, is_some, ◌∷◌, option_map, Result, Ok, Err, Bool, IsTrue, refl, sym, ap, subst, ◌∙◌, arith}
+use Rattle.std.specs.List.{All, concat}
+use Rattle.std.specs.Prelude.{◌&&◌, nat_le, nat_lt}
+use Rattle.std.proofs.lemmas.Bool.{and_from, le-leb, lt-ltb}
+use Rattle.std.proofs.lemmas.List.{get_or_default}
+use Rattle.std.proofs.lemmas.List.Elements.{All-head, All-tail}
+use Rattle.std.specs.FinMap.{get}
 use Rattle.disk_trait.specs.Files.{Files}
-use Rattle.store_types.specs.Chain.Refusing.{◌>>=◌}
+use Rattle.store_types.specs.Chain.Refusing.{◌>>=◌, unless}
 use Rattle.store_types.specs.FileNames.{is_index_name}
-use Rattle.store_types.specs.declared.refusal.ChunkFault.{ChunkFault}
-use Rattle.store_types.specs.declared.names.Digest32.{Digest32}
 use Rattle.store_types.specs.declared.names.SnapshotKey.{SnapshotKey}
 use Rattle.store_types.specs.declared.refusal.Refusal.{Refusal}
-use Rattle.store_types.specs.declared.refusal.Refusal.TheVariants.{WrongState, BadName, NoFile, NotAllowed, TooMany, BadRange, Damaged}
-use Rattle.store_types.specs.declared.refusal.Refusal.TheVariants as refusals
-use Rattle.store_files.specs.Archive.{File, file_named}
-use Rattle.wire_frames.specs.Frames.{body_limit}
+use Rattle.store_types.specs.declared.refusal.SessionState.{SessionState}
+use Rattle.store_types.specs.declared.refusal.Refusal.TheVariants.{WrongState, BadName, NoFile, NotAllowed, TooMany, BadRange}
+use Rattle.store_files.specs.Archive.{Content, File, archive, ends_from, file_named, file_text, pieces_of}
+use Rattle.store_files.specs.DynamicIndex.{steps_fit}
+use Rattle.store_files.specs.Folder.{IsPiece, file_path}
+use Rattle.chunk_store.specs.Pieces.{IsHeld}
 use Rattle.wire_commands.specs.declared.reply.Reply.TheVariants.{Data}
 use Rattle.wire_commands.specs.declared.command.Command.TheVariants.{Range}
 use Rattle.store_model.specs.Store as model
 use Rattle.store_model.specs.Store.{Store, reader, session, want_reader}
-use Rattle.store_model.specs.ReaderSteps.{pieces_at, range, range_of, reader_files}
+use Rattle.store_model.specs.ReaderSteps.{content_at, pieces_at, range, range_of, reader_files, want_range}
+use Rattle.store_model.specs.WriterSteps.{part_limit}
+use Rattle.store_model.specs.Stands.{FitsContent, names_content}
 use Rattle.store_model.specs.Steps.{outcome}
-use Rattle.restore_reader.specs.declared.ranges.Part.{Part}
-use Rattle.restore_reader.specs.Answers.{GivesBytes, PlanPlainly, RefusesRange}
-use Rattle.restore_reader.specs.Cutting.{ArePartsOf, joined}
-use Rattle.restore_reader.specs.Session.{Reading}
-use Rattle.restore_reader.specs.Steps.{range_plan}
-use Rattle.chunk_store.specs.Pieces.{IsHeld}
+use Rattle.paged_indexes.specs.declared.index.IndexPages.{IndexPages}
+use Rattle.paged_indexes.specs.Laws.{IsIndex}
+use Rattle.restore_reader.specs.Answers.{PlansBytes}
+use Rattle.restore_reader.specs.Session.{Noted, Reading}
+use Rattle.restore_reader.specs.Shown.{pages_of}
+use Rattle.restore_reader.specs.Steps.{noted_as, range_plan}
+use Rattle.restore_reader.proofs.Plainly.{PlansPlainly, plan_none, plan_noted, planned_plainly}
 use Rattle.core_state.specs.Found.{path_in}
-use Rattle.core_state.specs.Holds.{IsOnDisk}
-use Rattle.core_state.specs.Replies.{refuses_range}
-use Rattle.snapshot_files.specs.Reads.{StopHasText}
-use Rattle.store_stops.specs.Outcomes.{IfAnswered, IfCause}
-use Rattle.store_stops.specs.Stops.{Gives, IfRefused, answered_of}
-use Rattle.core_state.specs.Shown.{shown_reader, shown_snapshot}
-use Rattle.core_state.specs.Wanted.{reader_in}
+use Rattle.core_state.specs.Holds.{IsOnDisk, Shows}
+use Rattle.core_state.specs.Shown.{shown_reader}
+use Rattle.core_state.specs.Wanted.{reader_in, session_at}
 use Rattle.core_state.specs.declared.kept.Listed.{Listed}
+use Rattle.core_state.specs.States.{state_of}
 use Rattle.core_state.specs.declared.kept.Session.{Session}
-use Rattle.store_stops.specs.declared.stop.Stop.{Stop}
-use Rattle.store_stops.specs.declared.stop.Stop.TheVariants.{Refused, NoMemory, DiskFailed}
-use Rattle.core_state.proofs.Found.{is_there, not_there, there_named}
-use Rattle.core_state.proofs.Texts.{bad_range_has_text, not_allowed_has_text, too_many_has_text}
-use Rattle.core_reader.specs.Asked.{range_asked}
-use Rattle.core_reader.specs.Damages.{planned}
-use Rattle.core_reader.specs.Planned.{PlansBytes, PlansRange, StopsRange, refuses_plan}
+use Rattle.core_state.specs.declared.kept.Session.TheVariants.{Idle, Writer, Reader}
+use Rattle.core_state.specs.declared.parts.Parts.{Parts}
+use Rattle.core_state.proofs.Commanding.{reader_shown, reader_wanted}
+use Rattle.core_state.proofs.Found.{IsThere, is_there, not_there, there_fits, there_kind, there_named, there_text}
+use Rattle.core_reader.specs.Ranges.{Ranged, StandsWhole, range_asked, range_at, range_place, ranged}
 use Rattle.core_reader.proofs.Held.{reader_held}
+use Rattle.core_reader.proofs.Kept.{index_is_kept}
+use Rattle.core_reader.proofs.PageRanges.{range_bytes_are}
+use Rattle.core_reader.proofs.ReadEntry.{index_archive}
 
 -- ---- the plain store's
 
@@ -72,23 +75,49 @@ module _ (s : Store) (lane : ℕ) (name : List ℕ) (offset len : ℕ) where
 
 -- ---- what is kept
 
+module _ (file : List ℕ) (session : Session) (catalogue : List Listed) where
+  pub place_unread : (refusal : Refusal) → reader_in session ≡ Err refusal → range_place file session catalogue ≡ Err refusal
+  unfolding range_place
+  place_unread refusal no_reader = rw no_reader refl
+
+  pub place_bad : (r : Reading) → reader_in session ≡ Ok r → is_index_name file ≡ false → range_place file session catalogue ≡ Err BadName
+  unfolding range_place
+  place_bad r at bad = rw (at, bad) refl
+
+  pub place_missing : (r : Reading) → reader_in session ≡ Ok r → is_index_name file ≡ true → path_in r.key file catalogue ≡ None → range_place file session catalogue ≡ Err NoFile
+  unfolding range_place
+  place_missing r at good missing = rw (at, good, missing) refl
+
+  pub place_found : (r : Reading) (path : List ℕ) → reader_in session ≡ Ok r → is_index_name file ≡ true → path_in r.key file catalogue ≡ Some path → range_place file session catalogue ≡ Ok path
+  unfolding range_place
+  place_found r path at good found = rw (at, good, found) refl
+
 module _ (file : List ℕ) (offset len : ℕ) (session : Session) (catalogue : List Listed) where
-  pub asked_unread : (refusal : Refusal) → reader_in session ≡ Err refusal → range_asked file offset len session catalogue ≡ Err refusal
+  pub asked_unplaced : (refusal : Refusal) → range_place file session catalogue ≡ Err refusal → range_asked file offset len session catalogue ≡ Err refusal
   unfolding range_asked
-  asked_unread refusal no_reader = rw no_reader refl
+  asked_unplaced refusal is = rw is refl
 
-  pub asked_bad : (r : Reading) → reader_in session ≡ Ok r → is_index_name file ≡ false → range_asked file offset len session catalogue ≡ Err BadName
+  pub asked_unread : (path : List ℕ) (refusal : Refusal) → range_place file session catalogue ≡ Ok path → reader_in session ≡ Err refusal → range_asked file offset len session catalogue ≡ Err refusal
   unfolding range_asked
-  asked_bad r at bad = rw (at, bad) refl
+  asked_unread path refusal at no_reader = rw (at, no_reader) refl
 
-  pub asked_missing : (r : Reading) → reader_in session ≡ Ok r → is_index_name file ≡ true → path_in r.key file catalogue ≡ None → range_asked file offset len session catalogue ≡ Err NoFile
+  pub asked_unplanned : (path : List ℕ) (r : Reading) (refusal : Refusal) → range_place file session catalogue ≡ Ok path → reader_in session ≡ Ok r → range_plan r file offset len ≡ Err refusal
+      → range_asked file offset len session catalogue ≡ Err refusal
   unfolding range_asked
-  asked_missing r at good missing = rw (at, good, missing) refl
+  asked_unplanned path r refusal at reads is = rw (at, reads, is) refl
 
-  pub asked_planned : (r : Reading) (path : List ℕ) → reader_in session ≡ Ok r → is_index_name file ≡ true → path_in r.key file catalogue ≡ Some path
-      → range_asked file offset len session catalogue ≡ range_plan r file offset len
+  pub asked_planned : (path : List ℕ) (r : Reading) (pages : IndexPages) → range_place file session catalogue ≡ Ok path → reader_in session ≡ Ok r → range_plan r file offset len ≡ Ok pages
+      → range_asked file offset len session catalogue ≡ Ok (ranged path pages)
   unfolding range_asked
-  asked_planned r path at good found = rw (at, good, found) refl
+  asked_planned path r pages at reads is = rw (at, reads, is) refl
+
+-- what the lane's session has, by where it stands
+pub reader_there : {D : Type 0} (parts : Parts D) (lane : ℕ) (found : Session) (told : Result Reading Refusal) → lane < 64 → found ≡ get_or parts.sessions.items lane found
+    → reader_in found ≡ told → reader_in (session_at parts lane) ≡ told
+reader_there parts lane found told lt is reads =
+    let items = parts.sessions.items in
+    let within : lane < length items = omega (arith, parts.lanes, parts.sessions.ok.0, lt) in
+    ap reader_in (sym (is ∙ get_or_default items lane found Idle within)) ∙ reads
 
 -- whether the snapshot has the file
 module _ {B : Type 0} (f : B → List ℕ) (found : Option B) (key held : SnapshotKey) (file name : List ℕ) (catalogue : List Listed)
@@ -110,148 +139,228 @@ module _ {B : Type 0} (f : B → List ℕ) (found : Option B) (key held : Snapsh
       by_found None at e = cc
       by_found (Some x) at e = (f x, at)
 
--- ---- refusals before chunks are read
+-- ---- beside the plain store
 
-pub plan_stops : (refusal : Refusal) → RefusesRange refusal → StopsRange (Refused refusal)
-plan_stops NotAllowed h = (not_allowed_has_text, refl)
-plan_stops (TooMany limit) h = (too_many_has_text limit h, refl)
-plan_stops (BadRange size) h = (bad_range_has_text size h, refl)
-plan_stops _ h = absurd h
+-- a range of an index of the reader's snapshot
+pub record IsRanged (s : Store) (lane : ℕ) (file : List ℕ) (offset len : ℕ) (session : Session) (catalogue : List Listed) : Type 0 where
+  pub reading : model.Reader
+  pub path : List ℕ
+  pub pages : IndexPages
+  pub good : is_index_name file ≡ true
+  pub there : IsThere s.snapshots reading.key file path
+  pub asked : range_asked file offset len session catalogue ≡ Ok (ranged path pages)
+  pub plans : PlansBytes (reader_files s reading) reading file offset len pages
+  pub told : range s lane file offset len ≡ Ok (s, Data (take len (drop offset (concat (pieces_at (reader_files s reading) file)))))
 
-plan_ranged : (refusal : Refusal) → refuses_plan refusal ≡ true → refuses_range refusal ≡ true
-plan_ranged (WrongState state) h = refl
-plan_ranged BadName h = refl
-plan_ranged NoFile h = refl
-plan_ranged NotAllowed h = refl
-plan_ranged (TooMany limit) h = refl
-plan_ranged (BadRange size) h = refl
-plan_ranged _ h = cc
+-- or it is refused before a page is read
+pub data Asks (s : Store) (lane : ℕ) (file : List ℕ) (offset len : ℕ) (session : Session) (catalogue : List Listed) : Type 0 where
+  asks_none : (refusal : Refusal) → range_asked file offset len session catalogue ≡ Err refusal → range s lane file offset len ≡ Err refusal → Asks s lane file offset len session catalogue
+  asks_of : IsRanged s lane file offset len session catalogue → Asks s lane file offset len session catalogue
 
-true_false : true ≡ false → ⊥
-true_false e = cc
+module _ {D : Type 0} (parts : Parts D) (s : Store) (lane : ℕ) (file : List ℕ) (offset len : ℕ) (shows : Shows parts s) (lt : lane < 64) where
+  abbrev x : Session
+  x = session_at parts lane
 
--- it is none of a damaged chunk
-pub plan_whole : (refusal : Refusal) (digest : Digest32) (found : ChunkFault) → refuses_plan refusal ≡ true → refusal ≡ Damaged digest found → ⊥
-plan_whole refusal digest found h e = true_false (sym h ∙ ap refuses_plan e)
+  abbrev catalogue : List Listed
+  catalogue = parts.catalogue.listed
 
-pub planned_text : (stop : Stop) → StopsRange stop → StopHasText stop
-planned_text (Refused refusal) h = h.0
-planned_text NoMemory h = tt
-planned_text DiskFailed h = absurd h
+  abbrev Answer : Type 0
+  Answer = Asks s lane file offset len x catalogue
 
-pub planned_answers : (stop : Stop) → StopsRange stop → IfRefused (λ refusal. IsTrue (refuses_range refusal)) stop
-planned_answers (Refused refusal) h = plan_ranged refusal h.1
-planned_answers NoMemory h = tt
-planned_answers DiskFailed h = absurd h
+  module _ (r : Reading) (v : model.Reader) (reads : reader_in x ≡ Ok r) (at : session s lane ≡ reader v) (is : shown_reader s.snapshots v ≡ r) (good : is_index_name file ≡ true) where
+    by_plan : (path : List ℕ) → path_in r.key file catalogue ≡ Some path → (plan : Result IndexPages Refusal) → range_plan r file offset len ≡ plan
+        → PlansPlainly (reader_files s v) v file offset len plan → Answer
+    by_plan path found (Ok pages) e plans =
+        let t = is_there file catalogue s.snapshots v.key path shows.catalogue (ap (λ (y : Reading). path_in y.key file catalogue) is ∙ found) in
+        asks_of (record {
+          reading = v;
+          path = path;
+          pages = pages;
+          good = good;
+          there = t;
+          asked = asked_planned file offset len x catalogue path r pages (place_found file x catalogue r path reads good found) reads e;
+          plans = plans;
+          told = range_told s lane file offset len v t.file (Ok (take len (drop offset (concat (pieces_at (reader_files s v) file))))) at good (there_named s.snapshots v.key file path t) plans.stepped;
+        })
+    by_plan path found (Err refusal) e plans =
+        let t = is_there file catalogue s.snapshots v.key path shows.catalogue (ap (λ (y : Reading). path_in y.key file catalogue) is ∙ found) in
+        asks_none refusal
+        (asked_unplanned file offset len x catalogue path r refusal (place_found file x catalogue r path reads good found) reads e)
+        (range_told s lane file offset len v t.file (Err refusal) at good (there_named s.snapshots v.key file path t) plans)
 
-pub planned_unfailed : {A : Type 0} (stop : Stop) → StopsRange stop → IsErrOf {T = A} (Err stop) DiskFailed → ⊥
-planned_unfailed (Refused refusal) h e = cc
-planned_unfailed NoMemory h e = cc
-planned_unfailed DiskFailed h e = h
+    by_path : (o : Option (List ℕ)) → path_in r.key file catalogue ≡ o → Answer
+    by_path None missing =
+        asks_none NoFile (asked_unplaced file offset len x catalogue NoFile (place_missing file x catalogue r reads good missing))
+        (range_missing s lane file offset len v at good (not_there file catalogue s.snapshots v.key shows.catalogue (ap (λ (y : Reading). path_in y.key file catalogue) is ∙ missing)))
+    by_path (Some path) found =
+        by_plan path found (range_plan r file offset len) refl (planned_plainly (reader_files s v) v r file offset len (sym is))
 
--- how it is planned, by a stop
-pub plans_refused : {A : Type 0} (show : A → List Part) (s : Store) (lane : ℕ) (file : List ℕ) (offset len : ℕ) (refusal : Refusal) (result : Result A Stop) → IsErrAnd result (λ x. x ≡ Refused refusal)
-    → range s lane file offset len ≡ Err refusal → PlansRange show s lane file offset len result
-plans_refused show s lane file offset len refusal (Ok plan) is says = absurd is
-plans_refused show s lane file offset len refusal (Err stop) is says = subst (λ x. PlansRange show s lane file offset len (Err x)) (sym is) says
+  by_name : (r : Reading) → reader_in x ≡ Ok r → (b : Bool) → is_index_name file ≡ b → Answer
+  by_name r reads true good = let (v, at, is) = reader_shown parts s lane r shows lt reads in by_path r v reads at is good (path_in r.key file catalogue) refl
+  by_name r reads false bad =
+      let (v, at, is) = reader_shown parts s lane r shows lt reads in
+      asks_none BadName (asked_unplaced file offset len x catalogue BadName (place_bad file x catalogue r reads bad)) (range_bad s lane file offset len v at bad)
 
-pub stops_by : {A : Type 0} (result : Result A Stop) (stop : Stop) → IsErrAnd result (λ x. x ≡ stop) → StopsRange stop → IfErr result StopsRange
-stops_by (Ok plan) stop is h = tt
-stops_by (Err x) stop is h = subst StopsRange (sym is) h
+  pub asks : Answer
+  asks = by_reader (reader_in x) refl
+    where
+      by_reader : (told : Result Reading Refusal) → reader_in x ≡ told → Answer
+      by_reader (Ok r) reads = by_name r reads (is_index_name file) refl
+      by_reader (Err refusal) reads =
+          asks_none refusal (asked_unplaced file offset len x catalogue refusal (place_unread file x catalogue refusal reads))
+          (range_unread s lane file offset len refusal (reader_wanted parts s lane refusal shows lt reads))
 
--- where the lane's reader is this one
-module _ (s : Store) (lane : ℕ) (file : List ℕ) (offset len : ℕ) (catalogue : List Listed) (v : model.Reader) (r : Reading)
-    (shows : map (λ x. x.kept) catalogue ≡ map shown_snapshot s.snapshots) (at : session s lane ≡ reader v) (is : shown_reader s.snapshots v ≡ r) (good : is_index_name file ≡ true) where
-  pub plan_missing : path_in r.key file catalogue ≡ None → range s lane file offset len ≡ Err NoFile
-  plan_missing missing =
-      range_missing s lane file offset len v at good (not_there file catalogue s.snapshots v.key shows (ap (λ (x : Reading). path_in x.key file catalogue) is ∙ missing))
+-- ---- the index stands there
 
-  plan_told : (path : List ℕ) (told : Result (List ℕ) Refusal) → path_in r.key file catalogue ≡ Some path → range_of (reader_files s v) v file offset len ≡ told
-      → range s lane file offset len ≡ (told >>= λ bytes. Ok (s, Data bytes))
-  plan_told path told found says =
-      let there = is_there file catalogue s.snapshots v.key path shows (ap (λ (x : Reading). path_in x.key file catalogue) is ∙ found) in
-      range_told s lane file offset len v there.file told at good (there_named s.snapshots v.key file path there) says
+pub steps_of_pieces : (start : ℕ) (ps : List (List ℕ)) → All IsPiece ps → IsTrue (steps_fit start (ends_from start ps))
+steps_of_pieces start [] all = refl
+steps_of_pieces start (p ∷ ps) all =
+    let is = All-head IsPiece p ps all in
+    let end = start + length p in
+    and_from (nat_lt start end && nat_le end (start + 16_777_216)) (steps_fit end (ends_from end ps))
+    (and_from (nat_lt start end) (nat_le end (start + 16_777_216)) (lt-ltb start end (omega (arith, is.0))) (le-leb end (start + 16_777_216) (omega (arith, is.1))))
+    (steps_of_pieces end ps (All-tail IsPiece p ps all))
 
-  pub plan_refused : (path : List ℕ) (refusal : Refusal) → path_in r.key file catalogue ≡ Some path → range_of (reader_files s v) v file offset len ≡ Err refusal → range s lane file offset len ≡ Err refusal
-  plan_refused path refusal found says = plan_told path (Err refusal) found says
+abbrev text_in : Option Content → List ℕ
+text_in o = elim o [ None ↦ [] | Some content ↦ file_text content ]
 
-  pub plan_given : (path : List ℕ) (parts : List Part) → path_in r.key file catalogue ≡ Some path → GivesBytes parts (pieces_at (reader_files s v) file) (range_of (reader_files s v) v file offset len)
-      → PlansBytes s lane file offset len parts
-  plan_given path parts found gives = record {
-    reader = v;
-    bytes = gives.bytes;
-    given = plan_told path (Ok gives.bytes) found gives.stepped;
-    reads = gives.reads;
-  }
+abbrev pieces_in : Option Content → List (List ℕ)
+pieces_in o = elim o [ None ↦ [] | Some content ↦ pieces_of content ]
 
-  pub plan_shown : (path : List ℕ) (told : Result (Vec Part Global) Refusal) → path_in r.key file catalogue ≡ Some path → PlanPlainly r file offset len told
-      → MatchResult told (λ parts. PlansBytes s lane file offset len parts.items) (λ refusal. range s lane file offset len ≡ Err refusal)
-  plan_shown path (Ok parts) found says = plan_given path parts.items found (says (reader_files s v) v (sym is))
-  plan_shown path (Err refusal) found says = plan_refused path refusal found (says (reader_files s v) v (sym is))
+ok_err : {A B : Type 0} (a : A) (e : B) → ◌≡◌ {A = Result A B} (Ok a) (Err e) → ⊥
+ok_err a e is = cc
 
--- ---- the plan is answered
+asked_same : (a b : Ranged) → ◌≡◌ {A = Result Ranged Refusal} (Ok a) (Ok b) → a ≡ b
+asked_same a b e = cc
 
-pub answered_gives : {A B : Type 0} (f : A → B) (wanted : Result B Refusal) (told : Result A Refusal)
-    → IfAnswered told (λ t. MatchResult t (λ a. wanted ≡ Ok (f a)) (λ refusal. wanted ≡ Err refusal)) → Gives f (answered_of told) wanted
-answered_gives f wanted (Ok x) is = is
-answered_gives f wanted (Err refusals.NoMemory) is = tt
-answered_gives f wanted (Err cause) is = is
+module _ {D : Type 0} (m : Files) (parts : Parts D) (s : Store) (lane : ℕ) (file : List ℕ) (offset len : ℕ) (shows : Shows parts s) (on : IsOnDisk m s) (lt : lane < 64) where
+  -- the pieces of the archive
+  record Stands (q : IsRanged s lane file offset len (session_at parts lane) parts.catalogue.listed) : Type 0 where
+    index : IsIndex m q.pages (ends_from 0 (pieces_at (reader_files s q.reading) file))
+    steps : IsTrue (steps_fit 0 (ends_from 0 (pieces_at (reader_files s q.reading) file)))
+    held : All (IsHeld m) (pieces_at (reader_files s q.reading) file)
 
-pub answered_plans : {A : Type 0} (show : A → List Part) (s : Store) (lane : ℕ) (file : List ℕ) (offset len : ℕ) (P : Result A Refusal → Type 0) (told : Result A Refusal)
-    → ((t : Result A Refusal) → P t → MatchResult t (λ a. PlansBytes s lane file offset len (show a)) (λ refusal. range s lane file offset len ≡ Err refusal))
-    → IfAnswered told P → PlansRange show s lane file offset len (answered_of told)
-answered_plans show s lane file offset len P (Ok x) by is = by (Ok x) is
-answered_plans show s lane file offset len P (Err refusals.NoMemory) by is = tt
-answered_plans show s lane file offset len P (Err cause) by is = by (Err cause) is
+  stands : (q : IsRanged s lane file offset len (session_at parts lane) parts.catalogue.listed) → Stands q
+  stands q =
+      let v = q.reading in
+      let t = q.there in
+      let each = (shows.sound).each in
+      let kind = there_kind s.snapshots v.key file q.path t each in
+      let (a, one, of_kind) = index_archive (t.file).content file kind q.good in
+      let fits : FitsContent (archive a) = subst FitsContent one (there_fits s.snapshots v.key file q.path t each) in
+      let named : names_content (archive a) file ≡ true = ap (λ c. names_content c file) (sym one) ∙ kind in
+      let text : get m q.path ≡ Some (file_text (archive a)) = there_text m s.snapshots v.key file q.path t ((on.snapshots).files) ∙ ap (λ c. Some (file_text c)) one in
+      let content : content_at (reader_files s v) file ≡ Some (archive a) = ap (option_map (λ f. f.content)) (there_named s.snapshots v.key file q.path t) ∙ ap Some one in
+      let pages : q.pages ≡ pages_of file (file_path v.key file) (file_text (archive a)) = (q.plans).pages ∙ ap (λ o. pages_of file (file_path v.key file) (text_in o)) content in
+      let pieces : pieces_at (reader_files s v) file ≡ a.pieces = ap pieces_in content in
+      record {
+        index = subst (λ p. IsIndex m p (ends_from 0 (pieces_at (reader_files s v) file))) (sym pages)
+            (subst (λ ps. IsIndex m (pages_of file (file_path v.key file) (file_text (archive a))) (ends_from 0 ps)) (sym pieces) (index_is_kept m s.snapshots v.key file q.path t a text fits named));
+        steps = subst (λ ps. IsTrue (steps_fit 0 (ends_from 0 ps))) (sym pieces) (steps_of_pieces 0 a.pieces fits.1);
+        held = reader_held m s v file on;
+      }
 
-pub answered_has : {A : Type 0} (P : A → Type 0) (told : Result A Refusal) → IfOk told P → IfOk (answered_of told) P
-answered_has P (Ok x) is = is
-answered_has P (Err cause) is = tt
+  -- where it is read, its index stands there, and its pieces do
+  pub range_stands : (a : Ranged) → range_asked file offset len (session_at parts lane) parts.catalogue.listed ≡ Ok a → StandsWhole m a.pages
+  range_stands a is = by_case (asks parts s lane file offset len shows lt)
+    where
+      by_case : Asks s lane file offset len (session_at parts lane) parts.catalogue.listed → StandsWhole m a.pages
+      by_case (asks_none refusal asked told) = absurd (ok_err a refusal (sym is ∙ asked))
+      by_case (asks_of q) =
+          let st = stands q in
+          subst (λ (b : Ranged). StandsWhole m b.pages) (asked_same (ranged q.path q.pages) a (sym q.asked ∙ is))
+          (record { pieces = pieces_at (reader_files s q.reading) file; index = st.index; steps = st.steps; held = st.held })
 
-pub answered_stops : {A : Type 0} (told : Result A Refusal) → IfCause told RefusesRange → IfErr (answered_of told) StopsRange
-answered_stops (Ok x) is = tt
-answered_stops (Err refusals.NoMemory) is = tt
-answered_stops (Err cause) is = plan_stops cause is
+  -- it is refused as the plain store refuses it
+  pub range_refused : (refusal : Refusal) → range_asked file offset len (session_at parts lane) parts.catalogue.listed ≡ Err refusal → range s lane file offset len ≡ Err refusal
+  range_refused refusal is = by_case (asks parts s lane file offset len shows lt)
+    where
+      same : (r q : Refusal) → ◌≡◌ {A = Result Ranged Refusal} (Err r) (Err q) → r ≡ q
+      same r q e = cc
 
--- no chunk is needed where it is not planned
-pub planned_needs : {A : Type 0} (show : A → List Part) (wanted : Result (List Part) Refusal) (stop : Stop) → Gives show (Err stop) wanted → StopsRange stop
-    → IfRefused (λ refusal. (planned wanted ≡ []) × ((digest : Digest32) (found : ChunkFault) → refusal ≡ Damaged digest found → ⊥)) stop
-planned_needs show wanted (Refused refusal) is h = (ap planned is, λ digest found e. plan_whole refusal digest found h.1 e)
-planned_needs show wanted NoMemory is h = tt
-planned_needs show wanted DiskFailed is h = absurd h
+      by_case : Asks s lane file offset len (session_at parts lane) parts.catalogue.listed → range s lane file offset len ≡ Err refusal
+      by_case (asks_none other asked told) = told ∙ ap Err (same other refusal (sym asked ∙ is))
+      by_case (asks_of q) = absurd (ok_err (ranged q.path q.pages) refusal (sym q.asked ∙ is))
 
-pub planned_refuses : {A : Type 0} (show : A → List Part) (s : Store) (lane m : ℕ) (file : List ℕ) (offset len : ℕ) (stop : Stop) → PlansRange show s lane file offset len (Err stop)
-    → IfRefused (λ refusal. outcome s lane m (Range file offset len) ≡ Err refusal) stop
-planned_refuses show s lane m file offset len (Refused refusal) h = range_is s lane file offset len m ∙ h
-planned_refuses show s lane m file offset len NoMemory h = tt
-planned_refuses show s lane m file offset len DiskFailed h = tt
+  -- the bytes that are read are the plain store's
+  pub range_given : (a : Ranged) (bytes : List ℕ) → range_asked file offset len (session_at parts lane) parts.catalogue.listed ≡ Ok a → range_at m a offset (offset + len) ≡ Ok bytes
+      → range s lane file offset len ≡ Ok (s, Data bytes)
+  range_given a bytes is read = by_case (asks parts s lane file offset len shows lt)
+    where
+      by_case : Asks s lane file offset len (session_at parts lane) parts.catalogue.listed → range s lane file offset len ≡ Ok (s, Data bytes)
+      by_case (asks_none refusal asked told) = absurd (ok_err a refusal (sym is ∙ asked))
+      by_case (asks_of q) =
+          let st = stands q in
+          let pieces = pieces_at (reader_files s q.reading) file in
+          let mine = asked_same a (ranged q.path q.pages) (sym is ∙ q.asked) in
+          let left : offset + len - offset ≡ len = omega arith in
+          let are = range_bytes_are m (ranged q.path q.pages) (ends_from 0 pieces) st.index st.steps offset (offset + len) pieces refl st.held bytes
+          (ap (λ b. range_at m b offset (offset + len)) (sym mine) ∙ read) in
+          q.told ∙ ap (λ b. Ok (s, Data b)) (sym (are ∙ ap (λ n. take n (drop offset (concat pieces))) left))
 
--- ---- the bytes of the parts
+-- ---- its refusals before it is read
 
--- the pieces of which the parts are stand on the disk
-pub record StandsThere (m : Files) (s : Store) (lane moment : ℕ) (file : List ℕ) (offset len : ℕ) (parts : List Part) : Type 0 where
-  pub pieces : List (List ℕ)
-  pub are : ArePartsOf parts pieces
-  pub held : All (IsHeld m) pieces
-  pub given : outcome s lane moment (Range file offset len) ≡ Ok (s, Data (joined parts pieces))
+-- none is of a damaged chunk or an unreadable page
+abbrev pub refuses_asked : Refusal → Bool
+refuses_asked (WrongState state) = true
+refuses_asked BadName = true
+refuses_asked NoFile = true
+refuses_asked NotAllowed = true
+refuses_asked (TooMany limit) = true
+refuses_asked (BadRange size) = true
+refuses_asked _ = false
 
-pub stands_there : (m : Files) (s : Store) (lane moment : ℕ) (file : List ℕ) (offset len : ℕ) (parts : List Part) → IsOnDisk m s → PlansBytes s lane file offset len parts → StandsThere m s lane moment file offset len parts
-stands_there m s lane moment file offset len parts on plans =
-    let reads = plans.reads in record {
-      pieces = drop reads.first _;
-      are = reads.each;
-      held = All-drop (IsHeld m) reads.first _ (reader_held m s plans.reader file on);
-      given = range_is s lane file offset len moment ∙ plans.given ∙ ap (λ b. Ok (s, Data b)) (sym reads.same);
-    }
+refuses_same : (q r : Refusal) → q ≡ r → refuses_asked q ≡ true → refuses_asked r ≡ true
+refuses_same q r e h = subst (λ x. refuses_asked x ≡ true) e h
 
--- what was read is what the plain store gives
-pub same_data : (s : Store) (lane m : ℕ) (file : List ℕ) (offset len : ℕ) (all read bytes sent : List ℕ) → outcome s lane m (Range file offset len) ≡ Ok (s, Data all) → all ≡ read
-    → ◌≡◌ {A = Result (List ℕ) Refusal} (Ok read) (Ok bytes) → sent ≡ bytes → outcome s lane m (Range file offset len) ≡ Ok (s, Data sent)
-same_data s lane m file offset len all read bytes sent given same gives is = given ∙ ap (λ b. Ok (s, Data b)) (same ∙ oks read bytes gives ∙ sym is)
+asked_err : {A : Type 0} (q r : Refusal) → ◌≡◌ {A = Result A Refusal} (Err q) (Err r) → q ≡ r
+asked_err q r e = cc
+
+want_refuses : (size offset len : ℕ) (r : Refusal) → want_range size offset len ≡ Err r → refuses_asked r ≡ true
+want_refuses size offset len r is = by_limit (nat_le len part_limit) is
   where
-    oks : (a b : List ℕ) → ◌≡◌ {A = Result (List ℕ) Refusal} (Ok a) (Ok b) → a ≡ b
-    oks a b e = cc
+    by_size : (b : Bool) → unless (BadRange size) b ≡ Err r → refuses_asked r ≡ true
+    by_size true e = cc
+    by_size false e = refuses_same (BadRange size) r (asked_err (BadRange size) r e) refl
 
--- what fits a range fits a reply
-pub data_short : (bytes : List ℕ) (total len : ℕ) → length bytes ≤ total → total ≤ len → len ≤ 4_194_304 → length bytes < body_limit
-data_short bytes total len a b c = omega (arith, a, b, c)
+    by_limit : (b : Bool) → (unless (TooMany part_limit) b >>= λ _. unless (BadRange size) (nat_le (offset + len) size)) ≡ Err r → refuses_asked r ≡ true
+    by_limit true e = by_size (nat_le (offset + len) size) e
+    by_limit false e = refuses_same (TooMany part_limit) r (asked_err (TooMany part_limit) r e) refl
+
+plan_refuses : (reading : Reading) (file : List ℕ) (offset len : ℕ) (r : Refusal) → range_plan reading file offset len ≡ Err r → refuses_asked r ≡ true
+plan_refuses reading file offset len r is = by_noted (noted_as reading file) refl
+  where
+    by_want : (x : Noted) → noted_as reading file ≡ Some x → (w : Result (Unit {0}) Refusal) → want_range x.size offset len ≡ w → refuses_asked r ≡ true
+    by_want x e (Ok u) f = absurd (ok_err x.pages r (sym (plan_noted reading file x offset len (Ok tt) e f) ∙ is))
+    by_want x e (Err q) f = refuses_same q r (asked_err q r (sym (plan_noted reading file x offset len (Err q) e f) ∙ is)) (want_refuses x.size offset len q f)
+
+    by_noted : (o : Option Noted) → noted_as reading file ≡ o → refuses_asked r ≡ true
+    by_noted None e = refuses_same NotAllowed r (asked_err NotAllowed r (sym (plan_none reading file offset len e) ∙ is)) refl
+    by_noted (Some x) e = by_want x e (want_range x.size offset len) refl
+
+pub asked_refuses : (file : List ℕ) (offset len : ℕ) (session : Session) (catalogue : List Listed) (r : Refusal) → range_asked file offset len session catalogue ≡ Err r → refuses_asked r ≡ true
+asked_refuses file offset len session catalogue r is = by_session session refl
+  where
+    refused_as : (q : Refusal) → range_asked file offset len session catalogue ≡ Err q → refuses_asked q ≡ true → refuses_asked r ≡ true
+    refused_as q asked h = refuses_same q r (asked_err q r (sym asked ∙ is)) h
+
+    unread : (state : SessionState) → reader_in session ≡ Err (WrongState state) → refuses_asked r ≡ true
+    unread state e = refused_as (WrongState state) (asked_unplaced file offset len session catalogue (WrongState state) (place_unread file session catalogue (WrongState state) e)) refl
+
+    by_plan : (reading : Reading) (path : List ℕ) → reader_in session ≡ Ok reading → range_place file session catalogue ≡ Ok path → (p : Result IndexPages Refusal) → range_plan reading file offset len ≡ p → refuses_asked r ≡ true
+    by_plan reading path reads at (Ok pages) e = absurd (ok_err (ranged path pages) r (sym (asked_planned file offset len session catalogue path reading pages at reads e) ∙ is))
+    by_plan reading path reads at (Err q) e = refused_as q (asked_unplanned file offset len session catalogue path reading q at reads e) (plan_refuses reading file offset len q e)
+
+    by_path : (reading : Reading) → reader_in session ≡ Ok reading → is_index_name file ≡ true → (o : Option (List ℕ)) → path_in reading.key file catalogue ≡ o → refuses_asked r ≡ true
+    by_path reading reads good None missing = refused_as NoFile (asked_unplaced file offset len session catalogue NoFile (place_missing file session catalogue reading reads good missing)) refl
+    by_path reading reads good (Some path) found =
+        by_plan reading path reads (place_found file session catalogue reading path reads good found) (range_plan reading file offset len) refl
+
+    by_name : (reading : Reading) → reader_in session ≡ Ok reading → (b : Bool) → is_index_name file ≡ b → refuses_asked r ≡ true
+    by_name reading reads true good = by_path reading reads good (path_in reading.key file catalogue) refl
+    by_name reading reads false bad = refused_as BadName (asked_unplaced file offset len session catalogue BadName (place_bad file session catalogue reading reads bad)) refl
+
+    by_session : (x : Session) → session ≡ x → refuses_asked r ≡ true
+    by_session Idle e = unread (state_of Idle) (ap reader_in e)
+    by_session (Writer w) e = unread (state_of (Writer w)) (ap reader_in e)
+    by_session (Reader reading) e = by_name reading (ap reader_in e) (is_index_name file) refl

@@ -108,7 +108,7 @@ module _ {D : Type 0} (parts : Parts D) (s : Store) (lane : ℕ) (name : List �
 -- ---- what stands there
 
 -- a file of an index's name is an archive of its layout
-index_archive : (c : Content) (name : List ℕ) → names_content c name ≡ true → is_index_name name ≡ true → (a : Archive) × (c ≡ archive a) × (kind_of_index name ≡ layout_kind a.layout)
+pub index_archive : (c : Content) (name : List ℕ) → names_content c name ≡ true → is_index_name name ≡ true → (a : Archive) × (c ≡ archive a) × (kind_of_index name ≡ layout_kind a.layout)
 index_archive (blob bytes) name kind good =
     absurd (true_false (sym good ∙ or_from (is_fixed_name name) (is_dynamic_name name) (blob_no_fixed name kind) (blob_no_dynamic name kind)))
 index_archive (archive a) name kind good = (a, refl, layout_index a name kind)

@@ -1,25 +1,29 @@
 -- What a reader asks for.
-use Rattle.std.specs.Prelude.{◌≡◌, ℕ, List, Option, None, Some, option_map, if◌then◌else◌, Result, Ok, Err, String, string_bytes}
+use Rattle.std.specs.Prelude.{◌≡◌, ℕ, ◌+◌, List, Option, None, Some, option_map, if◌then◌else◌, Result, Ok, Err, String, string_bytes}
 use Rattle.std.specs.declared.alloc.Global.{Global}
 use Rattle.std.specs.Result.{result_ok}
 use Rattle.store_types.specs.declared.refusal.Refusal.{Refusal}
 use Rattle.store_types.specs.declared.refusal.Refusal.TheVariants.{BadName, NoFile}
 use Rattle.store_types.specs.Chain.Refusing.{◌>>=◌, unless, or_else}
 use Rattle.store_types.specs.FileNames.{is_file_name, is_index_name}
-use Rattle.wire_commands.specs.declared.command.Command.TheVariants.{Download, OpenReader}
+use Rattle.wire_commands.specs.declared.command.Command.TheVariants.{Download, OpenReader, Range}
+use Rattle.wire_commands.specs.declared.reply.Reply.TheVariants.{Data}
 use Rattle.store_history.specs.declared.act.Act.{Act}
 use Rattle.store_history.specs.declared.act.Act.TheVariants.{Plain, ReadFile, ReadChunk}
 use Rattle.store_files.specs.DynamicIndex.{Ended}
-use Rattle.store_files.specs.Entries.{ends_of}
-use Rattle.store_files.specs.Archive.{Archive, Snapshot, archive, ends_from}
+use Rattle.store_files.specs.Archive.{Archive, Snapshot, archive}
 use Rattle.store_model.specs.Store.{Reader as PlainReader, reader as reader_of}
 use Rattle.store_model.specs.ReaderSteps.{content_at, note as noted}
+use Rattle.disk_trait.specs.Files.{Files}
+use Rattle.paged_indexes.specs.declared.index.IndexPages.{IndexPages}
 use Rattle.paged_indexes.specs.declared.kinds.IndexKind.{IndexKind}
-use Rattle.snapshot_files.specs.Indexes.{Indexed, index_at, kind_named, kind_of_index}
+use Rattle.snapshot_files.specs.Indexes.{index_at, index_opened, kind_named, kind_of_index}
 use Rattle.snapshot_files.specs.Parts.{part_reply}
 use Rattle.disk_trait.specs.declared.disk.Disk.{Ghosts}
-use Rattle.restore_reader.specs.declared.ranges.Part.{Part}
+use Rattle.restore_reader.specs.declared.index.Table.{Table}
+use Rattle.restore_reader.specs.Kept.{IsTable}
 use Rattle.restore_reader.specs.Session.{Reading}
+use Rattle.restore_reader.specs.Shown.{IsOf}
 use Rattle.restore_reader.specs.Steps as steps
 use Rattle.core_state.specs.declared.kept.Kept.{Kept}
 use Rattle.core_state.specs.declared.kept.Listed.{Listed}
@@ -27,13 +31,15 @@ use Rattle.core_state.specs.declared.kept.Session.{Session}
 use Rattle.core_state.specs.declared.kept.Session.TheVariants.{Idle, Writer, Reader}
 use Rattle.core_state.specs.declared.parts.Parts.{Parts}
 use Rattle.store_stops.specs.declared.stop.Stop.{Stop}
+use Rattle.store_stops.specs.declared.stop.Stop.TheVariants as stops
 use Rattle.core_state.specs.Found.{named_kept, path_in}
 use Rattle.core_state.specs.Shown.{files_named, shown_session}
 use Rattle.store_stops.specs.Stops.{Gives}
-use Rattle.core_state.specs.Unreadables.{Asked, at_entry, from_offset, known}
+use Rattle.core_state.specs.Unreadables.{Asked, at_entry, from_offset, known, read_with}
 use Rattle.core_state.specs.Wanted.{reader_in, session_at, want_idle}
 use Rattle.core_reader.specs.declared.downloading.AskedFile.{AskedFile}
 use Rattle.core_reader.specs.declared.downloading.Given.{Given}
+use Rattle.core_reader.specs.Ranges.{Ranged, range_asked, range_at}
 
 -- ---- the snapshot
 
@@ -106,10 +112,22 @@ as_entry name place path = record { path = path; way = at_entry (kind_of_index n
 abbrev pub asked_entry : List ℕ → ℕ → Session → List Listed → Option Asked
 asked_entry name place session catalogue = option_map (as_entry name place) (result_ok (index_of name session catalogue))
 
+-- ---- a range
+
+-- the index, of which the pages are read from one offset up to another, and their chunks
+abbrev pub as_range : ℕ → ℕ → Ranged → Asked
+as_range from to a = record { path = a.path; way = read_with (λ m path. range_at m a from to >>= λ bytes. Ok (Data bytes)) }
+
+abbrev pub asked_range : List ℕ → ℕ → ℕ → Session → List Listed → Option Asked
+asked_range file offset len session catalogue = option_map (as_range offset (offset + len)) (result_ok (range_asked file offset len session catalogue))
+
+-- ---- by the act
+
 -- the file that an act asks for
 abbrev pub asked_file : Act → Session → List Listed → Option Asked
 asked_file (Plain (OpenReader snapshot)) session catalogue = asked_open snapshot session catalogue
 asked_file (Plain (Download file offset)) session catalogue = asked_download file offset session catalogue
+asked_file (Plain (Range file offset len)) session catalogue = asked_range file offset len session catalogue
 asked_file (ReadFile name offset) session catalogue = asked_part name offset session catalogue
 asked_file (ReadChunk name entry) session catalogue = asked_entry name entry session catalogue
 asked_file act session catalogue = None
@@ -125,37 +143,31 @@ GivesFile parts lane file result =
 
 -- ---- an index that is read whole
 
-abbrev pub shown_given : Given → Indexed
-shown_given g = record { part = part_reply g.part; entries = ends_of g.entries.items.items }
+-- A part of the index at the path is given; what is kept is the index's, and the table has its entries.
+pub record IsGiven (content : Files) (path : List ℕ) (of_kind : IndexKind) (offset : ℕ) (g : Given) : Type 0 where
+  pub entries : List Ended
+  pub read : index_at content path of_kind offset ≡ Ok (record { part = part_reply g.part; entries = entries })
+  pub opened : index_opened content path of_kind ≡ Ok g.pages
+  pub table : IsTable g.table 0 entries
 
--- of an honest disk: the part and the entries are those of the index at the path, or the refusal
-abbrev pub ReadsEntries : {D : Type 0} → Ghosts D → D → List ℕ → IndexKind → ℕ → Result Given Stop → Type 0
-ReadsEntries d disk path of_kind offset result = d.honest disk → Gives shown_given result (index_at (d.content disk) path of_kind offset)
+-- or its refusal
+abbrev pub GivesIndex : Files → List ℕ → IndexKind → ℕ → Result Given Stop → Type 0
+GivesIndex content path of_kind offset (Ok g) = IsGiven content path of_kind offset g
+GivesIndex content path of_kind offset (Err (stops.Refused refusal)) = index_at content path of_kind offset ≡ Err refusal
+GivesIndex content path of_kind offset (Err stop) = Unit {0}
+
+abbrev pub ReadsTable : {D : Type 0} → Ghosts D → D → List ℕ → IndexKind → ℕ → Result Given Stop → Type 0
+ReadsTable d disk path of_kind offset result = d.honest disk → GivesIndex (d.content disk) path of_kind offset result
 
 -- the reader with an archive noted, unless one of the name is
-abbrev pub noting : List ℕ → List Ended → Session → Session
-noting name entries Idle = Idle
-noting name entries (Writer w) = Writer w
-noting name entries (Reader r) = Reader (steps.downloaded r name entries)
+abbrev pub noting : List ℕ → Table → IndexPages → Session → Session
+noting name table pages Idle = Idle
+noting name table pages (Writer w) = Writer w
+noting name table pages (Reader r) = Reader (steps.downloaded r name table pages)
 
--- what a session shows of a plain reader is with the archive noted, whose pieces end there
-abbrev pub NotesPlainly : List ℕ → List Ended → Session → Session → Type 0
-NotesPlainly name ends old new =
+-- what a session shows of a plain reader is with the archive noted of which these are the table and the pages
+abbrev pub NotesPlainly : List ℕ → Table → IndexPages → Session → Session → Type 0
+NotesPlainly name table pages old new =
     (snapshots : List Snapshot) (r : PlainReader) (a : Archive) → old ≡ shown_session snapshots (reader_of r)
-    → content_at (files_named r.key snapshots) name ≡ Some (archive a) → ends ≡ ends_from 0 a.pieces
+    → content_at (files_named r.key snapshots) name ≡ Some (archive a) → IsOf r.key name a table pages
     → new ≡ shown_session snapshots (reader_of (noted name (archive a) r))
-
--- ---- ranges
-
--- the parts of chunks that make a range of an archive, or the refusal before one of them is read
-unfoldable pub range_asked : List ℕ → ℕ → ℕ → Session → List Listed → Result (List Part) Refusal
-range_asked file offset len session catalogue = do
-  r ← reader_in session
-  _ ← unless BadName (is_index_name file)
-  _ ← or_else NoFile (path_in r.key file catalogue)
-  steps.range_plan r file offset len
-
--- they are given, or the refusal is told
-abbrev pub GivesRange : {A D : Type 0} → (A → List Part) → Parts D → ℕ → List ℕ → ℕ → ℕ → Result A Stop → Type 0
-GivesRange show parts lane file offset len result =
-    Gives show result (range_asked file offset len (session_at parts lane) parts.catalogue.listed)

@@ -1,8 +1,7 @@
 -- Chunks as a reader's answers have them.
-use Rattle.std.specs.Prelude.{◌≡◌, ℕ, List, [], ◌∷◌, ◌++◌, length, ◌==◌, nat_lt, if◌then◌else◌, Option, None, Some, Result, Ok, Err, Vec}
+use Rattle.std.specs.Prelude.{◌≡◌, ℕ, List, [], ◌∷◌, ◌++◌, length, map, ◌==◌, nat_lt, if◌then◌else◌, Option, None, Some, Result, Ok, Err, IfErr}
 use Rattle.std.specs.FinMap.{get}
 use Rattle.std.specs.List.{All, Contains}
-use Rattle.std.specs.declared.alloc.Global.{Global}
 use Rattle.disk_trait.specs.Files.{Files}
 use Rattle.store_types.specs.declared.names.Digest32.{Digest32}
 use Rattle.store_types.specs.declared.refusal.ChunkFault.{ChunkFault}
@@ -14,7 +13,7 @@ use Rattle.blob_codec.specs.Blob.{blob_limit}
 use Rattle.store_files.specs.Archive.{digest_of}
 use Rattle.store_files.specs.Folder.{chunk_name}
 use Rattle.restore_reader.specs.declared.ranges.Part.{Part}
-use Rattle.restore_reader.specs.Cutting.{ArePartsOf, IsPartOf, cut, joined}
+use Rattle.restore_reader.specs.Cutting.{ArePartsOf, IsPartOf, cut}
 use Rattle.wire_commands.specs.declared.reply.Reply.TheVariants.{Refused}
 use Rattle.wire_commands.specs.HasText.{ReplyHasText}
 use Rattle.chunk_store.specs.Pieces.{IsHeld, found_at}
@@ -70,6 +69,13 @@ parts_at files (x ∷ xs) = do
   rest ← parts_at files xs
   Ok (cut x piece ++ rest)
 
+-- behind bytes that were read before
+abbrev pub behind : List ℕ → Result (List ℕ) Refusal → Result (List ℕ) Refusal
+behind front r = r >>= λ rest. Ok (front ++ rest)
+
+abbrev pub digests_of : List Part → List Digest32
+digests_of parts = map (λ x. x.digest) parts
+
 -- the piece is given, or its refusal
 abbrev pub GivesChunk : Files → Digest32 → Result (List ℕ) Stop → Type 0
 GivesChunk files digest result = Gives (λ chunk. chunk) result (chunk_at files digest)
@@ -87,15 +93,19 @@ GivesPartChunk files x result = Gives (λ chunk. chunk) result (part_chunk_at fi
 abbrev pub GivesHeldPart : Files → Part → Result (List ℕ) Stop → Type 0
 GivesHeldPart files x result = (p : List ℕ) → IsHeld files p → IsPartOf x p → Gives (λ chunk. chunk) result (Ok p)
 
--- the bytes of these parts are given, or the first refusal
-abbrev pub GivesParts : Files → List Part → Result (Vec ℕ Global) Stop → Type 0
-GivesParts files parts result = Gives (λ (bytes : Vec ℕ Global). bytes.items) result (parts_at files parts)
+-- these are parts of pieces that stand there
+pub record HoldsParts (files : Files) (parts : List Part) : Type 0 where
+  pub pieces : List (List ℕ)
+  pub are : ArePartsOf parts pieces
+  pub held : All (IsHeld files) pieces
 
--- where these are parts of pieces that stand there, their bytes are given
-abbrev pub GivesHeldParts : Files → List Part → Result (Vec ℕ Global) Stop → Type 0
-GivesHeldParts files parts result =
-    (pieces : List (List ℕ)) → ArePartsOf parts pieces → All (IsHeld files) pieces
-    → Gives (λ (bytes : Vec ℕ Global). bytes.items) result (Ok (joined parts pieces))
+-- it stops by memory or disk alone
+abbrev pub IsUnrefused : {A : Type 0} → Result A Stop → Type 0
+IsUnrefused result = IfErr result (IfRefused (λ refusal. ⊥))
+
+-- the bytes of these parts are read behind those that were there, or the first refusal is told
+abbrev pub ReadsParts : {A : Type 0} → Files → List Part → List ℕ → List ℕ → Result A Stop → Type 0
+ReadsParts files parts old new result = Gives (λ _. new) result (behind old (parts_at files parts))
 
 -- a chunk is not loaded
 abbrev pub stop_by_load : LoadFault → Stop

@@ -1,6 +1,6 @@
 -- When a chunk is told to be damaged.
 use Rattle.disk_trait.specs.declared.disk.Disk.{Ghosts}
-use Rattle.std.specs.Prelude.{◌≡◌, ℕ, List, [], ◌∷◌, length, map, nat_lt, Option, None, Some, if◌then◌else◌, Result, Ok, Err}
+use Rattle.std.specs.Prelude.{◌≡◌, ℕ, ◌+◌, List, [], ◌∷◌, length, nat_lt, Option, None, Some, if◌then◌else◌, Result, Ok, Err}
 use Rattle.std.specs.FinMap.{get}
 use Rattle.std.specs.List.{Contains}
 use Rattle.disk_trait.specs.Files.{Files}
@@ -20,7 +20,6 @@ use Rattle.wire_commands.specs.declared.reply.Reply.TheVariants.{Refused}
 use Rattle.store_history.specs.declared.act.Act.{Act}
 use Rattle.store_history.specs.declared.act.Act.TheVariants.{Plain, ReadChunk}
 use Rattle.store_history.specs.declared.act.Answer.{Answer}
-use Rattle.restore_reader.specs.declared.ranges.Part.{Part}
 use Rattle.restore_reader.specs.Steps.{is_allowed}
 use Rattle.chunk_store.specs.Pieces.{found_at}
 use Rattle.core_state.specs.declared.kept.Listed.{Listed}
@@ -34,29 +33,15 @@ use Rattle.core_state.specs.Settles.{kind_by, reply_by}
 use Rattle.core_state.specs.Stops.{told}
 use Rattle.core_state.specs.Unreadables.{Asked, Way, at_entry}
 use Rattle.core_state.specs.Wanted.{session_at}
-use Rattle.core_reader.specs.Asked.{asked_entry, range_asked}
-use Rattle.core_reader.specs.Chunks.{part_found}
+use Rattle.core_reader.specs.Asked.{asked_entry}
+use Rattle.core_reader.specs.Ranges.{NeedsChunk, Ranged, range_asked, range_told}
 
 -- ---- the chunks that an answer needs, in order
-
-abbrev pub digests_of : List Part → List Digest32
-digests_of parts = map (λ x. x.digest) parts
-
--- the parts of a range that is given
-abbrev pub planned : Result (List Part) Refusal → List Part
-planned (Ok parts) = parts
-planned (Err refusal) = []
 
 -- of a GET_CHUNK, where the lane's reader may ask for it
 abbrev pub chunk_needed : Digest32 → Session → List Digest32
 chunk_needed digest (Reader r) = if is_allowed r digest.0 then digest ∷ [] else []
 chunk_needed digest session = []
-
--- and of a RANGE, where it is given
-abbrev pub needed : Act → Session → List Listed → List Digest32
-needed (Plain (GetChunk digest)) session catalogue = chunk_needed digest session
-needed (Plain (Range file offset len)) session catalogue = digests_of (planned (range_asked file offset len session catalogue))
-needed act session catalogue = []
 
 -- ---- what is told
 
@@ -74,34 +59,43 @@ abbrev pub damage_so : Way → Files → List ℕ → Option (Digest32 × ChunkF
 damage_so (at_entry of_kind place) files path = entry_damage files path of_kind place
 damage_so way files path = None
 
+-- of a read that was refused
+abbrev pub damage_in : Result (List ℕ) Refusal → Option (Digest32 × ChunkFault)
+damage_in (Err (Damaged digest found)) = Some (digest, found)
+damage_in told = None
+
 abbrev pub asked_damage : Files → Option Asked → Option (Digest32 × ChunkFault)
 asked_damage files None = None
 asked_damage files (Some a) = damage_so a.way files a.path
 
--- the first of these that is damaged, and by what is found there
+-- one that is needed, by what is found there
 abbrev pub first_damage : Files → List Digest32 → Option (Digest32 × ChunkFault)
 first_damage files [] = None
 first_damage files (d ∷ ds) = elim (found_at files d.0) [ Ok piece ↦ first_damage files ds | Err found ↦ Some (d, found) ]
 
--- of a range's parts the first whose chunk is damaged, or has another length than the index says
-abbrev pub first_wrong : Files → List Part → Option (Digest32 × ChunkFault)
-first_wrong files [] = None
-first_wrong files (x ∷ xs) = elim (part_found files x) [ Ok piece ↦ first_wrong files xs | Err found ↦ Some (x.digest, found) ]
-
 -- what an act's chunks are found to be
 abbrev pub damage_by : Act → Session → List Listed → Files → Option (Digest32 × ChunkFault)
-damage_by (Plain (Range file offset len)) session catalogue files = first_wrong files (planned (range_asked file offset len session catalogue))
+damage_by (Plain (GetChunk digest)) session catalogue files = first_damage files (chunk_needed digest session)
+damage_by (Plain (Range file offset len)) session catalogue files = damage_in (range_told file offset len files session catalogue)
 damage_by (ReadChunk name entry) session catalogue files = asked_damage files (asked_entry name entry session catalogue)
-damage_by act session catalogue files = first_damage files (needed act session catalogue)
+damage_by act session catalogue files = None
 
--- a chunk that an act may tell of: on any disk one of those that it needs; a VERIFY's read learns which one from the disk
+-- of a range that is read
+abbrev pub MayNeed : Result Ranged Refusal → ℕ → ℕ → Digest32 → Type 0
+MayNeed (Ok a) from to digest = NeedsChunk a.pages from to digest
+MayNeed (Err refusal) from to digest = ⊥
+
+-- A chunk that an act may tell of: on any disk one that it needs, a RANGE by a page's bytes with the SHA-256 that was kept. A VERIFY's
+-- read learns which one from the disk.
 abbrev pub MayName : Act → Session → List Listed → Digest32 → Type 0
+MayName (Plain (GetChunk needed)) session catalogue digest = Contains (chunk_needed needed session) digest
+MayName (Plain (Range file offset len)) session catalogue digest = MayNeed (range_asked file offset len session catalogue) offset (offset + len) digest
 MayName (ReadChunk name entry) session catalogue digest = Unit {0}
-MayName act session catalogue digest = Contains (needed act session catalogue) digest
+MayName act session catalogue digest = ⊥
 
 -- A chunk that the answer needs is told to be damaged. On an honest disk, whatever it holds, that is so exactly where one is, or, in a
--- range, has another length than the index says, of the first such, with what is found there: want of memory and faults of the disk,
--- which have kinds of their own, apart.
+-- range, has another length than the index says, before a page is unreadable, of the first such, with what is found there: want of memory
+-- and faults of the disk, which have kinds of their own, apart.
 pub record TellsDamaged {D : Type 0} (d : Ghosts D) (disk : D) (may_name : Digest32 → Type 0) (damage : Files → Option (Digest32 × ChunkFault)) (kind : ℕ) (reply : Option Reply) : Type 0 where
   pub named : (digest : Digest32) (found : ChunkFault) → reply ≡ Some (Refused (Damaged digest found)) → may_name digest
   pub cause : (digest : Digest32) (found : ChunkFault) → reply ≡ Some (Refused (Damaged digest found)) → d.honest disk → damage (d.content disk) ≡ Some (digest, found)

@@ -1,6 +1,6 @@
 pub mod ReaderActs
+pub mod Chunks
+pub mod Ranges
 pub mod Asked
 pub mod AnsweredBy
-pub mod Chunks
 pub mod Damages
-pub mod Planned

@@ -73,7 +73,10 @@ pub fn reader_act<D: Disk, E, C: Clock>(
     ensures damaged { CoreDamaged D.Disk core.old lane act result }
 {
     match begin(core, alloc, lane, &act) {
-        Admitted::Answered(answer) => answer,
+        Admitted::Answered(answer) => {
+            drop(act);
+            answer
+        }
         Admitted::At(at) => {
             let ended = perform(&mut core.parts, alloc, at, act);
             settle(core, at, ended)

@@ -2,7 +2,6 @@
 
 ghost use Rattle.std.specs.Prelude.{◌≡◌, ◌<◌, ◌≤◌, IfErr, IfOk, IsErrOf, MatchResult, OnOk, OnErr, Some, length, string_bytes};
 ghost use Rattle.wire_commands.specs.declared.command.Command.TheVariants.{Download};
-ghost use Rattle.store_files.specs.Entries.{FitsIndex, ends_of};
 ghost use Rattle.core_state.specs.Commands.{PlainDoes, PlainLeaves};
 ghost use Rattle.core_state.specs.Unreadables.{ActUnreadable};
 ghost use Rattle.store_stops.specs.declared.stop.Stop.TheVariants.{DiskFailed};
@@ -10,35 +9,34 @@ ghost use Rattle.disk_trait.specs.Effects.{OnlyReads};
 ghost use Rattle.snapshot_files.specs.Parts.{PartHasText, RefusesPart};
 ghost use Rattle.snapshot_files.specs.Reads.{StopHasText};
 ghost use Rattle.store_stops.specs.Stops.{IfRefused};
-ghost use Rattle.core_reader.specs.Asked.{GivesFile, NotesPlainly, ReadsEntries, asked_download, noting, whole_for};
+ghost use Rattle.core_reader.specs.Asked.{GivesFile, NotesPlainly, ReadsTable, asked_download, noting, whole_for};
 
 use core_state::{Parts, Place, Session};
 use disk_trait::Disk;
-use paged_indexes::{IndexEntry, IndexKind, TakesEntries};
-use restore_reader::Reader;
+use paged_indexes::{IndexKind, IndexPages};
+use restore_reader::{Reader, Table};
 use snapshot_files::{FilePart, kind_of, read_index, read_part};
 use std::alloc::{AllocError, Global};
 use store_stops::Stop;
-use store_types::{Digest32, FileName, Refusal};
+use store_types::{FileName, Refusal};
 use wire_commands::Reply;
 
-/// Notes where the pieces of an archive end that the reader downloaded, unless one of the name was noted. At want of
-/// memory nothing has changed.
+/// Notes an archive that the reader downloaded, by the entries of its index and what is kept of it, unless one of the name
+/// was noted. At want of memory nothing has changed.
 fn note(
     session: &mut Session,
-    alloc: Global,
     name: FileName,
-    entries: &[(Digest32, u64)],
+    table: Table,
+    pages: IndexPages,
 ) -> Result<(), AllocError>
-    requires { FitsIndex (ends_of entries.now) }
-    ensures ok { OnOk result (session.new ≡ noting name (ends_of entries.now) session.old) }
+    ensures ok { OnOk result (session.new ≡ noting name table pages session.old) }
     ensures err { OnErr result (session.new ≡ session.old) }
-    ensures plain { OnOk result (NotesPlainly name (ends_of entries.now) session.old session.new) }
+    ensures plain { OnOk result (NotesPlainly name table pages session.old session.new) }
 {
     let Session::Reader(reader) = session else {
         return Ok(());
     };
-    reader.downloaded(alloc, name, entries)
+    reader.downloaded(name, table, pages)
 }
 
 /// Whether the file is read whole, as an index that was not downloaded before, and then of which kind.
@@ -81,30 +79,16 @@ fn asked_file<D>(parts: &Parts<D>, alloc: Global, lane: u32, file: &[u8]) -> Res
     Ok(AskedFile { name, path, whole })
 }
 
-/// The entries of an index as they are read: of each piece the digest, and where it ends.
-#[derive(Drop)]
-struct Entries {
-    items: Vec<(Digest32, u64)>,
-}
-
-impl TakesEntries for Entries {
-    ghost taken = { λ e base entries. ends_of e.items.items ≡ entries };
-
-    fn take(&mut self, _start: u64, entry: &IndexEntry) -> Result<(), AllocError> {
-        self.items.push((entry.digest, entry.end))?;
-        Ok(())
-    }
-}
-
-/// A part of an index, and its entries.
+/// A part of an index, what is kept of the index, and the table of its entries.
 #[derive(Drop)]
 struct Given {
     part: FilePart,
-    entries: Entries,
+    pages: IndexPages,
+    table: Table,
 }
 
-/// A part of an index that is read whole, page by page, and its entries.
-fn read_entries<D: Disk>(
+/// A part of an index that is read whole, page by page, and what is noted of it.
+fn read_table<D: Disk>(
     disk: &mut D,
     alloc: Global,
     path: &str,
@@ -113,19 +97,16 @@ fn read_entries<D: Disk>(
 ) -> Result<Given, Stop>
     requires { length path.now ≤ 255 }
     ensures reads { OnlyReads D.Disk disk.old disk.new (IsErrOf result DiskFailed) }
-    ensures exact { ReadsEntries D.Disk disk.old path.now kind offset result }
+    ensures exact { ReadsTable D.Disk disk.old path.now kind offset result }
     ensures kind { IfErr result (IfRefused (RefusesPart path.now)) }
     ensures text { MatchResult result (λ g. PartHasText g.part) StopHasText }
-    // on any disk
-    ensures fits { IfOk result (λ g. FitsIndex (ends_of g.entries.items.items)) }
 {
-    let mut entries = Entries {
-        items: Vec::new(alloc),
-    };
-    let index = read_index(disk, alloc, path, kind, offset, &mut entries)?;
+    let mut table = Table::new(alloc);
+    let index = read_index(disk, alloc, path, kind, offset, &mut table)?;
     Ok(Given {
         part: index.part,
-        entries,
+        pages: index.pages,
+        table,
     })
 }
 
@@ -134,7 +115,7 @@ fn read_entries<D: Disk>(
 /// The refusals, in the order in which they are tested: the lane has no reader; the text is no file's name; the snapshot
 /// has no such file; the offset, in bytes, is beyond the file's size. A file that isn't there, or gives fewer bytes than
 /// its size says, is refused as unreadable, and so is an index that is none. Where a part of an index is given for the
-/// first time, the index is read whole, and where its pieces end is noted.
+/// first time, the index is read whole, and its digests and what is kept of it for its pages to be read are noted.
 pub fn download<D: Disk>(
     parts: &mut Parts<D>,
     alloc: Global,
@@ -156,15 +137,16 @@ pub fn download<D: Disk>(
             bytes: part.bytes,
         });
     };
-    let index = read_entries(&mut parts.disk, alloc, asked.path.as_str(), kind, offset)?;
+    let index = read_table(&mut parts.disk, alloc, asked.path.as_str(), kind, offset)?;
+    let Given { part, pages, table } = index;
     note(
         &mut parts.sessions[at.lane as usize],
-        alloc,
         asked.name,
-        &index.entries.items,
+        table,
+        pages,
     )?;
     Ok(Reply::Part {
-        total: index.part.total,
-        bytes: index.part.bytes,
+        total: part.total,
+        bytes: part.bytes,
     })
 }

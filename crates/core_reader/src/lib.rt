@@ -7,6 +7,7 @@ mod closing;
 mod downloading;
 mod loading;
 mod opening;
+mod paging;
 mod ranges;
 mod reading;
 

@@ -1,13 +1,12 @@
 //! Chunks that an answer needs.
 
-ghost use Rattle.std.specs.Prelude.{◌≡◌, ◌≤◌, IfOk, IfErr, IsErrOf, length};
+ghost use Rattle.std.specs.Prelude.{◌≡◌, ◌+◌, ◌≤◌, OnOk, IfOk, IfErr, IsErrOf, length};
 ghost use Rattle.disk_trait.specs.Effects.{OnlyReads};
 ghost use Rattle.blob_codec.specs.Blob.{blob_limit};
 ghost use Rattle.restore_reader.specs.Cutting.{cut, total_of};
 ghost use Rattle.store_stops.specs.declared.stop.Stop.TheVariants.{DiskFailed};
 ghost use Rattle.snapshot_files.specs.Reads.{StopHasText};
-ghost use Rattle.core_reader.specs.Chunks.{GivesBytes, GivesChunk, GivesHeld, GivesHeldPart, GivesHeldParts, GivesPartChunk, GivesParts, StopsAmong, StopsAt, stop_by_load};
-ghost use Rattle.core_reader.specs.Damages.{digests_of};
+ghost use Rattle.core_reader.specs.Chunks.{GivesBytes, GivesChunk, GivesHeld, GivesHeldPart, GivesPartChunk, HoldsParts, IsUnrefused, ReadsParts, StopsAmong, StopsAt, digests_of, stop_by_load};
 
 use chunk_store::{Chunk, LoadFault, load, read};
 use disk_trait::Disk;
@@ -90,28 +89,30 @@ fn cut_from<'a>(piece: &'a [u8], part: &Part) -> &'a [u8]
     &piece[from..end]
 }
 
-/// The bytes of parts of chunks, one after another. Beside the bytes, for which room is taken once, there is one chunk
-/// at a time.
+/// Reads the bytes of parts of chunks, one after another, behind those that were read before. Beside the bytes there is
+/// one chunk at a time.
 ///
 /// It is refused by the first chunk that is damaged, or not as long as the index says.
 pub fn read_parts<D: Disk>(
     disk: &mut D,
     alloc: Global,
     parts: &[Part],
-    room: u32,
-) -> Result<Vec<u8>, Stop>
+    bytes: &mut Vec<u8>,
+) -> Result<(), Stop>
     ensures reads { OnlyReads D.Disk disk.old disk.new (IsErrOf result DiskFailed) }
-    ensures value { D.honest disk.old → GivesParts (D.content disk.old) parts.now result }
-    // parts of pieces that stand there are given
-    ensures held { D.honest disk.old → GivesHeldParts (D.content disk.old) parts.now result }
+    ensures value { D.honest disk.old → ReadsParts (D.content disk.old) parts.now
+        bytes.old.items bytes.new.items result }
+    // parts of pieces that stand there are read
+    ensures held { D.honest disk.old → HoldsParts (D.content disk.old) parts.now
+        → IsUnrefused result }
     // on any disk
-    ensures size { IfOk result (λ bytes. length bytes.items ≤ total_of parts.now) }
+    ensures size { OnOk result (length bytes.new.items
+        ≤ length bytes.old.items + total_of parts.now) }
     ensures damage { IfErr result (StopsAmong (digests_of parts.now)) }
 {
-    let mut bytes = Vec::with_capacity(alloc, room as usize)?;
     for part in parts {
         let chunk = read_part_chunk(disk, alloc, part)?;
         bytes.extend_from_slice(cut_from(chunk.piece(), part))?;
     }
-    Ok(bytes)
+    Ok(())
 }

@@ -1,21 +1,26 @@
 //! RANGE.
 
-ghost use Rattle.std.specs.Prelude.{◌≡◌, ◌<◌, ◌≤◌, IfOk, IfErr, IfSome, is_some};
+ghost use Rattle.std.specs.Prelude.{◌≡◌, ◌+◌, ◌<◌, true, IfOk, IfErr, IfSome, IsErrOf, is_some, length, string_bytes};
+ghost use Rattle.disk_trait.specs.Effects.{OnlyReads};
 ghost use Rattle.store_types.specs.FileNames.{is_index_name};
 ghost use Rattle.wire_commands.specs.declared.command.Command.TheVariants.{Range};
 ghost use Rattle.store_history.specs.declared.act.Act.TheVariants.{Plain};
-ghost use Rattle.restore_reader.specs.Cutting.{total_of};
-ghost use Rattle.core_reader.specs.Asked.{GivesRange};
+ghost use Rattle.store_stops.specs.Stops.{IfRefused};
+ghost use Rattle.store_stops.specs.declared.stop.Stop.TheVariants.{DiskFailed};
+ghost use Rattle.snapshot_files.specs.Reads.{StopHasText};
+ghost use Rattle.core_state.specs.Unchanged.{SameKept, is_uncalled};
+ghost use Rattle.core_state.specs.Unreadables.{ActUnreadable};
+ghost use Rattle.core_state.specs.Wanted.{session_at};
+ghost use Rattle.core_reader.specs.Asked.{asked_range};
 ghost use Rattle.core_reader.specs.Damages.{ActDamaged};
-ghost use Rattle.core_reader.specs.Planned.{PlansShown, StopsRange};
+ghost use Rattle.core_reader.specs.Ranges.{FitsRange, FindsIndex, GivesRange, ReadsRange, RefusesRange, range_asked as asked_for};
 ghost use Rattle.core_reader.specs.ReaderActs.{RangeDoes, RangeLeaves};
 
-use crate::loading::read_parts;
+use crate::paging::read_range;
 use core_state::{Parts, Place};
 use disk_trait::Disk;
-use restore_reader::Part;
 use std::alloc::{AllocError, Global};
-use store_stops::{Stop, answered};
+use store_stops::Stop;
 use store_types::{Bytes, FileName, Refusal};
 use wire_commands::Reply;
 
@@ -33,36 +38,85 @@ fn index_name(alloc: Global, text: &[u8]) -> Result<Option<FileName>, AllocError
     Ok(Some(name))
 }
 
-/// The parts of chunks that make the range, by what is kept. The disk is not called.
-fn range_plan<D>(
+/// An index of which a range is asked.
+#[derive(Drop)]
+struct AskedIndex {
+    name: FileName,
+    /// Where it stands.
+    path: String,
+}
+
+/// The index of the reader's snapshot, by what is kept. The disk is not called.
+fn asked_index<D>(
     parts: &Parts<D>,
     alloc: Global,
     lane: u32,
     file: &[u8],
-    offset: u64,
-    length: u32,
-) -> Result<Vec<Part>, Stop>
+) -> Result<AskedIndex, Stop>
     requires { lane < 64 }
-    ensures value { GivesRange (λ plan. plan.items) parts.now lane file.now offset length result }
-    ensures plain { PlansShown (λ plan. plan.items) parts.now lane file.now offset length result }
-    ensures total { IfOk result (λ plan. (total_of plan.items ≤ length) × (length ≤ 4_194_304)) }
-    ensures stops { IfErr result StopsRange }
+    ensures value { FindsIndex parts.now lane file.now result }
+    ensures name { IfOk result (λ a. a.name ≡ file.now) }
+    ensures short { IfOk result (λ a. length (string_bytes a.path) < 256) }
+    ensures unfailed { IsErrOf result DiskFailed → ⊥ }
+    ensures text { IfErr result StopHasText }
 {
     let reader = parts.reader(lane)?;
     let Some(name) = index_name(alloc, file)? else {
         return Err(Stop::Refused(Refusal::BadName));
     };
-    if parts.catalogue.path(reader.key(), &name).is_none() {
+    let Some(path) = parts.catalogue.path(reader.key(), &name) else {
         return Err(Stop::Refused(Refusal::NoFile));
-    }
-    answered(reader.range_plan(alloc, &name, offset, length))
+    };
+    let path = String::from_str(alloc, path.as_str())?;
+    Ok(AskedIndex { name, path })
 }
 
-/// So many bytes of an archive's content from an offset on. Beside the reply there is one chunk at a time in memory.
+/// The bytes of a range of an archive of the reader's snapshot.
+fn range_bytes<D: Disk>(
+    parts: &mut Parts<D>,
+    alloc: Global,
+    lane: u32,
+    file: &[u8],
+    offset: u64,
+    length: u32,
+) -> Result<Vec<u8>, Stop>
+    requires { lane < 64 }
+    ensures reads { OnlyReads D.Disk parts.old.disk parts.new.disk (IsErrOf result DiskFailed) }
+    ensures kept { SameKept parts.old parts.new }
+    ensures exact { GivesRange D.Disk parts.old lane file.now offset length result }
+    // of an index that stands there, and whose pieces do, the bytes are read
+    ensures whole { ReadsRange D.Disk parts.old lane file.now offset length result }
+    // on any disk
+    ensures fits { IfOk result (FitsRange length) }
+    ensures refusal { IfErr result (IfRefused (RefusesRange
+        (asked_for file.now offset length (session_at parts.old lane) parts.old.catalogue.listed)
+        offset (offset + length))) }
+    ensures uncalled { IfErr result (IfRefused
+        (λ refusal. is_uncalled refusal ≡ true → parts.new.disk ≡ parts.old.disk)) }
+    ensures text { IfErr result StopHasText }
+{
+    let asked = asked_index(parts, alloc, lane, file)?;
+    let reader = parts.sessions[lane as usize].reader()?;
+    let pages = reader.range_plan(&asked.name, offset, length)?;
+    let end = offset + u64::from(length);
+    read_range(
+        &mut parts.disk,
+        alloc,
+        asked.path.as_str(),
+        pages,
+        offset,
+        end,
+    )
+}
+
+/// So many bytes of an archive's content from an offset on. Beside the reply there is one page of the index, its parts,
+/// and one chunk at a time in memory.
 ///
 /// The refusals, in the order in which they are tested: the lane has no reader; the text is no index's name; the snapshot
 /// has no such file; the reader did not download it; the range has more than 4,194,304 bytes; it goes beyond the
-/// content, whose size the refusal has; a chunk of it is damaged or not as long as the index says, of which the first is told.
+/// content, whose size the refusal has. Then, of the pages of the index and the chunks of each in turn, the first that is
+/// not as it was: a page is unreadable that is not as the download opened it, and a chunk is damaged, also where it is not
+/// as long as the index says.
 pub fn range<D: Disk>(
     parts: &mut Parts<D>,
     alloc: Global,
@@ -74,10 +128,12 @@ pub fn range<D: Disk>(
     requires { at.lane < 64 }
     ensures does { RangeDoes D.Disk parts.old parts.new at file.now offset length result }
     ensures leaves { RangeLeaves D.Disk parts.old parts.new at file.now offset length result }
+    // the index is unreadable exactly where a page that is read is not as it was opened
+    ensures unreadable { ActUnreadable D.Disk (asked_range file.now offset length)
+        parts.old at result }
     // a chunk is damaged exactly where one of the range's has no piece with its digest and its length by the index
     ensures damaged { ActDamaged D.Disk parts.old at (Plain (Range file.now offset length)) result }
 {
-    let plan = range_plan(parts, alloc, at.lane, file, offset, length)?;
-    let bytes = read_parts(&mut parts.disk, alloc, &plan, length)?;
+    let bytes = range_bytes(parts, alloc, at.lane, file, offset, length)?;
     Ok(Reply::Data(Bytes::from_vec(bytes)))
 }

@@ -132,6 +132,7 @@ refuses_range NotAllowed = true
 refuses_range (TooMany limit) = true
 refuses_range (BadRange size) = true
 refuses_range (Damaged digest fault) = true
+refuses_range (Unreadable name) = true
 refuses_range _ = false
 
 -- an ABORT, or a CLOSE_READER

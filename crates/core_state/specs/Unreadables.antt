@@ -31,6 +31,8 @@ pub data Way : Type 0 where
   from_offset : Option IndexKind → ℕ → Way
   -- an entry of an index of a kind
   at_entry : IndexKind → ℕ → Way
+  -- by this reading of what stands on the disk
+  read_with : (Files → List ℕ → Result Reply Refusal) → Way
   -- whole, as a manifest
   as_listing : Way
   -- not at all: it makes its snapshot damaged, which was found at opening
@@ -48,6 +50,7 @@ read_by (Some kind) m path offset = index_at m path kind offset >>= λ x. Ok x.p
 abbrev pub read_so : Way → Files → List ℕ → Result Reply Refusal
 read_so (from_offset whole offset) m path = read_by whole m path offset
 read_so (at_entry kind place) m path = entry_at m path kind place >>= λ digest. Ok Done
+read_so (read_with reading) m path = reading m path
 read_so as_listing m path = or_else (Unreadable path) (listing_at m path) >>= λ read. Ok Done
 read_so known m path = Err (Unreadable path)
 

@@ -1,6 +1,5 @@
 -- What a command wants of its lane.
-use Rattle.std.specs.Prelude.{◌≡◌, ℕ, Result, Ok, Err, MatchResult, slice_index_or}
-use Rattle.std.specs.Borrow.{Bor}
+use Rattle.std.specs.Prelude.{ℕ, Result, Ok, Err, slice_index_or}
 use Rattle.store_types.specs.declared.refusal.Refusal.{Refusal}
 use Rattle.store_types.specs.declared.refusal.Refusal.TheVariants.{WrongState}
 use Rattle.restore_reader.specs.Session.{Reading}
@@ -29,7 +28,3 @@ abbrev pub want_idle : Session → Result (Unit {0}) Refusal
 want_idle Idle = Ok tt
 want_idle (Writer w) = Err (WrongState (state_of (Writer w)))
 want_idle (Reader r) = Err (WrongState (state_of (Reader r)))
-
--- what is wanted is lent, or refused so
-abbrev pub Lends : {A : Type 0} → Result A Refusal → Result (Bor A) Refusal → Type 0
-Lends wanted result = MatchResult result (λ x. wanted ≡ Ok x.now) (λ refusal. wanted ≡ Err refusal)

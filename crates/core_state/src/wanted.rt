@@ -5,11 +5,31 @@ use crate::parts::Parts;
 use restore_reader::Reader;
 use store_types::Refusal;
 
+impl Session {
+    ghost use Rattle.std.specs.Prelude.{IfErr};
+    ghost use Rattle.wire_commands.specs.HasText.{ReplyHasText};
+    ghost use Rattle.wire_commands.specs.declared.reply.Reply.TheVariants.{Refused};
+    ghost use Rattle.restore_reader.specs.Answers.{Lends};
+    ghost use Rattle.core_state.specs.Wanted.{reader_in};
+
+    /// The reader that it is. It is refused where it is none.
+    pub fn reader(&self) -> Result<&Reader, Refusal>
+        ensures value { Lends (reader_in self.now) result }
+        ensures text { IfErr result (λ refusal. ReplyHasText (Refused refusal)) }
+    {
+        match self {
+            Session::Reader(reader) => Ok(reader),
+            session => Err(Refusal::WrongState(session.state())),
+        }
+    }
+}
+
 impl<D> Parts<D> {
     ghost use Rattle.std.specs.Prelude.{◌≡◌, ◌<◌, IfErr};
     ghost use Rattle.wire_commands.specs.HasText.{ReplyHasText};
     ghost use Rattle.wire_commands.specs.declared.reply.Reply.TheVariants.{Refused};
-    ghost use Rattle.core_state.specs.Wanted.{Lends, reader_in, session_at, want_idle, want_writer};
+    ghost use Rattle.restore_reader.specs.Answers.{Lends};
+    ghost use Rattle.core_state.specs.Wanted.{reader_in, session_at, want_idle, want_writer};
 
     /// The lane's reader. It is refused where the lane has none.
     pub fn reader(&self, lane: u32) -> Result<&Reader, Refusal>
@@ -17,10 +37,7 @@ impl<D> Parts<D> {
         ensures value { Lends (reader_in (session_at self.now lane)) result }
         ensures text { IfErr result (λ refusal. ReplyHasText (Refused refusal)) }
     {
-        match &self.sessions[lane as usize] {
-            Session::Reader(reader) => Ok(reader),
-            session => Err(Refusal::WrongState(session.state())),
-        }
+        self.sessions[lane as usize].reader()
     }
 
     /// The lane's writer. It is refused where the lane has none.

@@ -23,7 +23,7 @@ pub(crate) enum Archives {
     Three(u32),
 }
 
-const FIRST_PATH: &str = "host/a/2020-01-15T06:30:03Z/a.fidx";
+pub(crate) const FIRST_PATH: &str = "host/a/2020-01-15T06:30:03Z/a.fidx";
 
 const SECOND_PATH: &str = "host/a/2020-01-15T06:30:03Z/b.didx";
 

@@ -30,6 +30,8 @@ mod indexes;
 #[cfg(test)]
 mod opening;
 #[cfg(test)]
+mod pages;
+#[cfg(test)]
 mod reader;
 #[cfg(test)]
 mod sent;

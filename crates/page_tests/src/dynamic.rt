@@ -17,7 +17,7 @@ const MAGIC: &[u8] = b"\x1c\x91\x4e\xa5\x19\xba\xb3\xcd";
 const PAGE_ONE: usize = 4096 + 1024 * 40;
 
 /// An index of so many pieces of 3 bytes.
-fn index_of(rt: &impl Abort, alloc: Global, count: u32) -> Vec<u8> {
+pub(crate) fn index_of(rt: &impl Abort, alloc: Global, count: u32) -> Vec<u8> {
     let mut text = header(rt, alloc, &[(0, MAGIC)]);
     for i in 0..count {
         let end = (u64::from(i) + 1) * 3;

@@ -34,7 +34,7 @@ fn index_of(rt: &impl Abort, alloc: Global, size: u64, count: u32) -> Vec<u8> {
     text
 }
 
-fn whole_index(rt: &impl Abort, alloc: Global) -> Vec<u8> {
+pub(crate) fn whole_index(rt: &impl Abort, alloc: Global) -> Vec<u8> {
     index_of(rt, alloc, SIZE, 1025)
 }
 

@@ -6,6 +6,10 @@ mod asserts;
 #[cfg(test)]
 mod dynamic;
 #[cfg(test)]
+mod entries;
+#[cfg(test)]
 mod fixed;
 #[cfg(test)]
 mod fixtures;
+#[cfg(test)]
+mod reader;

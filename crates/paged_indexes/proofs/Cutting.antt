@@ -1,5 +1,5 @@
 -- The pieces of a fixed index, page by page.
-use Rattle.std.proofs.Common.{◌≡◌, ℕ, suc, ◌+◌, ◌-◌, ◌*◌, ◌/◌, ◌<◌, ◌≤◌, true, List, [], ◌∷◌, ◌++◌, length, take, drop, inl, Some, refl, sym, ap, subst, ◌∙◌, arith}
+use Rattle.std.proofs.Common.{◌≡◌, ℕ, min, suc, ◌+◌, ◌-◌, ◌*◌, ◌/◌, ◌<◌, ◌≤◌, true, List, [], ◌∷◌, ◌++◌, length, take, drop, inl, Some, refl, sym, ap, subst, ◌∙◌, arith}
 use Rattle.std.specs.Prelude.{nat_le, bit_and, ◌&&◌, ◌==◌}
 use Rattle.std.proofs.Math.Nat.{div-mul-le_self}
 use Rattle.std.proofs.lemmas.Bool.{and_parts, eqb-true, leb-true}
@@ -105,6 +105,31 @@ all_cut size chunk_size count agree =
     }
 
 -- ---- a page
+
+-- a page that is not behind the last one begins within the archive
+pub page_begins : (c : Cut) (count i : ℕ) → 1 ≤ c.chunk_size → c.chunk_size ≤ 16_777_216 → count * c.chunk_size < c.size + c.chunk_size → i < page_count count
+    → Cuts c (i * 1024 * c.chunk_size) (count - i * 1024)
+page_begins c count i least most reach below =
+    let k = i * 1024 in
+    let r = count - k - 1 in
+    let all : count ≡ k + (1 + r) = omega (arith, below) in
+    let left : count - k ≡ 1 + r = omega (arith, below) in
+    let far : (k + (1 + r)) * c.chunk_size < c.size + c.chunk_size = subst (λ n. n * c.chunk_size < c.size + c.chunk_size) all reach in
+    record {
+      least = least;
+      most = most;
+      within = omega (arith, far);
+      reach = subst (λ n. k * c.chunk_size + n * c.chunk_size < c.size + c.chunk_size) (sym left) (omega (arith, far));
+    }
+
+-- where so many pieces more end
+pub cut_ends : (c : Cut) (start : ℕ) (ds : List (List ℕ)) → Cuts c start (length ds) → last_end start (ends_by c start ds) ≡ min c.size (start + length ds * c.chunk_size)
+cut_ends c start [] is = omega (arith, is.within)
+cut_ends c start (d ∷ ds) is =
+    let more : suc (length ds) * c.chunk_size ≡ length ds * c.chunk_size + c.chunk_size = omega arith in
+    let reach : start + (length ds * c.chunk_size + c.chunk_size) < c.size + c.chunk_size = subst (λ n. start + n < c.size + c.chunk_size) more is.reach in
+    let inside : start < c.size = omega (arith, reach) in
+    cut_ends c (end_of c start) ds (one_less c start (length ds) is) ∙ (let both : min c.size (end_of c start + length ds * c.chunk_size) ≡ min c.size (start + suc (length ds) * c.chunk_size) = omega (arith, more, inside, is.within, is.least) in both)
 
 pub page_cuts : (c : Cut) (start count i : ℕ) (bytes room : List ℕ) → i < page_count count → bytes ≡ room → length room ≡ entries_at count i * 32
     → Cuts c start (count - i * 1024) → Cuts c start (length (cells 32 bytes))

@@ -33,7 +33,7 @@ length-page_ends (suc n) es =
     let before = length-page_ends n es in
     omega (arith, more, before)
 
-page_end_at : (n : ℕ) (es : List Ended) (i d : ℕ) → i < n → get_or (page_ends n es) i d ≡ last_end 0 (take (suc i * 1024) es)
+pub page_end_at : (n : ℕ) (es : List Ended) (i d : ℕ) → i < n → get_or (page_ends n es) i d ≡ last_end 0 (take (suc i * 1024) es)
 unfolding page_ends
 page_end_at zero es i d below = absurd (omega arith)
 page_end_at (suc n) es i d below =
@@ -145,11 +145,11 @@ begins_low : (k : ℕ) (es : List Ended) (offset : ℕ) → ((i : ℕ) → i < k
 begins_low zero es offset low = omega arith
 begins_low (suc k) es offset low = low k (omega arith)
 
-abbrev is_behind : ℕ → ℕ → Bool
+abbrev pub is_behind : ℕ → ℕ → Bool
 is_behind offset end = nat_lt offset end
 
 -- none: each page ends at the offset or before it
-past_all : (es : List Ended) (offset : ℕ) → length (page_ends (page_count (length es)) es) ≤ position_or_len (is_behind offset) (page_ends (page_count (length es)) es)
+pub past_all : (es : List Ended) (offset : ℕ) → length (page_ends (page_count (length es)) es) ≤ position_or_len (is_behind offset) (page_ends (page_count (length es)) es)
     → last_end 0 es ≤ offset
 past_all es offset all =
     let n = page_count (length es) in
@@ -161,7 +161,7 @@ past_all es offset all =
     omega (arith, begins_low n es offset low, ap (last_end 0) whole)
 
 -- the first page that ends behind it begins at the offset or before it
-page_begins : (n : ℕ) (es : List Ended) (offset k : ℕ) → k ≡ position_or_len (is_behind offset) (page_ends n es) → k < n → last_end 0 (take (k * 1024) es) ≤ offset
+pub page_begins : (n : ℕ) (es : List Ended) (offset k : ℕ) → k ≡ position_or_len (is_behind offset) (page_ends n es) → k < n → last_end 0 (take (k * 1024) es) ≤ offset
 page_begins n es offset k is within =
     begins_low k es offset (λ i below.
     let first = fails_before_first (is_behind offset) (page_ends n es) i 0 (omega (arith, below, is)) in

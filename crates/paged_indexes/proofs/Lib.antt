@@ -9,3 +9,5 @@ pub mod Halving
 pub mod Standing
 pub mod Finding
 pub mod Indexing
+pub mod Paging
+pub mod PagesRead

@@ -31,7 +31,7 @@ fits_if : (b c : Bool) (o : Option ℕ) → c ≡ is_some o → (b && c) ≡ is_
 fits_if true c o e = e
 fits_if false c o e = refl
 
-stepped_none : (start : ℕ) (xs ys : List Ended) → stepped start xs ≡ None → stepped start (xs ++ ys) ≡ None
+pub stepped_none : (start : ℕ) (xs ys : List Ended) → stepped start xs ≡ None → stepped start (xs ++ ys) ≡ None
 stepped_none start [] ys e = cc
 stepped_none start (x ∷ xs) ys e = none_if (is_step start x.end) (stepped x.end xs) (stepped x.end (xs ++ ys)) e (stepped_none x.end xs ys)
 

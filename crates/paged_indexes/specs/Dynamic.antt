@@ -1,5 +1,5 @@
 -- A dynamic index as it is kept for its pages to be read.
-use Rattle.std.specs.Prelude.{◌≡◌, ◌⊎◌, ℕ, ◌+◌, ◌-◌, ◌*◌, ◌≤◌, List, length, slice_index_or, Option, Some, None, Result, Ok, Err}
+use Rattle.std.specs.Prelude.{◌≡◌, ◌⊎◌, ℕ, ◌+◌, ◌-◌, ◌*◌, ◌≤◌, ◌==◌, List, length, slice_index_or, if◌then◌else◌, Option, Some, None, Result, Ok, Err}
 use Rattle.std.specs.FinMap.{get}
 use Rattle.std.specs.List.Sorted.{IsNonDecreasingBy}
 use Rattle.disk_trait.specs.Disk.{one_up}
@@ -11,7 +11,7 @@ use Rattle.index_pages.specs.declared.fault.PageFault.{PageFault}
 use Rattle.index_pages.specs.Gives.{Gives}
 use Rattle.index_pages.specs.Opening.{opened_by}
 use Rattle.index_pages.specs.Paged.{Paged, page_at, page_count, paged}
-use Rattle.paged_indexes.specs.Steps.{ended_before, entries_of, page_ends, page_with}
+use Rattle.paged_indexes.specs.Steps.{ended_before, entries_of, entries_told, page_ends, page_with}
 
 -- its pages, and where the last piece of each ends
 pub record DynamicPaged : Type 0 where
@@ -45,6 +45,17 @@ pub record HasEnds (count : ℕ) (ends : List ℕ) : Type 0 where
 -- the archive's size: where the last page ends
 abbrev pub size_by : List ℕ → ℕ
 size_by ends = slice_index_or ends (length ends - 1) 0
+
+-- where the first piece of page i begins, and where the last one ends
+abbrev pub start_in : DynamicPaged → ℕ → ℕ
+start_in p i = if i == 0 then 0 else slice_index_or p.ends (i - 1) 0
+
+abbrev pub stop_in : DynamicPaged → ℕ → ℕ
+stop_in p i = slice_index_or p.ends i 0
+
+-- the entries of page i that these bytes spell, as they stood at the opening
+abbrev pub dynamic_told : DynamicPaged → ℕ → List ℕ → Result (List Ended) PageFault
+dynamic_told p i bytes = entries_told i (start_in p i) (stop_in p i) (entries_of bytes)
 
 -- ---- the piece at an offset
 

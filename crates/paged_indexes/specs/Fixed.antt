@@ -1,5 +1,5 @@
 -- A fixed index as it is kept for its pages to be read.
-use Rattle.std.specs.Prelude.{◌≡◌, ℕ, ◌+◌, ◌*◌, ◌/◌, ◌<◌, ◌≤◌, ◌==◌, ◌&&◌, Bool, IsTrue, List, [], ◌∷◌, nat_lt, if◌then◌else◌, Option, Some, None, Result}
+use Rattle.std.specs.Prelude.{◌≡◌, ℕ, ◌+◌, ◌*◌, ◌/◌, ◌<◌, ◌≤◌, ◌==◌, ◌&&◌, Bool, IsTrue, List, [], ◌∷◌, min, nat_lt, if◌then◌else◌, Option, Some, None, Result}
 use Rattle.std.specs.FinMap.{get}
 use Rattle.disk_trait.specs.Files.{Files}
 use Rattle.disk_trait.specs.declared.disk.Disk.{Ghosts}
@@ -11,6 +11,7 @@ use Rattle.index_pages.specs.Gives.{Gives}
 use Rattle.index_pages.specs.Opening.{opened_by}
 use Rattle.index_pages.specs.Paged.{Paged, paged}
 use Rattle.paged_indexes.specs.declared.pieces.Cut.{Cut}
+use Rattle.paged_indexes.specs.Steps.{entries_told}
 
 -- ---- where pieces end
 
@@ -69,8 +70,27 @@ chunk_in p offset = if nat_lt offset p.size then Some (offset / p.chunk_size) el
 abbrev pub sizes_agree : ℕ → ℕ → ℕ → Bool
 sizes_agree size chunk_size count = is_chunk_size chunk_size && (count == piece_count size chunk_size)
 
--- so many entries are those of the size
-pub record HasSizes (count size chunk_size : ℕ) : Type 0 where
-  pub limit : count ≤ entry_limit
+-- the entries are digests, as many as the size makes
+pub record HasSizes (p : Paged) (size chunk_size : ℕ) : Type 0 where
+  pub width : p.width ≡ 32
+  pub limit : p.count ≤ entry_limit
   pub allowed : IsTrue (is_chunk_size chunk_size)
-  pub pieces : count ≡ piece_count size chunk_size
+  pub pieces : p.count ≡ piece_count size chunk_size
+
+abbrev pub cut_of : FixedPaged → Cut
+cut_of p = record { size = p.size; chunk_size = p.chunk_size }
+
+-- where the first piece of page i begins, and where the last one ends
+abbrev pub start_in : FixedPaged → ℕ → ℕ
+start_in p i = min p.size (i * 1024 * p.chunk_size)
+
+abbrev pub stop_in : FixedPaged → ℕ → ℕ
+stop_in p i = min p.size ((i + 1) * 1024 * p.chunk_size)
+
+-- the entries of page i of which these are the digests, as they stood at the opening
+abbrev pub fixed_told : FixedPaged → ℕ → List ℕ → Result (List Ended) PageFault
+fixed_told p i bytes = entries_told i (start_in p i) (stop_in p i) (ends_in (cut_of p) (start_in p i) bytes)
+
+-- the first page that ends behind an offset
+abbrev pub page_with : FixedPaged → ℕ → Option ℕ
+page_with p offset = if nat_lt offset p.size then Some (offset / p.chunk_size / 1024) else None

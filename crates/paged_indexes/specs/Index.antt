@@ -1,20 +1,22 @@
 -- An index of either kind as it is kept for its pages to be read.
-use Rattle.std.specs.Prelude.{◌≡◌, ℕ, List, Option, Some, None, Result, Ok, Err}
+use Rattle.std.specs.Prelude.{◌≡◌, ℕ, List, IsTrue, Option, Some, None, Result, Ok, Err}
 use Rattle.std.specs.FinMap.{get}
 use Rattle.disk_trait.specs.Files.{Files}
 use Rattle.disk_trait.specs.declared.disk.Disk.{Ghosts}
 use Rattle.store_files.specs.FixedIndex.{fixed_of}
 use Rattle.store_files.specs.DynamicIndex.{Ended, dynamic_of}
 use Rattle.index_pages.specs.declared.fault.PageFault.{PageFault}
+use Rattle.index_pages.specs.declared.fault.PageFault.TheVariants.{Failed}
 use Rattle.index_pages.specs.Gives.{Gives}
-use Rattle.index_pages.specs.Paged.{Paged}
+use Rattle.index_pages.specs.Paged.{Paged, is_kept, page_at}
 use Rattle.paged_indexes.specs.declared.index.IndexPages.{IndexPages}
 use Rattle.paged_indexes.specs.declared.index.IndexPages.TheVariants as pages
 use Rattle.paged_indexes.specs.declared.kinds.IndexKind.{IndexKind}
 use Rattle.paged_indexes.specs.declared.kinds.IndexKind.TheVariants.{Fixed, Dynamic}
 use Rattle.paged_indexes.specs.Dynamic as dynamics
 use Rattle.paged_indexes.specs.Fixed as fixeds
-use Rattle.paged_indexes.specs.Handing.{HandsOn}
+use Rattle.paged_indexes.specs.Handing.{HandsAll, HandsOn, HandsTold}
+use Rattle.paged_indexes.specs.Steps.{page_with}
 
 -- ---- what is kept
 
@@ -25,6 +27,48 @@ pages_by (pages.Dynamic p) = p.pages
 abbrev pub size_by : IndexPages → ℕ
 size_by (pages.Fixed p) = p.size
 size_by (pages.Dynamic p) = dynamics.size_by p.ends
+
+-- where the first piece of page i begins, and where the last one ends
+abbrev pub start_by : IndexPages → ℕ → ℕ
+start_by (pages.Fixed p) i = fixeds.start_in p i
+start_by (pages.Dynamic p) i = dynamics.start_in p i
+
+abbrev pub stop_by : IndexPages → ℕ → ℕ
+stop_by (pages.Fixed p) i = fixeds.stop_in p i
+stop_by (pages.Dynamic p) i = dynamics.stop_in p i
+
+-- the entries of page i that these bytes spell, as they stood at the opening
+abbrev pub told_by : IndexPages → ℕ → List ℕ → Result (List Ended) PageFault
+told_by (pages.Fixed p) i bytes = fixeds.fixed_told p i bytes
+told_by (pages.Dynamic p) i bytes = dynamics.dynamic_told p i bytes
+
+abbrev pub entries_read : IndexPages → ℕ → Result (List ℕ) PageFault → Result (List Ended) PageFault
+entries_read p i (Ok bytes) = told_by p i bytes
+entries_read p i (Err fault) = Err fault
+
+-- the entries of page i of the file that stands there, where it is as it was opened
+unfoldable pub entries_at : Files → IndexPages → ℕ → Result (List Ended) PageFault
+entries_at m p i = entries_read p i (page_at m (pages_by p) i)
+
+-- on an honest disk they are handed on behind those that were taken, or the fault is told; where memory is wanting or the disk failed nothing
+-- is said
+abbrev pub HandsPage : {T : Type 0} → Files → IndexPages → ℕ → (T → ℕ → List Ended → Type 0) → T → T → Result (Unit {0}) PageFault → Type 0
+HandsPage m p i taken old new (Err Failed) = Unit {0}
+HandsPage m p i taken old new result = HandsTold taken (start_by p i) (entries_at m p i) old new result
+
+abbrev pub ReadsInto : {D T : Type 0} → Ghosts D → D → IndexPages → ℕ → (T → ℕ → List Ended → Type 0) → T → T → Result (Unit {0}) PageFault → Type 0
+ReadsInto d disk p i taken old new result = d.honest disk → HandsPage (d.content disk) p i taken old new result
+
+-- on any disk those that bytes with the SHA-256 that was kept spell
+pub record HandsKept {T : Type 0} (p : IndexPages) (i : ℕ) (taken : T → ℕ → List Ended → Type 0) (old new : T) : Type 0 where
+  pub bytes : List ℕ
+  pub kept : IsTrue (is_kept (pages_by p) i bytes)
+  pub hands : HandsAll taken (start_by p i) (told_by p i bytes) old new
+
+-- the first page that ends behind an offset
+abbrev pub page_behind : IndexPages → ℕ → Option ℕ
+page_behind (pages.Fixed p) offset = fixeds.page_with p offset
+page_behind (pages.Dynamic p) offset = page_with offset p.ends
 
 -- ---- an opening
 

@@ -1,15 +1,18 @@
 -- What holds of indexes that are read page by page.
-use Rattle.std.specs.Prelude.{◌≡◌, ◌↔◌, ◌<◌, ◌≤◌, ◌*◌, ℕ, List, length, take, drop, Some, Ok, MatchResult, IsNone, IfSome}
+use Rattle.std.specs.Prelude.{◌≡◌, ◌↔◌, ◌<◌, ◌≤◌, ◌*◌, ℕ, List, length, take, drop, Option, None, Some, Ok, MatchResult, IsNone, IfSome}
 use Rattle.std.specs.FinMap.{get}
 use Rattle.disk_trait.specs.Files.{Files}
 use Rattle.store_files.specs.Cells.{cells}
-use Rattle.store_files.specs.DynamicIndex.{DynamicIndex, dynamic_of}
+use Rattle.store_files.specs.DynamicIndex.{DynamicIndex, Ended, dynamic_of}
 use Rattle.store_files.specs.FixedIndex.{FixedIndex, fixed_of}
-use Rattle.dynamic_index.specs.Pieces.{HoldsOffset, size_of}
+use Rattle.dynamic_index.specs.Pieces.{HoldsOffset, last_end, size_of}
 use Rattle.fixed_index.specs.Viewing.{start_of, stop_of}
 use Rattle.index_pages.specs.Paged.{page_at, page_count, page_text, paged}
 use Rattle.paged_indexes.specs.Dynamic.{chunk_in, dynamic_paged, size_by}
 use Rattle.paged_indexes.specs.Fixed.{chunk_in as fixed_chunk_in, fixed_paged}
+use Rattle.paged_indexes.specs.declared.index.IndexPages.{IndexPages}
+use Rattle.paged_indexes.specs.declared.kinds.IndexKind.{IndexKind}
+use Rattle.paged_indexes.specs.Index.{entries_at, entries_in, opened, page_behind, pages_by, start_by}
 use Rattle.paged_indexes.specs.Steps.{entries_of}
 
 -- the bytes of page i of a text of entries of a width
@@ -69,3 +72,25 @@ pub record FindsTheFixedChunk (name text : List ℕ) (x : FixedIndex) (offset : 
 
 abbrev pub FixedChunksAreFound : Type 0
 FixedChunksAreFound = (name text : List ℕ) (x : FixedIndex) (offset : ℕ) → fixed_of text ≡ Ok x → FindsTheFixedChunk name text x offset
+
+-- ---- what was opened is the index that stands there
+
+-- of page i, whose first piece begins there, the index's entries are read
+pub record PageIs (m : Files) (p : IndexPages) (entries : List Ended) (i : ℕ) : Type 0 where
+  pub read : entries_at m p i ≡ Ok (take 1024 (drop (i * 1024) entries))
+  pub start : start_by p i ≡ last_end 0 (take (i * 1024) entries)
+
+-- a page that is found begins at the offset or before it, and where none is the archive ends so
+abbrev pub BeginsLow : IndexPages → List Ended → ℕ → Option ℕ → Type 0
+BeginsLow p entries offset None = last_end 0 entries ≤ offset
+BeginsLow p entries offset (Some i) = (i < page_count (length entries)) × (start_by p i ≤ offset)
+
+pub record IsIndex (m : Files) (p : IndexPages) (entries : List Ended) : Type 0 where
+  pub count : (pages_by p).count ≡ length entries
+  pub pages : (i : ℕ) → i < page_count (length entries) → PageIs m p entries i
+  pub found : (offset : ℕ) → BeginsLow p entries offset (page_behind p offset)
+
+-- while the file stands there from which it was opened
+abbrev pub OpenedIsTheIndex : Type 0
+OpenedIsTheIndex = (m : Files) (name text : List ℕ) (kind : IndexKind) (p : IndexPages) (entries : List Ended) → get m name ≡ Some text
+    → opened m name kind ≡ Ok p → entries_in kind text ≡ Some entries → IsIndex m p entries

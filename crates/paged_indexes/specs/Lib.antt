@@ -3,5 +3,5 @@ pub mod Steps
 pub mod Dynamic
 pub mod Fixed
 pub mod Reading
-pub mod Laws
 pub mod Index
+pub mod Laws

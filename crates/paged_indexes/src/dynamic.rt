@@ -5,11 +5,12 @@ ghost use Rattle.disk_trait.specs.Disk.{TicksOnce};
 ghost use Rattle.disk_trait.specs.Effects.{OnlyReads};
 ghost use Rattle.index_pages.specs.declared.fault.PageFault.TheVariants.{Failed as ReadFailed, NoMemory as NoRoom};
 ghost use Rattle.index_pages.specs.Paged.{ReadsPage, is_kept, page_count};
-ghost use Rattle.paged_indexes.specs.Dynamic.{CallsOnceAtMost, FindsChunk, OpensDynamic, dynamic_entries, size_by};
-ghost use Rattle.paged_indexes.specs.Handing.{HandsSome, HandsThose};
+ghost use Rattle.paged_indexes.specs.Dynamic.{CallsOnceAtMost, FindsChunk, OpensDynamic, dynamic_entries, dynamic_told, size_by, start_in};
+ghost use Rattle.paged_indexes.specs.Handing.{HandsSome, HandsThose, HandsTold};
+ghost use Rattle.paged_indexes.specs.Steps.{page_with as page_of};
 
 use crate::reading::read_body;
-use crate::steps::{ended_in, page_with};
+use crate::steps::{ended_in, hand_on, page_with};
 use crate::taking::{Nothing, TakesEntries};
 use disk_trait::Disk;
 use index_pages::{Page, PageFault, Pages, count_in, read_head};
@@ -121,6 +122,43 @@ impl DynamicPages {
         ensures memory { IsErrOf result NoRoom → ⊥ }
     {
         self.pages.read(disk, i, into)
+    }
+
+    /// Where the first piece of a page begins in the archive.
+    pub fn start(&self, i: u32) -> u64
+        requires { i < page_count self.now.pages.count }
+        ensures { result ≡ start_in self.now i }
+    {
+        if i == 0 {
+            return 0;
+        }
+        self.ends[i as usize - 1]
+    }
+
+    /// Hands on the entries of a page from its bytes. It is changed where a piece is not as long as pieces may be, and where
+    /// the last one does not end where it did at the opening: no page of the opening is so.
+    pub fn hand_on<T: TakesEntries>(
+        &self,
+        i: u32,
+        page: &Page,
+        taker: &mut T,
+    ) -> Result<(), PageFault>
+        requires { i < page_count self.now.pages.count }
+        ensures { HandsTold T.taken (start_in self.now i) (dynamic_told self.now i page.now)
+            taker.old taker.new result }
+    {
+        match hand_on(self.start(i), page.as_slice(), taker)? {
+            Some(end) if end == self.ends[i as usize] => Ok(()),
+            _ => Err(PageFault::Changed { page: i }),
+        }
+    }
+
+    /// The first page of which the last piece ends behind an offset, or `None` where the archive ends there or before it.
+    pub fn page_with(&self, offset: u64) -> Option<u32>
+        ensures { result ≡ page_of offset self.now.ends }
+    {
+        let i = page_with(&self.ends, offset)?;
+        Some(i as u32)
     }
 
     /// The piece that has the byte at an offset, or `None` where the archive ends at the offset or before it. Where each

@@ -4,9 +4,9 @@ ghost use Rattle.std.specs.Prelude.{◌≡◌, ◌<◌, ◌≤◌, [], length, I
 ghost use Rattle.disk_trait.specs.Disk.{TicksOnce};
 ghost use Rattle.disk_trait.specs.Effects.{OnlyReads};
 ghost use Rattle.index_pages.specs.declared.fault.PageFault.TheVariants.{Failed as ReadFailed, NoMemory as NoRoom};
-ghost use Rattle.index_pages.specs.Paged.{ReadsPage, is_kept, page_count};
-ghost use Rattle.paged_indexes.specs.Fixed.{Cuts, OpensFixed, chunk_in, fixed_entries, sizes_agree};
-ghost use Rattle.paged_indexes.specs.Handing.{HandsSome, HandsThose};
+ghost use Rattle.index_pages.specs.Paged.{ReadsPage, is_kept, page_count, page_len};
+ghost use Rattle.paged_indexes.specs.Fixed.{Cuts, OpensFixed, chunk_in, fixed_entries, fixed_told, page_with as page_of, sizes_agree, start_in};
+ghost use Rattle.paged_indexes.specs.Handing.{HandsSome, HandsThose, HandsTold};
 ghost use Rattle.paged_indexes.specs.Reading.{HandsFixedBody, ReadsFixedBody};
 
 use crate::pieces::{Cut, hand_on};
@@ -39,7 +39,7 @@ impl Model for FixedPages {
 
     ghost view = { λ p. record { pages = p.pages; size = p.size; chunk_size = p.chunk_size } };
 
-    ghost invariant = { λ p. HasSizes (p.pages).count p.size p.chunk_size };
+    ghost invariant = { λ p. HasSizes p.pages p.size p.chunk_size };
 }
 
 impl FixedPages {
@@ -136,6 +136,42 @@ impl FixedPages {
         ensures memory { IsErrOf result NoRoom → ⊥ }
     {
         self.pages.read(disk, i, into)
+    }
+
+    /// Where the first piece of a page begins in the archive.
+    pub fn start(&self, i: u32) -> u64
+        requires { i < page_count self.now.pages.count }
+        ensures { result ≡ start_in self.now i }
+    {
+        self.size.min(u64::from(i) * 1024 * self.chunk_size)
+    }
+
+    /// Hands on the entries of a page from its bytes.
+    pub fn hand_on<T: TakesEntries>(
+        &self,
+        i: u32,
+        page: &Page,
+        taker: &mut T,
+    ) -> Result<(), PageFault>
+        requires place { i < page_count self.now.pages.count }
+        requires len { length page.now ≡ page_len self.now.pages i }
+        ensures { HandsTold T.taken (start_in self.now i) (fixed_told self.now i page.now)
+            taker.old taker.new result }
+    {
+        let cut = Cut {
+            size: self.size,
+            chunk_size: self.chunk_size,
+        };
+        hand_on(cut, self.start(i), page.as_slice(), taker)?;
+        Ok(())
+    }
+
+    /// The first page of which the last piece ends behind an offset, or `None` where the archive ends there or before it.
+    pub fn page_with(&self, offset: u64) -> Option<u32>
+        ensures { result ≡ page_of self.now offset }
+    {
+        let i = self.chunk_at(offset)?;
+        Some(i / 1024)
     }
 
     /// The piece that has the byte at an offset, or `None` where the archive ends at the offset or before it. No page is

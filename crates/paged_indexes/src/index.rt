@@ -1,12 +1,12 @@
 //! An index of either kind.
 
-ghost use Rattle.std.specs.Prelude.{◌≡◌, ◌<◌, [], IfOk, IsErrOf, IsTrue, OnErr, OnOk};
+ghost use Rattle.std.specs.Prelude.{◌≡◌, ◌<◌, [], length, IfOk, IsErrOf, IsTrue, OnErr, OnOk};
 ghost use Rattle.disk_trait.specs.Disk.{TicksOnce};
 ghost use Rattle.disk_trait.specs.Effects.{OnlyReads};
 ghost use Rattle.index_pages.specs.declared.fault.PageFault.TheVariants.{Failed as ReadFailed, NoMemory as NoRoom};
-ghost use Rattle.index_pages.specs.Paged.{ReadsPage, is_kept, page_count};
-ghost use Rattle.paged_indexes.specs.Handing.{HandsSome};
-ghost use Rattle.paged_indexes.specs.Index.{HandsEntries, OpensIndex, pages_by, size_by};
+ghost use Rattle.index_pages.specs.Paged.{ReadsPage, is_kept, page_count, page_len};
+ghost use Rattle.paged_indexes.specs.Handing.{HandsSome, HandsTold};
+ghost use Rattle.paged_indexes.specs.Index.{HandsEntries, HandsKept, OpensIndex, ReadsInto, page_behind, pages_by, size_by, start_by, told_by};
 
 use crate::dynamic::DynamicPages;
 use crate::fixed::FixedPages;
@@ -97,6 +97,65 @@ impl IndexPages {
         match self {
             IndexPages::Fixed(pages) => pages.page(disk, i, into),
             IndexPages::Dynamic(pages) => pages.page(disk, i, into),
+        }
+    }
+
+    /// Where the first piece of a page begins in the archive.
+    pub fn start(&self, i: u32) -> u64
+        requires { i < page_count (pages_by self.now).count }
+        ensures { result ≡ start_by self.now i }
+    {
+        match self {
+            IndexPages::Fixed(pages) => pages.start(i),
+            IndexPages::Dynamic(pages) => pages.start(i),
+        }
+    }
+
+    /// Hands on the entries of a page from its bytes. It is changed where a piece is not as long as pieces may be, and where
+    /// the last one does not end where it did at the opening: no page of the opening is so.
+    pub fn hand_on<T: TakesEntries>(
+        &self,
+        i: u32,
+        page: &Page,
+        taker: &mut T,
+    ) -> Result<(), PageFault>
+        requires place { i < page_count (pages_by self.now).count }
+        requires len { length page.now ≡ page_len (pages_by self.now) i }
+        ensures { HandsTold T.taken (start_by self.now i) (told_by self.now i page.now)
+            taker.old taker.new result }
+    {
+        match self {
+            IndexPages::Fixed(pages) => pages.hand_on(i, page, taker),
+            IndexPages::Dynamic(pages) => pages.hand_on(i, page, taker),
+        }
+    }
+
+    /// Reads a page into the room, and hands its entries on. After a fault some may have been.
+    pub fn read_into<D: Disk, T: TakesEntries>(
+        &self,
+        disk: &mut D,
+        i: u32,
+        room: &mut Page,
+        taker: &mut T,
+    ) -> Result<(), PageFault>
+        requires { i < page_count (pages_by self.now).count }
+        ensures reads { OnlyReads D.Disk disk.old disk.new (IsErrOf result ReadFailed) }
+        ensures calls { TicksOnce D.honest D.calls disk.old disk.new }
+        ensures exact { ReadsInto D.Disk disk.old self.now i T.taken taker.old taker.new result }
+        // on any disk
+        ensures kept { IfOk result (λ _. HandsKept self.now i T.taken taker.old taker.new) }
+    {
+        self.page(disk, i, room)?;
+        self.hand_on(i, room, taker)
+    }
+
+    /// The first page of which the last piece ends behind an offset, or `None` where the archive ends there or before it.
+    pub fn page_with(&self, offset: u64) -> Option<u32>
+        ensures { result ≡ page_behind self.now offset }
+    {
+        match self {
+            IndexPages::Fixed(pages) => pages.page_with(offset),
+            IndexPages::Dynamic(pages) => pages.page_with(offset),
         }
     }
 }

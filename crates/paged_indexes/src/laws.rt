@@ -1,6 +1,6 @@
 //! What holds of indexes that are read page by page.
 
-ghost use Rattle.paged_indexes.specs.Laws.{DynamicChunksAreFound, DynamicPagesAreOfTheView, DynamicStays, FixedChunksAreFound, FixedPagesAreOfTheView, FixedStays};
+ghost use Rattle.paged_indexes.specs.Laws.{DynamicChunksAreFound, DynamicPagesAreOfTheView, DynamicStays, FixedChunksAreFound, FixedPagesAreOfTheView, FixedStays, OpenedIsTheIndex};
 
 /// There are as many entries as in the view, and a page's entries are the view's at its place.
 pub fn a_page_is_of_the_view()
@@ -18,4 +18,10 @@ pub fn what_stays_is_given()
 pub fn a_chunk_is_found_by_its_bytes()
     ensures dynamic { DynamicChunksAreFound }
     ensures fixed { FixedChunksAreFound }
+{}
+
+/// While the file stands there from which an index was opened, each page has the index's entries at its place, and the page
+/// that is found for an offset begins there or before it.
+pub fn what_was_opened_is_the_index()
+    ensures { OpenedIsTheIndex }
 {}

@@ -2,13 +2,13 @@
 use Rattle.std.proofs.Common.{◌≡◌, ℕ, zero, suc, ◌+◌, ◌-◌, ◌<◌, ◌≤◌, ◌⊎◌, inl, inr, min, max, IsTrue, List, [], ◌∷◌, ◌++◌, length, take, drop, refl, sym, ap, ap₂, subst, ◌∙◌, append-nil, take_all, length-drop, arith}
 use Rattle.std.specs.List.{concat}
 use Rattle.std.proofs.lemmas.Bool.{cases_lt}
-use Rattle.std.proofs.lemmas.List.{take-append-le, drop-append-le}
+use Rattle.std.proofs.lemmas.List.{take-append-le, drop-append-le, drop_all}
 use Rattle.std.proofs.Math.Seq.{take-append-add, drop-append-add}
 use Rattle.sha2.specs.Sha256.{sha256}
 use Rattle.store_files.specs.DynamicIndex.{Ended, steps_fit}
 use Rattle.store_files.specs.Archive.{ends_from}
 use Rattle.restore_reader.specs.declared.ranges.Part.{Part}
-use Rattle.restore_reader.specs.Plan.{parts_in}
+use Rattle.restore_reader.specs.Plan.{bytes_in, parts_in}
 use Rattle.restore_reader.specs.Cutting.{IsPartOf, cut, ArePartsOf, joined, Reads}
 use Rattle.restore_reader.proofs.Apart.{first_step, rest_steps, part_of, no_part, one_part, parts_behind}
 
@@ -159,17 +159,58 @@ read_range from to start (p ∷ ps) low fit =
         by_range (inr k) = read_none from to start p ps k h fit
         by_range (inl k) = read_here from to start p ps low k h fit
 
--- from the front, for entries that the pieces give
-pub reads : (from to : ℕ) (entries : List Ended) (pieces : List (List ℕ)) → ends_from 0 pieces ≡ entries → IsTrue (steps_fit 0 entries)
-    → Reads (parts_in from to 0 entries) pieces (take (to - from) (drop from (concat pieces)))
-reads from to entries pieces same fit =
-    subst (λ (es : List Ended). IsTrue (steps_fit 0 es) → Reads (parts_in from to 0 es) pieces (take (to - from) (drop from (concat pieces)))) same
-    (λ steps. subst (λ n. Reads (parts_in from to 0 (ends_from 0 pieces)) pieces (take (to - from) (drop n (concat pieces)))) whole (read_range from to 0 pieces (omega arith) steps)) fit
+-- wherever the first one begins, for entries that the pieces give
+pub reads : (from to start : ℕ) (es : List Ended) (pieces : List (List ℕ)) → IsTrue (steps_fit start es) → ends_from start pieces ≡ es
+    → Reads (parts_in from to start es) pieces (bytes_in from to start (concat pieces))
+reads from to start es pieces fit same =
+    subst (λ (l : List Ended). IsTrue (steps_fit start l) → Reads (parts_in from to start l) pieces (bytes_in from to start (concat pieces))) same
+    (λ steps. by_front steps (cases_lt from start)) fit
   where
-    whole : from - 0 ≡ from
-    whole = omega arith
+    by_front : IsTrue (steps_fit start (ends_from start pieces)) → (from < start) ⊎ (start ≤ from)
+        → Reads (parts_in from to start (ends_from start pieces)) pieces (bytes_in from to start (concat pieces))
+    by_front steps (inl h) =
+        let all = read_all from to start pieces (omega (arith, h)) steps in
+        let left : to - start ≡ to - max from start = omega (arith, h) in
+        let begin : 0 ≡ from - start = omega (arith, h) in
+        record { first = 0; each = all.0; same = all.1 ∙ ap₂ (λ a b. take a (drop b (concat pieces))) left begin }
+    by_front steps (inr h) =
+        let left : to - from ≡ to - max from start = omega (arith, h) in
+        subst (λ n. Reads (parts_in from to start (ends_from start pieces)) pieces (take n (drop (from - start) (concat pieces)))) left (read_range from to start pieces h steps)
 
-pub reads_by : (from to : ℕ) (entries : List Ended) (pieces : List (List ℕ)) (parts : List Part) → parts ≡ parts_in from to 0 entries → ends_from 0 pieces ≡ entries → IsTrue (steps_fit 0 entries)
-    → Reads parts pieces (take (to - from) (drop from (concat pieces)))
-reads_by from to entries pieces parts are same fit =
-    subst (λ (l : List Part). Reads l pieces (take (to - from) (drop from (concat pieces)))) (sym are) (reads from to entries pieces same fit)
+pub whole_bytes : (from to : ℕ) (content : List ℕ) → bytes_in from to 0 content ≡ take (to - from) (drop from content)
+whole_bytes from to content =
+    let left : to - max from 0 ≡ to - from = omega arith in
+    let begin : from - 0 ≡ from = omega arith in
+    ap₂ (λ a b. take a (drop b content)) left begin
+
+-- ---- bytes that follow one another
+
+drop_both : (n : ℕ) (xs ys : List ℕ) → drop n (xs ++ ys) ≡ drop n xs ++ drop (n - length xs) ys
+drop_both n xs ys = by_length (cases_lt (length xs) n)
+  where
+    by_length : (length xs < n) ⊎ (n ≤ length xs) → drop n (xs ++ ys) ≡ drop n xs ++ drop (n - length xs) ys
+    by_length (inl h) =
+        let more : n ≡ length xs + (n - length xs) = omega (arith, h) in
+        ap (λ a. drop a (xs ++ ys)) more ∙ drop-append-add xs ys (n - length xs)
+        ∙ ap (λ (l : List ℕ). l ++ drop (n - length xs) ys) (sym (drop_all n xs (omega (arith, h))))
+    by_length (inr h) =
+        let none : 0 ≡ n - length xs = omega (arith, h) in
+        drop-append-le n xs ys h ∙ ap (λ a. drop n xs ++ drop a ys) none
+
+take_least : (n : ℕ) (xs : List ℕ) → take (min n (length xs)) xs ≡ take n xs
+take_least n xs = by_length (cases_lt (length xs) n)
+  where
+    by_length : (length xs < n) ⊎ (n ≤ length xs) → take (min n (length xs)) xs ≡ take n xs
+    by_length (inl h) = take_all (min n (length xs)) xs (omega (arith, h)) ∙ sym (take_all n xs (omega (arith, h)))
+    by_length (inr h) = let here : min n (length xs) ≡ n = omega (arith, h) in ap (λ a. take a xs) here
+
+pub bytes_follow : (from to start : ℕ) (xs ys : List ℕ) → bytes_in from to start (xs ++ ys) ≡ bytes_in from to start xs ++ bytes_in from to (start + length xs) ys
+bytes_follow from to start xs ys =
+    let front = drop (from - start) xs in
+    let len : length front ≡ length xs - (from - start) = length-drop (from - start) xs in
+    let begin : from - start - length xs ≡ from - (start + length xs) = omega arith in
+    let left : to - max from start - length front ≡ to - max from (start + length xs) = omega (arith, len) in
+    ap (take (to - max from start)) (drop_both (from - start) xs ys)
+    ∙ take_both (to - max from start) front (drop (from - start - length xs) ys)
+    ∙ ap₂ (λ (a : List ℕ) b. a ++ take b (drop (from - start - length xs) ys)) (take_least (to - max from start) front) left
+    ∙ ap (λ b. take (to - max from start) front ++ take (to - max from (start + length xs)) (drop b ys)) begin

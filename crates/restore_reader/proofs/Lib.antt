@@ -1,4 +1,5 @@
-mod Apart
-mod Bytes
+pub mod Apart
+pub mod Bytes
 mod Tables
-mod Plainly
+pub mod Plainly
+pub mod Opened

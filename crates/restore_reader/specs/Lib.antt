@@ -1,7 +1,9 @@
 pub mod Session
+pub mod Digests
+pub mod Kept
 pub mod Plan
 pub mod Cutting
 pub mod Steps
 pub mod Shown
 pub mod Answers
-pub mod Kept
+pub mod Laws

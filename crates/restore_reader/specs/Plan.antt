@@ -1,8 +1,8 @@
 -- What a range of an archive has of each piece.
-use Rattle.std.specs.Prelude.{ℕ, ◌-◌, min, max, List, [], ◌∷◌, ◌++◌, nat_lt, if◌then◌else◌}
-use Rattle.store_types.specs.declared.names.Digest32.{Digest32}
+use Rattle.std.specs.Prelude.{ℕ, ◌-◌, min, max, List, [], ◌∷◌, ◌++◌, map, take, drop, nat_lt, if◌then◌else◌}
 use Rattle.store_files.specs.DynamicIndex.{Ended}
-use Rattle.store_files.specs.Entries.{ended_of}
+use Rattle.paged_indexes.specs.declared.kinds.IndexEntry.{IndexEntry}
+use Rattle.paged_indexes.specs.Handing.{ended_of}
 use Rattle.restore_reader.specs.declared.ranges.Part.{Part}
 
 -- The range's bytes go from one offset up to another. Of a piece that begins at start it has one part, or nothing.
@@ -17,6 +17,13 @@ abbrev pub parts_in : ℕ → ℕ → ℕ → List Ended → List Part
 parts_in from to start [] = []
 parts_in from to start (e ∷ es) = part_in from to start e ++ parts_in from to e.end es
 
+-- its bytes of content that begins at start
+abbrev pub bytes_in : ℕ → ℕ → ℕ → List ℕ → List ℕ
+bytes_in from to start content = take (to - max from start) (drop (from - start) content)
+
+abbrev pub ends_of : List IndexEntry → List Ended
+ends_of entries = map ended_of entries
+
 -- behind these, what the range has of the piece of an entry
-abbrev pub with_part : List Part → ℕ → ℕ → ℕ → Digest32 × ℕ → List Part
+abbrev pub with_part : List Part → ℕ → ℕ → ℕ → IndexEntry → List Part
 with_part parts from to start entry = parts ++ part_in from to start (ended_of entry)

@@ -1,55 +1,78 @@
 //! An archive that was downloaded.
 
-ghost use Rattle.std.specs.Prelude.{◌≡◌, ◌≤◌, ◌-◌, IfOk};
-ghost use Rattle.dynamic_index.specs.Pieces.{last_end};
-ghost use Rattle.store_files.specs.Entries.{ends_of, FitsIndex};
-ghost use Rattle.restore_reader.specs.Answers.{ReadsRange};
-ghost use Rattle.restore_reader.specs.Cutting.{total_of};
-ghost use Rattle.restore_reader.specs.Plan as plan;
+ghost use Rattle.std.specs.Prelude.{◌≡◌, []};
+ghost use Rattle.restore_reader.specs.Kept.{IsTable, noted_by};
 ghost use Rattle.restore_reader.specs.Steps as steps;
 
-use crate::digests::{contains, sorted};
-use crate::ranges::{Part, end_before, parts_in};
+use crate::digests::contains;
+use paged_indexes::{IndexEntry, IndexPages, TakesEntries};
 use std::alloc::{AllocError, Global};
 use std::marker::Model;
 use store_types::{Digest32, FileName};
 
-/// An archive's entries, and their digests once more in rising order.
+/// The digests of an index's entries as its pages are read, and where the last piece so far ends.
+#[derive(Drop)]
+pub struct Table {
+    digests: Vec<Digest32>,
+    size: u64,
+}
+
+impl Table {
+    /// Before the first entry. It takes no memory.
+    pub fn new(alloc: Global) -> Table
+        ensures { IsTable result 0 [] }
+    {
+        Table {
+            digests: Vec::new(alloc),
+            size: 0,
+        }
+    }
+}
+
+impl TakesEntries for Table {
+    ghost taken = { IsTable };
+
+    fn take(&mut self, _start: u64, entry: &IndexEntry) -> Result<(), AllocError> {
+        self.digests.push(entry.digest)?;
+        self.size = entry.end;
+        Ok(())
+    }
+}
+
+/// The digests of an archive's pieces in rising order, its size, and what is kept of its index for the pages to be read.
 #[derive(Drop)]
 pub struct Index {
     name: FileName,
-    entries: Vec<(Digest32, u64)>,
     digests: Vec<Digest32>,
+    size: u64,
+    pages: IndexPages,
 }
 
 impl Model for Index {
-    ghost use Rattle.restore_reader.specs.Session.{Noted};
-    ghost use Rattle.store_files.specs.Entries.{ends_of, FitsIndex};
-    ghost use Rattle.restore_reader.specs.Kept.{IsTable};
+    ghost use Rattle.std.specs.List.Sorted.{IsSorted};
+    ghost use Rattle.restore_reader.specs.Session.{Noted, noted_of};
+    ghost use Rattle.restore_reader.specs.Digests.{digest_cmp};
 
     ghost Value = { Noted };
 
-    ghost view = { λ x. record { name = x.name; entries = ends_of x.entries.items } };
+    ghost view = { λ x. noted_of x.name x.digests.items x.size x.pages };
 
-    ghost invariant = { λ x. FitsIndex (ends_of x.entries.items) × IsTable x.digests.items x.entries.items };
+    ghost invariant = { λ x. IsSorted digest_cmp x.digests.items };
 }
 
 impl Index {
-    pub fn new(
-        alloc: Global,
-        name: FileName,
-        entries: &[(Digest32, u64)],
-    ) -> Result<Index, AllocError>
-        requires { FitsIndex (ends_of entries.now) }
-        ensures { IfOk result (λ x. x ≡ record { name = name; entries = ends_of entries.now }) }
+    /// It takes no memory.
+    pub fn new(name: FileName, table: Table, pages: IndexPages) -> Index
+        ensures { result ≡ noted_by name table pages }
     {
-        let digests = sorted(alloc, entries)?;
-        let entries = Vec::from_slice(alloc, entries)?;
-        Ok(Index {
+        let Table { mut digests, size } = table;
+        digests.sort_unstable();
+        Index {
             name,
-            entries,
             digests,
-        })
+            size,
+            pages,
+        }
     }
 
     pub fn name(&self) -> &FileName
@@ -58,7 +81,7 @@ impl Index {
         &self.name
     }
 
-    /// An entry has the digest.
+    /// A piece has the digest. It takes no memory.
     pub fn has(&self, digest: &Digest32) -> bool
         ensures { result ≡ steps.has_digest digest.now.0 self.now }
     {
@@ -67,17 +90,14 @@ impl Index {
 
     /// The content's size.
     pub fn size(&self) -> u64
-        ensures { result ≡ last_end 0 self.now.entries }
+        ensures { result ≡ self.now.size }
     {
-        end_before(&self.entries, self.entries.len())
+        self.size
     }
 
-    /// The parts of pieces from one offset up to another.
-    pub fn parts(&self, alloc: Global, from: u64, to: u64) -> Result<Vec<Part>, AllocError>
-        ensures value { IfOk result (λ ps. ps.items ≡ plan.parts_in from to 0 self.now.entries) }
-        ensures total { IfOk result (λ parts. total_of parts.items ≤ to - from) }
-        ensures bytes { IfOk result (λ parts. ReadsRange parts.items self.now.entries from to) }
+    pub fn pages(&self) -> &IndexPages
+        ensures { result.now ≡ self.now.pages }
     {
-        parts_in(alloc, &self.entries, from, to)
+        &self.pages
     }
 }

@@ -1,24 +1,23 @@
 //! A reader's calls.
 
-ghost use Rattle.std.specs.Prelude.{◌≡◌, List, [], option_map, IfOk, OnOk, OnErr};
+ghost use Rattle.std.specs.Prelude.{◌≡◌, ◌+◌, ◌<◌, ◌≤◌, ◌^◌, List, [], option_map, OnOk, OnErr, IfErr};
 ghost use Rattle.std.specs.List.{list_any, find};
 ghost use Rattle.std.specs.Str.{bytes_eq};
-ghost use Rattle.store_stops.specs.Outcomes.{IfAnswered, IfCause};
 ghost use Rattle.store_files.specs.Archive.{File};
-ghost use Rattle.store_files.specs.Entries.{ends_of, FitsIndex};
-ghost use Rattle.restore_reader.specs.Answers.{PlanDoes, PlanFits, PlanPlainly, PlanReads, RefusesRange};
+ghost use Rattle.restore_reader.specs.Answers.{Lends, PlanPlainly, RefusesRange};
 ghost use Rattle.restore_reader.specs.Shown.{Shows, ForShown, ShowsNoted};
 ghost use Rattle.restore_reader.specs.Shown as plain;
 ghost use Rattle.restore_reader.specs.Steps as steps;
 
-use crate::index::Index;
-use crate::ranges::{Part, want_range};
+use crate::index::{Index, Table};
+use crate::ranges::want_range;
+use paged_indexes::IndexPages;
 use std::alloc::{AllocError, Global};
 use std::marker::Model;
 use store_types::{Digest32, FileName, Refusal, SnapshotKey};
 
-/// A snapshot that is being read, as contracts see it: its key, and the archives that were downloaded, each by where its
-/// pieces end and by their digests.
+/// A snapshot that is being read, as contracts see it: its key, and the archives that were downloaded, each by its pieces'
+/// digests, its size and what is kept of its index for the pages to be read.
 #[derive(Drop)]
 pub struct Reader {
     key: SnapshotKey,
@@ -51,7 +50,7 @@ fn index_named<'a>(indexes: &'a [Index], name: &FileName) -> Option<&'a Index>
     indexes.iter().find(|index| *name == *index.name())
 }
 
-/// An archive among these names the digest.
+/// An archive among these has a piece with the digest.
 fn names_digest(indexes: &[Index], digest: &Digest32) -> bool
     ensures { result ≡ list_any (steps.has_digest digest.now.0) indexes.now }
 {
@@ -73,42 +72,34 @@ impl Reader {
         self.indexes.iter().any(|index| *name == *index.name())
     }
 
-    /// An archive was downloaded. Of each piece, in order, its digest and the offset in the archive at which it ends are
-    /// given. Of an archive that was downloaded before nothing is taken. At want of memory nothing has changed.
+    /// An archive was downloaded: the table has all entries of its index, and the pages are what is kept of it. Of an
+    /// archive that was downloaded before nothing is taken. At want of memory nothing has changed.
     pub fn downloaded(
         &mut self,
-        alloc: Global,
         name: FileName,
-        entries: &[(Digest32, u64)],
+        table: Table,
+        pages: IndexPages,
     ) -> Result<(), AllocError>
-        requires { FitsIndex (ends_of entries.now) }
-        ensures ok { OnOk result (self.new ≡ steps.downloaded self.old name (ends_of entries.now)) }
+        ensures ok { OnOk result (self.new ≡ steps.downloaded self.old name table pages) }
         ensures err { OnErr result (self.new ≡ self.old) }
-        ensures plain { OnOk result (ShowsNoted self.old self.new name (ends_of entries.now)) }
+        ensures plain { OnOk result (ShowsNoted self.old self.new name table pages) }
     {
-        self.note(alloc, name, entries)
+        self.note(name, table, pages)
     }
 
     // Notes an archive, unless one of the name is noted.
-    fn note(
-        &mut self,
-        alloc: Global,
-        name: FileName,
-        entries: &[(Digest32, u64)],
-    ) -> Result<(), AllocError>
-        requires { FitsIndex (ends_of entries.now) }
-        ensures ok { OnOk result (self.new ≡ steps.downloaded self.old name (ends_of entries.now)) }
+    fn note(&mut self, name: FileName, table: Table, pages: IndexPages) -> Result<(), AllocError>
+        ensures ok { OnOk result (self.new ≡ steps.downloaded self.old name table pages) }
         ensures err { OnErr result (self.new ≡ self.old) }
     {
         if self.is_downloaded(&name) {
             return Ok(());
         }
-        let index = Index::new(alloc, name, entries)?;
-        self.indexes.push(index)?;
+        self.indexes.push(Index::new(name, table, pages))?;
         Ok(())
     }
 
-    /// An archive that was downloaded names the digest. It takes no memory.
+    /// An archive that was downloaded has a piece with the digest. It takes no memory.
     pub fn allowed(&self, digest: &Digest32) -> bool
         ensures value { result ≡ steps.is_allowed self.now digest.now.0 }
         ensures plain { ForShown self.now (λ fs r. result ≡ plain.is_allowed fs r digest.now) }
@@ -116,45 +107,37 @@ impl Reader {
         names_digest(&self.indexes, digest)
     }
 
-    /// The parts of chunks that make a range of an archive's content: so many bytes from an offset on.
+    /// The index of which the pages are read for a range of an archive's content: so many bytes from an offset on. It
+    /// takes no memory.
     ///
     /// The refusals, in the order in which they are tested: the archive was not downloaded; the range has more than
     /// 4,194,304 bytes; it goes beyond the content, whose size the refusal has.
     pub fn range_plan(
         &self,
-        alloc: Global,
         name: &FileName,
         offset: u64,
         length: u32,
-    ) -> Result<Vec<Part>, Refusal>
-        ensures does { PlanDoes (steps.range_plan self.now name.now offset length) result }
-        // whatever pieces have these digests and lengths, the parts are the range of what they make
-        ensures bytes { IfOk result (PlanReads self.now name.now offset length) }
-        ensures total { IfOk result (PlanFits length) }
-        ensures plain { IfAnswered result (PlanPlainly self.now name.now offset length) }
-        ensures refusal { IfCause result RefusesRange }
+    ) -> Result<&IndexPages, Refusal>
+        ensures does { Lends (steps.range_plan self.now name.now offset length) result }
+        ensures limit { OnOk result (length ≤ 4_194_304) }
+        ensures within { OnOk result (offset + length < 2 ^ 64) }
+        ensures plain { PlanPlainly self.now name.now offset length result }
+        ensures refusal { IfErr result RefusesRange }
     {
-        self.plan(alloc, name, offset, length)
+        self.plan(name, offset, length)
     }
 
-    // The parts of a range, or the first refusal.
-    fn plan(
-        &self,
-        alloc: Global,
-        name: &FileName,
-        offset: u64,
-        length: u32,
-    ) -> Result<Vec<Part>, Refusal>
-        ensures does { PlanDoes (steps.range_plan self.now name.now offset length) result }
-        ensures bytes { IfOk result (PlanReads self.now name.now offset length) }
-        ensures total { IfOk result (PlanFits length) }
-        ensures refusal { IfCause result RefusesRange }
+    // The index of a range, or the first refusal.
+    fn plan(&self, name: &FileName, offset: u64, length: u32) -> Result<&IndexPages, Refusal>
+        ensures does { Lends (steps.range_plan self.now name.now offset length) result }
+        ensures limit { OnOk result (length ≤ 4_194_304) }
+        ensures within { OnOk result (offset + length < 2 ^ 64) }
+        ensures refusal { IfErr result RefusesRange }
     {
         let Some(index) = index_named(&self.indexes, name) else {
             return Err(Refusal::NotAllowed);
         };
         want_range(index.size(), offset, length)?;
-        let parts = index.parts(alloc, offset, offset + length as u64)?;
-        Ok(parts)
+        Ok(index.pages())
     }
 }

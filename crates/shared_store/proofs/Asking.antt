@@ -1,7 +1,7 @@
 -- What the acts of each family ask for.
 use Rattle.std.proofs.Common.{◌≡◌, ℕ, List, Option, refl}
 use Rattle.wire_commands.specs.declared.command.Command.{Command}
-use Rattle.wire_commands.specs.declared.command.Command.TheVariants.{Previous, OpenReader, Download, Files as FilesOf}
+use Rattle.wire_commands.specs.declared.command.Command.TheVariants.{Previous, OpenReader, Download, Range, Files as FilesOf}
 use Rattle.store_history.specs.declared.act.Act.{Act}
 use Rattle.store_history.specs.declared.act.Act.TheVariants.{Plain}
 use Rattle.store_history.specs.declared.act.Family.TheVariants.{Reads, Writes, Manages, Collects}
@@ -33,6 +33,7 @@ module _ (lane : ℕ) (collector : Option Collector) (session : Session) (catalo
       by_command : (c : Command) → command_family c ≡ Writes → asked (Plain c) lane collector session catalogue ≡ asked_of_writer (Plain c) session catalogue
       by_command (OpenReader snapshot) is = cc
       by_command (Download file offset) is = cc
+      by_command (Range file offset len) is = cc
       by_command (FilesOf snapshot) is = cc
       by_command c is = refl
 
@@ -44,6 +45,7 @@ module _ (lane : ℕ) (collector : Option Collector) (session : Session) (catalo
       by_command (Previous file offset) is = cc
       by_command (OpenReader snapshot) is = cc
       by_command (Download file offset) is = cc
+      by_command (Range file offset len) is = cc
       by_command c is = refl
 
   -- a collector's for what core_collect says

@@ -17,7 +17,7 @@ use Rattle.paged_indexes.specs.declared.kinds.IndexKind.{IndexKind}
 use Rattle.paged_indexes.specs.declared.kinds.IndexKind.TheVariants.{Fixed, Dynamic}
 use Rattle.paged_indexes.specs.declared.index.IndexPages.{IndexPages}
 use Rattle.paged_indexes.specs.Handing.{HandsOn}
-use Rattle.paged_indexes.specs.Index.{entries_in, opened}
+use Rattle.paged_indexes.specs.Index.{entries_at, entries_in, opened, start_by}
 use Rattle.snapshot_files.specs.declared.index.IndexPart.{IndexPart}
 use Rattle.store_stops.specs.declared.stop.Stop.{Stop}
 use Rattle.store_stops.specs.declared.stop.Stop.TheVariants as stops
@@ -58,6 +58,31 @@ index_opened content path kind = pages_at path (opened content path kind)
 -- on an honest disk it is opened so
 abbrev pub OpensIndex : {D : Type 0} → Ghosts D → D → List ℕ → IndexKind → Result IndexPages Stop → Type 0
 OpensIndex d disk path kind result = d.honest disk → Gives (λ (p : IndexPages). p) result (index_opened (d.content disk) path kind)
+
+-- ---- a page of one that was opened
+
+abbrev pub entries_or : List ℕ → Result (List Ended) PageFault → Result (List Ended) Refusal
+entries_or path (Ok entries) = Ok entries
+entries_or path (Err fault) = Err (Unreadable path)
+
+-- the entries of a page, which is unreadable where it is not as it was opened
+unfoldable pub page_entries : Files → List ℕ → IndexPages → ℕ → Result (List Ended) Refusal
+page_entries content path pages i = entries_or path (entries_at content pages i)
+
+-- they are handed on behind those that were taken
+pub record IsPage {T : Type 0} (content : Files) (path : List ℕ) (pages : IndexPages) (i : ℕ) (taken : T → ℕ → List Ended → Type 0) (old new : T) : Type 0 where
+  pub entries : List Ended
+  pub read : page_entries content path pages i ≡ Ok entries
+  pub hands : HandsOn taken (start_by pages i) entries old new
+
+-- or the refusal is told
+abbrev pub GivesPage : {T : Type 0} → Files → List ℕ → IndexPages → ℕ → (T → ℕ → List Ended → Type 0) → T → T → Result (Unit {0}) Stop → Type 0
+GivesPage content path pages i taken old new (Ok x) = IsPage content path pages i taken old new
+GivesPage content path pages i taken old new (Err (stops.Refused refusal)) = page_entries content path pages i ≡ Err refusal
+GivesPage content path pages i taken old new (Err stop) = Unit {0}
+
+abbrev pub ReadsPage : {D T : Type 0} → Ghosts D → D → List ℕ → IndexPages → ℕ → (T → ℕ → List Ended → Type 0) → T → T → Result (Unit {0}) Stop → Type 0
+ReadsPage d disk path pages i taken old new result = d.honest disk → GivesPage (d.content disk) path pages i taken old new result
 
 -- ---- an index that is read
 

@@ -1,18 +1,20 @@
 //! Indexes of snapshots, read page by page.
 
-ghost use Rattle.std.specs.Prelude.{◌≡◌, ◌≤◌, IfErr, IfOk, IsErrOf, MatchResult, length};
+ghost use Rattle.std.specs.Prelude.{◌≡◌, ◌<◌, ◌≤◌, IfErr, IfOk, IsErrOf, MatchResult, length};
+ghost use Rattle.disk_trait.specs.Disk.{TicksOnce};
 ghost use Rattle.disk_trait.specs.Effects.{OnlyReads};
 ghost use Rattle.store_types.specs.declared.refusal.Refusal.TheVariants.{Unreadable as UnreadableAt};
 ghost use Rattle.paged_indexes.specs.Handing.{HandsSome};
-ghost use Rattle.paged_indexes.specs.Index.{HandsEntries};
-ghost use Rattle.snapshot_files.specs.Indexes.{OpensIndex, ReadsIndex, StopsBy, kind_named, kind_of_index};
+ghost use Rattle.index_pages.specs.Paged.{page_count};
+ghost use Rattle.paged_indexes.specs.Index.{HandsEntries, HandsKept, pages_by};
+ghost use Rattle.snapshot_files.specs.Indexes.{OpensIndex, ReadsIndex, ReadsPage, StopsBy, kind_named, kind_of_index};
 ghost use Rattle.snapshot_files.specs.Parts.{PartHasText, RefusesPart};
 ghost use Rattle.snapshot_files.specs.Reads.{StopHasText};
 ghost use Rattle.store_stops.specs.Stops.{IfRefused};
 
 use crate::parts::{FilePart, read_part, unreadable};
 use disk_trait::Disk;
-use paged_indexes::{IndexKind, IndexPages, PageFault, TakesEntries};
+use paged_indexes::{IndexKind, IndexPages, Page, PageFault, TakesEntries};
 use std::alloc::Global;
 use store_stops::Stop;
 use store_types::FileName;
@@ -79,6 +81,36 @@ pub fn open_index<D: Disk, T: TakesEntries>(
 {
     match IndexPages::open_into(disk, alloc, path, kind, taker) {
         Ok(pages) => Ok(pages),
+        Err(fault) => Err(stopped(alloc, path, fault)),
+    }
+}
+
+/// Reads a page of an index that was opened at the path, and hands its entries on. After a refusal, and where memory is
+/// wanting or the disk failed, some may have been.
+///
+/// It is unreadable where nothing is there, and where the page is not as it was opened.
+pub fn read_page<D: Disk, T: TakesEntries>(
+    disk: &mut D,
+    alloc: Global,
+    path: &str,
+    pages: &IndexPages,
+    i: u32,
+    room: &mut Page,
+    taker: &mut T,
+) -> Result<(), Stop>
+    requires path { length path.now ≤ 255 }
+    requires place { i < page_count (pages_by pages.now).count }
+    ensures reads { OnlyReads D.Disk disk.old disk.new (IsErrOf result Stop.DiskFailed) }
+    ensures calls { TicksOnce D.honest D.calls disk.old disk.new }
+    ensures exact { ReadsPage D.Disk disk.old path.now pages.now i
+        T.taken taker.old taker.new result }
+    // on any disk
+    ensures kept { IfOk result (λ _. HandsKept pages.now i T.taken taker.old taker.new) }
+    ensures refusal { IfErr result (IfRefused (λ refusal. refusal ≡ UnreadableAt path.now)) }
+    ensures text { IfErr result StopHasText }
+{
+    match pages.read_into(disk, i, room, taker) {
+        Ok(()) => Ok(()),
         Err(fault) => Err(stopped(alloc, path, fault)),
     }
 }

@@ -18,7 +18,7 @@ pub use entry::read_entry;
 pub use forgetting::{forget, remove_files};
 pub use found::{Found, read_manifest};
 pub use grouping::keys_in_group;
-pub use index::{IndexPart, index_kind, kind_of, open_index, read_index};
+pub use index::{IndexPart, index_kind, kind_of, open_index, read_index, read_page};
 pub use parts::{FilePart, read_part};
 pub use path::{FilePath, Stored, manifest_path_of, path_of};
 pub use putting::{finish, put_file};

@@ -1,12 +1,14 @@
-use Rattle.std.proofs.Common.{◌≡◌, ◌∙◌, ap, refl, Some, None, Result, string_bytes, length, arith, ◌<◌, rules}
+use Rattle.std.proofs.Common.{◌≡◌, ap, refl, subst, Some, None, List, Result, string_bytes, length, arith, ◌<◌, rules}
 use Rattle.std.specs.Result.{result_ok}
 use Rattle.store_types.specs.declared.refusal.Refusal.{Refusal}
 use Rattle.wire_commands.specs.declared.command.Command.TheVariants.{Download}
 use Rattle.wire_commands.specs.declared.reply.Reply.{Reply}
 use Rattle.store_history.specs.declared.act.Act.TheVariants.{Plain}
-use Rattle.store_files.specs.Entries.{ends_of}
+use Rattle.store_files.specs.DynamicIndex.{Ended}
+use Rattle.restore_reader.specs.Kept.{IsTable}
+use Rattle.snapshot_files.specs.Indexes.{Indexed}
 use Rattle.snapshot_files.specs.Parts.{part_reply}
-use Rattle.core_reader.specs.Asked.{shown_given}
+use Rattle.core_reader.specs.declared.downloading.Given.{Given}
 use Rattle.core_state.specs.Named.{is_named}
 use Rattle.core_state.specs.Unreadables.{Asked, from_offset}
 use Rattle.core_state.specs.Wanted.{session_at}
@@ -14,8 +16,11 @@ use Rattle.core_state.proofs.Commanding.{read_does, read_leaves, reads_none, sam
 use Rattle.core_state.proofs.NamedLemmas.{list_all-set, list_all-at}
 use Rattle.core_reader.proofs.Downloads.{asked_index_given, asked_index_refused, asked_part_given, asked_part_refused, file_answers, file_is, file_refuses, file_stops, file_text_of, file_untold, sessions_stay}
 use Rattle.core_reader.proofs.Noted.{named_after}
-use Rattle.core_reader.proofs.Telling.{index_got, index_stop, noted_leaves, part_answers, part_got, part_plain, part_stop, read_answers, read_at, read_stops, short_does, short_leaves, stops_does, stops_leaves, tells_given, tells_stopped, tells_unread}
+use Rattle.core_reader.proofs.Telling.{index_got, index_stop, noted_leaves, part_answers, part_got, part_plain, part_stop, read_answers, read_at, read_stops, short_does, short_leaves, stops_does, stops_leaves, table_stops, tells_given, tells_stopped, tells_unread}
 use Rattle.core_reader.proofs.downloading.download.Goals as goal
+
+abbrev given_as : Given → List Ended → Indexed
+given_as g entries = record { part = part_reply g.part; entries = entries }
 
 -- ---- the act
 
@@ -111,15 +116,15 @@ returns-in_err-index-clause-does g c =
     let path : c.as_str-2.result.now ≡ string_bytes a.path = c.as_str-2.ensures.value in
     let some : a.whole ≡ Some c.in-Some.kind = search rules in
     let asked = file_is c.args.file.now c.args.offset (session_at old c.args.at.lane) old.catalogue.listed (string_bytes a.path) a.whole (c.in_ok-asked.ensures.value c.args.offset) in
-    stops_does d old _ c.args.at (Plain (Download c.args.file.now c.args.offset)) c.read_entries.result _ c.in_err-index.was _ c.from_residual-in_err-index.ensures.1
-    c.read_entries.ensures.reads (record { catalogue = refl; sessions = refl; locks = refl }) c.in_err-index.ensures.text (read_answers c.as_str-2.result.now _ c.in_err-index.ensures.kind)
-    (λ s h. read_stops shown_given _ _ _ (c.in_err-index.ensures.exact h.honest)
+    stops_does d old _ c.args.at (Plain (Download c.args.file.now c.args.offset)) c.read_table.result _ c.in_err-index.was _ c.from_residual-in_err-index.ensures.1
+    c.read_table.ensures.reads (record { catalogue = refl; sessions = refl; locks = refl }) c.in_err-index.ensures.text (read_answers c.as_str-2.result.now _ c.in_err-index.ensures.kind)
+    (λ s h. table_stops (d.content old.disk) c.as_str-2.result.now c.in-Some.kind c.args.offset _ _ (c.in_err-index.ensures.exact h.honest)
     (λ r gives. asked_index_refused d old s c.args.at.lane c.args.at.moment c.args.file.now (string_bytes a.path) c.args.offset a.whole c.requires asked h c.as_str-2.result.now c.in-Some.kind r path some gives))
 
 pub returns-in_err-index-clause-leaves : goal.returns-in_err-index-clause-leaves
 returns-in_err-index-clause-leaves g c =
-    stops_leaves g.D.Disk c.args.parts.now _ c.args.at (Plain (Download c.args.file.now c.args.offset)) c.read_entries.result _ c.in_err-index.was _ c.as_str-2.result.now c.from_residual-in_err-index.ensures.1
-    c.read_entries.ensures.reads (record { catalogue = refl; sessions = refl; locks = refl }) refl c.in_err-index.ensures.kind (λ e. cc)
+    stops_leaves g.D.Disk c.args.parts.now _ c.args.at (Plain (Download c.args.file.now c.args.offset)) c.read_table.result _ c.in_err-index.was _ c.as_str-2.result.now c.from_residual-in_err-index.ensures.1
+    c.read_table.ensures.reads (record { catalogue = refl; sessions = refl; locks = refl }) refl c.in_err-index.ensures.kind (λ e. cc)
 
 pub returns-in_err-index-clause-unreadable : goal.returns-in_err-index-clause-unreadable
 returns-in_err-index-clause-unreadable g c =
@@ -128,7 +133,7 @@ returns-in_err-index-clause-unreadable g c =
     let path : c.as_str-2.result.now ≡ string_bytes a.path = c.as_str-2.ensures.value in
     let some : a.whole ≡ Some c.in-Some.kind = search rules in
     let it : Asked = record { path = string_bytes a.path; way = from_offset a.whole c.args.offset } in
-    tells_stopped g.D.Disk old.disk {A = Reply} (λ part. part) _ it c.read_entries.result _ c.in_err-index.was _ c.from_residual-in_err-index.ensures.1 (ap (λ (x : Result Asked Refusal). result_ok x) (c.in_ok-asked.ensures.value c.args.offset))
+    tells_stopped g.D.Disk old.disk {A = Reply} (λ part. part) _ it c.read_table.result _ c.in_err-index.was _ c.from_residual-in_err-index.ensures.1 (ap (λ (x : Result Asked Refusal). result_ok x) (c.in_ok-asked.ensures.value c.args.offset))
     (read_at (string_bytes a.path) c.as_str-2.result.now _ path c.in_err-index.ensures.kind)
     (λ h. index_stop (g.D.Disk.content old.disk) (string_bytes a.path) c.as_str-2.result.now c.args.offset c.in-Some.kind a.whole _ path some (c.in_err-index.ensures.exact h))
 
@@ -136,12 +141,12 @@ returns-in_err-index-clause-unreadable g c =
 
 pub returns-in_err-note-clause-does : goal.returns-in_err-note-clause-does
 returns-in_err-note-clause-does g c =
-    short_does g.D.Disk c.args.parts.now _ c.args.at (Plain (Download c.args.file.now c.args.offset)) _ _ c.from_residual-in_err-note.ensures.1 c.read_entries.ensures.reads
+    short_does g.D.Disk c.args.parts.now _ c.args.at (Plain (Download c.args.file.now c.args.offset)) _ _ c.from_residual-in_err-note.ensures.1 c.read_table.ensures.reads
     (record { catalogue = refl; sessions = sessions_stay _ _ _ _ c.in_err-note.ensures.err c.index_mut.ensures.value; locks = refl })
 
 pub returns-in_err-note-clause-leaves : goal.returns-in_err-note-clause-leaves
 returns-in_err-note-clause-leaves g c =
-    short_leaves g.D.Disk c.args.parts.now _ c.args.at (Plain (Download c.args.file.now c.args.offset)) _ _ c.from_residual-in_err-note.ensures.1 c.read_entries.ensures.reads
+    short_leaves g.D.Disk c.args.parts.now _ c.args.at (Plain (Download c.args.file.now c.args.offset)) _ _ c.from_residual-in_err-note.ensures.1 c.read_table.ensures.reads
     (record { catalogue = refl; sessions = sessions_stay _ _ _ _ c.in_err-note.ensures.err c.index_mut.ensures.value; locks = refl }) refl (λ e. cc)
 
 pub returns-in_err-note-clause-unreadable : goal.returns-in_err-note-clause-unreadable
@@ -158,16 +163,18 @@ returns-clause-does g c =
     let path : c.as_str-2.result.now ≡ string_bytes a.path = c.as_str-2.ensures.value in
     let some : a.whole ≡ Some c.in-Some.kind = search rules in
     let asked = file_is c.args.file.now c.args.offset (session_at old c.args.at.lane) old.catalogue.listed (string_bytes a.path) a.whole (c.in_ok-asked.ensures.value c.args.offset) in
-    writes_does d old _ c.args.at (Plain (Download c.args.file.now c.args.offset)) (part_reply index.part) _ c.read_entries.ensures.reads.serves
+    writes_does d old _ c.args.at (Plain (Download c.args.file.now c.args.offset)) (part_reply index.part) _ c.read_table.ensures.reads.serves
     c.in_ok-index.ensures.text (part_answers (part_reply index.part) tt) (part_plain (part_reply index.part) tt)
-    (λ safe s h. asked_index_given d old s c.args.at.lane c.args.at.moment c.args.file.now (string_bytes a.path) c.args.offset a.whole c.requires asked h _ (shown_given index) c.in-Some.kind c.as_str-2.result.now a.name
-    c.index_mut.result.now c.note.new.session path c.in_ok-asked.ensures.name some (c.in_ok-index.ensures.exact h.honest) c.index_mut.ensures.value
-    (λ snapshots r x shows there ends. c.in_ok-note.ensures.plain snapshots r x shows there (ap ends_of c.deref.ensures.value ∙ ends))
-    c.read_entries.ensures.reads.same refl refl refl)
+    (λ safe s h.
+    let x = c.in_ok-index.ensures.exact h.honest in
+    asked_index_given d old s c.args.at.lane c.args.at.moment c.args.file.now (string_bytes a.path) c.args.offset a.whole c.requires asked h _ (given_as index x.entries) c.in-Some.kind c.as_str-2.result.now a.name index.pages
+    c.index_mut.result.now c.note.new.session path c.in_ok-asked.ensures.name some x.read x.opened c.index_mut.ensures.value
+    (λ snapshots r b shows there ends pages. c.in_ok-note.ensures.plain snapshots r b shows there (record { entries = subst (IsTable index.table 0) ends x.table; pages = pages }))
+    c.read_table.ensures.reads.same refl refl refl)
 
 pub returns-clause-leaves : goal.returns-clause-leaves
 returns-clause-leaves g c =
-    noted_leaves g.D.Disk c.args.parts.now _ c.args.at c.args.file.now c.args.offset (part_reply c.in_ok-index.index.part) _ (part_plain (part_reply c.in_ok-index.index.part) tt) c.read_entries.ensures.reads refl
+    noted_leaves g.D.Disk c.args.parts.now _ c.args.at c.args.file.now c.args.offset (part_reply c.in_ok-index.index.part) _ (part_plain (part_reply c.in_ok-index.index.part) tt) c.read_table.ensures.reads refl
 
 pub returns-clause-unreadable : goal.returns-clause-unreadable
 returns-clause-unreadable g c =
@@ -178,7 +185,9 @@ returns-clause-unreadable g c =
     let some : a.whole ≡ Some c.in-Some.kind = search rules in
     let it : Asked = record { path = string_bytes a.path; way = from_offset a.whole c.args.offset } in
     tells_given g.D.Disk old.disk _ it (part_reply index.part) (ap (λ (x : Result Asked Refusal). result_ok x) (c.in_ok-asked.ensures.value c.args.offset)) tt
-    (λ h. index_got (g.D.Disk.content old.disk) (string_bytes a.path) c.as_str-2.result.now c.args.offset c.in-Some.kind a.whole (shown_given index) path some (c.in_ok-index.ensures.exact h))
+    (λ h.
+    let x = c.in_ok-index.ensures.exact h in
+    index_got (g.D.Disk.content old.disk) (string_bytes a.path) c.as_str-2.result.now c.args.offset c.in-Some.kind a.whole (given_as index x.entries) path some x.read)
 
 -- ---- the session
 
@@ -187,5 +196,5 @@ invariant_of-parts-2-clause-named g c =
     let old = c.args.parts.now in
     let within : c.args.at.lane < length old.sessions.items = omega (arith, old.lanes, old.sessions.ok.0, c.requires) in
     list_all-set is_named old.sessions.items c.args.at.lane c.note.new.session old.named
-    (named_after c.note.result c.index_mut.result.now c.note.new.session c.in_ok-asked.asked.name (ends_of c.deref.result.now) c.note.ensures.ok c.note.ensures.err
+    (named_after c.note.result c.index_mut.result.now c.note.new.session c.in_ok-asked.asked.name c.in_ok-index.index.table c.in_ok-index.index.pages c.note.ensures.ok c.note.ensures.err
     (list_all-at is_named old.sessions.items c.args.at.lane c.index_mut.result.now old.named within c.index_mut.ensures.value))

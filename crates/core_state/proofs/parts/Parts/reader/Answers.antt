@@ -1,18 +1,14 @@
-use Rattle.std.proofs.Common.{◌<◌, ◌∙◌, Err, length, sym, ap, arith}
+use Rattle.std.proofs.Common.{◌<◌, ◌∙◌, length, subst, arith}
 use Rattle.std.proofs.lemmas.List.{get_or_default}
-use Rattle.store_types.specs.declared.refusal.Refusal.TheVariants.{WrongState}
+use Rattle.restore_reader.specs.Answers.{Lends}
 use Rattle.core_state.specs.Wanted.{reader_in}
+use Rattle.core_state.specs.declared.kept.Session.{Session}
 use Rattle.core_state.specs.declared.kept.Session.TheVariants.{Idle}
-use Rattle.core_state.proofs.Commanding.{no_reading}
-use Rattle.core_state.proofs.Texts.{wrong_state_has_text}
 use Rattle.core_state.proofs.parts.Parts.reader.Goals as goal
 
-pub returns-in_default-clause-value : goal.returns-in_default-clause-value
-returns-in_default-clause-value g c =
+pub returns-clause-value : goal.returns-clause-value
+returns-clause-value g c =
     let old = c.args.self.now in
     let within : c.args.lane < length old.sessions.items = omega (arith, old.lanes, old.sessions.ok.0, c.requires) in
-    ap reader_in (sym (c.index.ensures ∙ get_or_default old.sessions.items c.args.lane c.index.result.now Idle within))
-    ∙ no_reading c.index.result.now c.in_default.not-Reader ∙ ap (λ x. Err (WrongState x)) (sym c.state.ensures)
-
-pub returns-in_default-clause-text : goal.returns-in_default-clause-text
-returns-in_default-clause-text g c = wrong_state_has_text c.state.result
+    subst (λ (s : Session). Lends (reader_in s) c.reader.result)
+    (c.index.ensures ∙ get_or_default old.sessions.items c.args.lane c.index.result.now Idle within) c.reader.ensures.value

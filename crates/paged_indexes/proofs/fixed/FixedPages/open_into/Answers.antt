@@ -137,5 +137,5 @@ invariant_of-result g c =
     let size = c.number_at-size.result in
     let chunk_size = c.number_at-chunk_size.result in
     let both = and_parts (is_chunk_size chunk_size) (c.in_ok-count.count == piece_count size chunk_size) (sym c.if-not-has_sizes.ensures) in
-    subst (λ (p : Paged). HasSizes p.count size chunk_size) (sym c.in_ok-pages.ensures)
-    (record { limit = c.in_ok-count.ensures.limit; allowed = both.0; pieces = eqb-true _ _ both.1 })
+    subst (λ (p : Paged). HasSizes p size chunk_size) (sym c.in_ok-pages.ensures)
+    (record { width = refl; limit = c.in_ok-count.ensures.limit; allowed = both.0; pieces = eqb-true _ _ both.1 })
