@@ -129,6 +129,7 @@ TABLES = {
     "server_tests/src/rounds.rt": {
         "FRAMES": [frames(open_writer(A))[: -len(A)], frames(put_manifest(A))[: -len(manifest(A)) - 4], frames(finish())],
     },
+    "server_tests/src/unlisted.rt": {"MANIFEST": [blob(manifest("host/a/2020-01-15T06:00:01Z"))]},
     "server_tests/src/serving/checks.rt": {"EQUAL": [b"equal\n"], "FIRST_BYTE": [b"lane 0 byte 0: 02 03\n"]},
     "server_tests/src/serving/disk_faults.rt": {
         "SENT": [conf_backed_up(it)[0] for it in (A, B)],

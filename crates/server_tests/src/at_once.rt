@@ -78,28 +78,30 @@ const AGAIN: (&[u8], &[u8]) = (
     b"\x02\0\0\0\0\0!\0\0\0\0\x01\0\x1bhost/b/2020-01-15T06:30:03Z\0\x01",
 );
 
+/// Serves two at once, on lanes 0 and 1, and one behind them. The order in which they act.
+fn order_beside(
+    rt: &(impl Threads + Wait + Abort + Sync),
+    alloc: Global,
+    one: &mut Talk,
+    other: &mut Talk,
+    again: &mut Talk,
+) -> Vec<Entry> {
+    let (store, mut seat) = must(rt, opened(rt, alloc, must(rt, Watch::of(alloc, false))));
+    two_sessions(rt, alloc, &store, &mut seat, 0, one, other, &FreeGate);
+    session(rt, alloc, &store, &mut seat, 2, again, &FreeGate);
+    order_of(rt, store, seat)
+}
+
 /// The session is on lane 0. On lane 1 `host/b` is backed up at the same time.
 fn try_ending(rt: &(impl Threads + Wait + Abort + Sync), alloc: Global, row: &Ending) {
     let (sent, read, write, told, kinds) = *row;
-    let (store, mut seat) = must(rt, opened(rt, alloc, must(rt, Watch::of(alloc, false))));
     let mut ending = must(rt, Talk::failing(alloc, sent, told, read, write));
     let mut other = must(rt, Talk::of(alloc, BACKUPS[1], BACKED_UP));
     let mut again = must(rt, Talk::of(alloc, AGAIN.0, AGAIN.1));
-    two_sessions(
-        rt,
-        alloc,
-        &store,
-        &mut seat,
-        0,
-        &mut ending,
-        &mut other,
-        &FreeGate,
-    );
-    session(rt, alloc, &store, &mut seat, 2, &mut again, &FreeGate);
+    let order = order_beside(rt, alloc, &mut ending, &mut other, &mut again);
     for talk in [&ending, &other, &again] {
         talk.assert_told(rt);
     }
-    let order = order_of(rt, store, seat);
     assert_lane(rt, alloc, &order, 0, kinds);
     assert_lane(rt, alloc, &order, 1, &[0, 0, 0, 6]);
     assert_lane(rt, alloc, &order, 2, &[0, 0, 6]);

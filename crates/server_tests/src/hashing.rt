@@ -61,7 +61,7 @@ fn list_often<R: Wait>(rt: &R, alloc: Global, store: &Store, seat: &mut Place, g
 {
     gate.wait();
     for _ in 0..ACTS {
-        let _ = store.act(rt, alloc, seat, 1, list_act(alloc));
+        drop(store.act(rt, alloc, seat, 1, list_act(alloc)));
     }
 }
 

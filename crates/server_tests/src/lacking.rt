@@ -11,6 +11,8 @@ use lane::Ending;
 use port_traits::FreeGate;
 use std::alloc::Global;
 use std::process::Abort;
+use std::sync::Wait;
+use std::thread::Threads;
 use store_types::{COMMAND_KIND, Entry, MEMORY_KIND};
 
 /// How often a lane looks for the other, which may have ended.
@@ -102,6 +104,28 @@ fn kinds_of(order: &[Entry], lane: u32) -> u64 {
     kinds
 }
 
+/// The order in which they act, two at once and then two. None where there is no memory to open the datastore.
+fn order_of_both(
+    rt: &(impl Threads + Wait + Sync),
+    alloc: Global,
+    one: &mut Talk,
+    other: &mut Talk,
+    next: &mut Talk,
+    last: &mut Talk,
+) -> Option<Vec<Entry>> {
+    let Ok(watch) = Watch::of(alloc, false) else {
+        return None;
+    };
+    let (store, mut seat) = match opened(rt, alloc, watch) {
+        Ok(made) => made,
+        Err(_not_opened) => return None,
+    };
+    let gate = MeetingGate::of(2, LOOKS);
+    two_sessions(rt, alloc, &store, &mut seat, 0, one, other, &gate);
+    two_sessions(rt, alloc, &store, &mut seat, 2, next, last, &FreeGate);
+    Some(order_of(rt, store, seat))
+}
+
 /// Two backups at once, and behind both two sessions that each begin a next one of a group. The kinds are printed. Where there is no memory for
 /// what is handed in, or to open the datastore, nothing is served.
 #[test]
@@ -110,21 +134,10 @@ fn a_lane_lacks_memory(rt: HostRuntime) {
     let Some(((mut one, mut other), (mut next, mut last))) = handed_in(alloc) else {
         return;
     };
-    let Ok(watch) = Watch::of(alloc, false) else {
+    let served = order_of_both(&rt, alloc, &mut one, &mut other, &mut next, &mut last);
+    let Some(order) = served else {
         return;
     };
-    let (store, mut seat) = match opened(&rt, alloc, watch) {
-        Ok(made) => made,
-        Err(_not_opened) => return,
-    };
-    let gate = MeetingGate::of(2, LOOKS);
-    two_sessions(
-        &rt, alloc, &store, &mut seat, 0, &mut one, &mut other, &gate,
-    );
-    two_sessions(
-        &rt, alloc, &store, &mut seat, 2, &mut next, &mut last, &FreeGate,
-    );
-    let order = order_of(&rt, store, seat);
     assert_group(&rt, &order, 0, &one, &NEXT[0], &next);
     assert_group(&rt, &order, 1, &other, &NEXT[1], &last);
     let kinds = (

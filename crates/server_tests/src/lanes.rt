@@ -39,10 +39,10 @@ fn held_snapshots_stay(rt: HostRuntime) {
     let (store, mut seat) = must(&rt, opened(&rt, alloc, must(&rt, Watch::of(alloc, false))));
     session(&rt, alloc, &store, &mut seat, 3, &mut backups, &FreeGate);
     let open = Act::Plain(Command::OpenReader { snapshot });
-    let _ = store.act(&rt, alloc, &mut seat, 5, open);
+    drop(store.act(&rt, alloc, &mut seat, 5, open));
     session(&rt, alloc, &store, &mut seat, 4, &mut held, &FreeGate);
     let close = Act::Plain(Command::CloseReader);
-    let _ = store.act(&rt, alloc, &mut seat, 5, close);
+    drop(store.act(&rt, alloc, &mut seat, 5, close));
     session(&rt, alloc, &store, &mut seat, 2, &mut removed, &FreeGate);
     let _ = order_of(&rt, store, seat);
     for talk in [&backups, &held, &removed] {

@@ -26,6 +26,8 @@ mod stores;
 #[cfg(test)]
 mod talks;
 #[cfg(test)]
+mod unlisted;
+#[cfg(test)]
 mod views;
 #[cfg(test)]
 mod watch;

@@ -92,7 +92,7 @@ fn act_and_look<R: Wait + Abort>(
     ensures { ComesBackIdle seat.old seat.new }
 {
     let before = wait(store, seat, when, watch);
-    let _ = store.act(rt, alloc, seat, lane, list_act(alloc));
+    drop(store.act(rt, alloc, seat, lane, list_act(alloc)));
     let own = store.front(seat);
     let last = look(store, seat, 2);
     assert_fronts(rt, when, before, own, last);

@@ -102,12 +102,12 @@ fn a_view_shows_what_it_learnt(rt: HostRuntime) {
     let first = count_of(&rt, alloc, &mut other);
     view.learn(&seat);
     let one = [count_of(&rt, alloc, &mut view), view.learnt];
-    let _ = store.act(&rt, alloc, &mut seat, 1, Act::Plain(Command::Finish));
-    let _ = store.act(&rt, alloc, &mut seat, 1, list_act(alloc));
+    drop(store.act(&rt, alloc, &mut seat, 1, Act::Plain(Command::Finish)));
+    drop(store.act(&rt, alloc, &mut seat, 1, list_act(alloc)));
     view.learn(&seat);
     let still = [count_of(&rt, alloc, &mut view), view.learnt];
     let later = count_of(&rt, alloc, &mut other);
-    let _ = store.act(&rt, alloc, &mut seat, 1, forget_act(alloc, 0, 1));
+    drop(store.act(&rt, alloc, &mut seat, 1, forget_act(alloc, 0, 1)));
     view.learn(&seat);
     let gone = count_of(&rt, alloc, &mut view);
     same_numbers(&rt, &[none, gone], &[0, 0]);
@@ -145,7 +145,7 @@ fn finish_and_forget<R: Threads + Wait + Abort + Sync>(
         view.learn(seat);
         let found = told(rt, alloc, view);
         let forget = forget_act(alloc, host, number.saturating_sub(1));
-        let _ = store.act(rt, alloc, seat, host as u32, forget);
+        drop(store.act(rt, alloc, seat, host as u32, forget));
         view.learn(seat);
         let then = told(rt, alloc, view);
         is_so &= found[host].1 == time_of(number) && then[host] == (1, time_of(number));
