@@ -51,7 +51,8 @@ READS = [
     ("a blob of the base", 1, [(open_writer(A_LATER), base(A)), *other_told((previous("a.conf.blob"), part(CONF)), unreadable(A_CONF))]),
 ]
 
-# The calls of a VERIFY: the manifest at FILES; of each file its size and a part; of each chunk its entry and its file.
+# The calls of a VERIFY: the manifest at FILES; of each file its size and a part; the size of the index, its front and its page as it is
+# opened, and the page again; of each chunk its size and its file.
 VERIFIED = [
     ("the manifest at FILES: nothing is read", 0, unreadable(PLAIN)),
     ("the blob's size", 1, verified(3, 2, 5, file_fault("a.conf.blob", 24))),
@@ -60,12 +61,12 @@ VERIFIED = [
     ("the manifest", 4, verified(3, 2, 5, file_fault(MANIFEST, 24))),
     ("the index's size: no chunks are read", 5, verified(3, 0, 0, file_fault("root.didx", 24))),
     ("the index: no chunks are read", 6, verified(3, 0, 0, file_fault("root.didx", 24))),
-    ("the index's size at its first entry: no more are read", 7, verified(3, 2, 5, file_fault("root.didx", 24))),
-    ("the first entry: no more are read", 8, verified(3, 2, 5, file_fault("root.didx", 24))),
-    ("the first chunk's size", 9, verified(3, 2, 5, file_fault("root.didx", 23, sha256(b"abc")))),
-    ("the first chunk", 10, verified(3, 2, 5, file_fault("root.didx", 23, sha256(b"abc")))),
-    ("the index's size at its second entry: no more are read", 11, verified(3, 2, 5, file_fault("root.didx", 24))),
-    ("the second entry", 12, verified(3, 2, 5, file_fault("root.didx", 24))),
+    ("the index's size as it is opened: no chunks are read", 7, verified(3, 2, 5, file_fault("root.didx", 24))),
+    ("the front of the index as it is opened: no chunks are read", 8, verified(3, 2, 5, file_fault("root.didx", 24))),
+    ("a page of the index as it is opened: no chunks are read", 9, verified(3, 2, 5, file_fault("root.didx", 24))),
+    ("the page of the first entry: no chunks are read", 10, verified(3, 2, 5, file_fault("root.didx", 24))),
+    ("the first chunk's size", 11, verified(3, 2, 5, file_fault("root.didx", 23, sha256(b"abc")))),
+    ("the first chunk", 12, verified(3, 2, 5, file_fault("root.didx", 23, sha256(b"abc")))),
     ("the second chunk's size", 13, verified(3, 2, 5, file_fault("root.didx", 23, sha256(b"de")))),
     ("the second chunk", 14, verified(3, 2, 5, file_fault("root.didx", 23, sha256(b"de")))),
 ]
@@ -104,6 +105,8 @@ READS_LONG = [
 ]
 # Behind six calls of DOWNLOAD a range in both pages reads the first one, a chunk by two calls, the second page, and the chunk again.
 RANGES_LONG = [OPEN_READER, READS_LONG[4], *other_told(READS_LONG[5], unreadable(A_LONG))]
+# A collection's first mark opens the index, and the second, of its last 25 entries, reads both pages again.
+MARKS = [*OPENS, "page 0 again", "page 1 again"]
 MARKS_LONG = [(gc(), unreadable(A_LONG)), (gc(), collected(NOW, NOW - 86_700, 1, 0, 0))]
 
 
@@ -157,6 +160,6 @@ SCENARIOS = [
     *(without_page(f"{name}, as it is downloaded,", call, READS_LONG) for call, name in enumerate(TELLS)),
     without_page("page 0, as a range is read,", 6, RANGES_LONG),
     without_page("page 1, as a range is read,", 9, RANGES_LONG),
-    *(without_page(f"{name}, as it is marked,", call, MARKS_LONG) for call, name in enumerate(OPENS)),
+    *(without_page(f"{name}, as it is marked,", call, MARKS_LONG) for call, name in enumerate(MARKS)),
     *(without(f"{name}, as it is verified", OPENED + call, [(verify(A), reply), (forget(A), DONE)]) for name, call, reply in VERIFIED),
 ]

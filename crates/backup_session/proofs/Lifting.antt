@@ -1,8 +1,8 @@
 -- From what is kept to the session.
 use Rattle.std.proofs.Common.{◌≡◌, ℕ, ◌<◌, ◌≤◌, Bool, true, false, cond, List, [], ◌∷◌, ◌++◌, drop, length, get_or, zero, suc, map, Some, None, Ok, Err, refl, sym, ap, ap₂, subst, ◌∙◌, arith}
 use Rattle.std.specs.Prelude.{Option, Result, IsErrAnd, OnOk, OnErr}
-use Rattle.std.specs.FinMap.{entries, insert}
-use Rattle.known_chunks.specs.Lengths.{Lengths, with_lengths}
+use Rattle.std.specs.FinMap.{empty, entries, insert}
+use Rattle.known_chunks.specs.Lengths.{Lengths, joined, with_lengths}
 use Rattle.std.specs.List.{AllByRecursion}
 use Rattle.sha2.specs.Sha256.{sha256}
 use Rattle.store_types.specs.declared.names.SnapshotKey.{SnapshotKey}
@@ -13,11 +13,11 @@ use Rattle.store_model.specs.WriterCalls as plain
 use Rattle.backup_session.specs.declared.state.Pending.{Pending}
 use Rattle.backup_session.specs.Session.{Pool, IsLength, Writing, Session, StopsBy, settled, held}
 use Rattle.backup_session.specs.Steps as steps
-use Rattle.backup_session.specs.Shown.{known_of, shown, Shows}
+use Rattle.backup_session.specs.Shown.{known_of, lengths_of, shown, Shows}
 use Rattle.backup_session.specs.Answers.{Leaves, Does}
 use Rattle.backup_session.specs.Kept.{before, after, session_of, text_of, HasLengths, LeavesPending}
 use Rattle.backup_session.proofs.Stops.{does_stop, stops_by}
-use Rattle.backup_session.proofs.Pools.{entries-empty, has_lengths-insert, has_lengths-all, pool_of-more, pool_of-all}
+use Rattle.backup_session.proofs.Pools.{entries-empty, entries_listed, has_lengths-insert, has_lengths-joined, pool_of-more, pool_of-all}
 
 pub not_pending : (p : Option Pending) (w : Writing) → (session_of p w).pending ≡ None → p ≡ None
 not_pending None w e = refl
@@ -51,12 +51,12 @@ chunk_shown v w piece digest len shows e f = record {
   begun = shows.begun;
 }
 
-pub previous_shown : (v : Writing) (w : Writer) (ks : Pool) (ps : List (List ℕ)) → Shows v w → ks ≡ map known_of ps → Shows (steps.previous v ks) (with_pool ps w)
+pub previous_shown : (v : Writing) (w : Writer) (m : Lengths) (ps : List (List ℕ)) → Shows v w → m ≡ with_lengths empty (map known_of ps) → Shows (steps.previous v m) (with_pool ps w)
 unfolding shown
-previous_shown v w ks ps shows e = record {
+previous_shown v w m ps shows e = record {
   same =
-      ap (λ u. steps.previous u ks) shows.same ∙ ap (steps.previous (shown w)) e
-      ∙ ap (λ (p : Pool). record (shown w) { pool = p }) (sym (pool_of-all w.pool ps));
+      ap (λ u. steps.previous u m) shows.same ∙ ap (steps.previous (shown w)) e
+      ∙ ap (λ (p : Pool). record (shown w) { pool = p }) (entries_listed (lengths_of w.pool) (map known_of ps) ∙ sym (pool_of-all w.pool ps));
   begun = shows.begun;
 }
 
@@ -112,14 +112,14 @@ chunk_leaves p old new s digest len is none (Ok u) ok = λ w piece shows e f.
     subst (λ v. Shows v (plain.chunk w piece)) (sym left) (chunk_shown s.writer w piece digest len shows e f)
 
 -- what the call of PREVIOUS leaves shows the plain writer with the pieces
-pub previous_leaves : {T E : Type 0} (p : Option Pending) (old new : Writing) (s : Session) (ks : Pool) → session_of p old ≡ s → s.pending ≡ None → (r : Result T E)
-    → OnOk r (new ≡ steps.previous old ks)
-    → OnOk r ((w : Writer) (ps : List (List ℕ)) → Shows s.writer w → ks ≡ map known_of ps → Shows (session_of p new).writer (with_pool ps w))
-previous_leaves p old new s ks is none (Err e) ok = tt
-previous_leaves p old new s ks is none (Ok u) ok = λ w ps shows e.
+pub previous_leaves : {T E : Type 0} (p : Option Pending) (old new : Writing) (s : Session) (m : Lengths) → session_of p old ≡ s → s.pending ≡ None → (r : Result T E)
+    → OnOk r (new ≡ steps.previous old m)
+    → OnOk r ((w : Writer) (ps : List (List ℕ)) → Shows s.writer w → m ≡ with_lengths empty (map known_of ps) → Shows (session_of p new).writer (with_pool ps w))
+previous_leaves p old new s m is none (Err e) ok = tt
+previous_leaves p old new s m is none (Ok u) ok = λ w ps shows e.
     let free = not_pending p old (ap (λ (t : Session). t.pending) is ∙ none) in
-    let left = free_writer p new free ∙ ok ∙ ap (λ v. steps.previous v ks) (writer_is p old s is none) in
-    subst (λ v. Shows v (with_pool ps w)) (sym left) (previous_shown s.writer w ks ps shows e)
+    let left = free_writer p new free ∙ ok ∙ ap (λ v. steps.previous v m) (writer_is p old s is none) in
+    subst (λ v. Shows v (with_pool ps w)) (sym left) (previous_shown s.writer w m ps shows e)
 
 pub held_leaves : {B : Type 0} (step : Writing → Result (Writing × B) Refusal) (p : Option Pending) (old new : Writing) (s : Session) (q : Pending) (b : B)
     → session_of p old ≡ s → s.pending ≡ None → LeavesPending old new q (step old) b → Leaves (held s.writer) (held (before q new) (after q new)) (step s.writer) b
@@ -144,7 +144,7 @@ pub added_lengths : {T E : Type 0} (m n : Lengths) (digest : List ℕ) (len : �
 added_lengths m n digest len has fits (Ok u) ok err = subst (λ x. HasLengths (entries x)) (sym ok) (has_lengths-insert m digest len has fits)
 added_lengths m n digest len has fits (Err e) ok err = subst (λ x. HasLengths (entries x)) (sym err) has
 
-pub all_added : {T E : Type 0} (m n : Lengths) (ks : Pool) → HasLengths (entries m) → AllByRecursion IsLength ks → (r : Result T E)
-    → OnOk r (n ≡ with_lengths m ks) → OnErr r (n ≡ m) → HasLengths (entries n)
-all_added m n ks has fits (Ok u) ok err = subst (λ x. HasLengths (entries x)) (sym ok) (has_lengths-all m ks has fits)
-all_added m n ks has fits (Err e) ok err = subst (λ x. HasLengths (entries x)) (sym err) has
+pub all_joined : {T E : Type 0} (m n more : Lengths) → HasLengths (entries m) → HasLengths (entries more) → (r : Result T E)
+    → OnOk r (n ≡ joined m more) → OnErr r (n ≡ m) → HasLengths (entries n)
+all_joined m n more has fits (Ok u) ok err = subst (λ x. HasLengths (entries x)) (sym ok) (has_lengths-joined m more has fits)
+all_joined m n more has fits (Err e) ok err = subst (λ x. HasLengths (entries x)) (sym err) has

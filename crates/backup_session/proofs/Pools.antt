@@ -23,6 +23,7 @@ use Rattle.dynamic_index.specs.Writing.{Known}
 use Rattle.dynamic_index.specs.Writing as indexes
 use Rattle.known_chunks.specs.Lengths.{Lengths}
 use Rattle.known_chunks.specs.Lengths as chunks
+use Rattle.known_chunks.proofs.Pools.{found_joined, joined_listed}
 use Rattle.backup_session.specs.Session.{Pool, IsPool, IsLength, lengths_in, length_at, with_length, with_lengths, without_length}
 use Rattle.backup_session.specs.Steps.{known_in}
 use Rattle.backup_session.specs.Shown.{known_of, lengths_of, pool_of}
@@ -72,9 +73,12 @@ with_length-new m digest len e =
     ap (λ o. cond (is_some o) (entries m) (put text_cmp digest len (entries m))) (sym (get-entries m digest) ∙ e)
     ∙ sym (entries-insert nat_list_cmp_total m digest len)
 
+pub no_lengths : HasLengths (entries (empty {X = ℕ} {R = text_cmp}))
+no_lengths = subst HasLengths (sym entries-empty) has_lengths-empty
+
 -- ---- several lengths more
 
-has_lengths-one : (m : Lengths) (k : List ℕ × ℕ) → HasLengths (entries m) → IsLength k → HasLengths (entries (chunks.with_length m k))
+pub has_lengths-one : (m : Lengths) (k : List ℕ × ℕ) → HasLengths (entries m) → IsLength k → HasLengths (entries (chunks.with_length m k))
 has_lengths-one m k has fits = by_test (is_some (get m k.0))
   where
     by_test : (b : Bool) → HasLengths (entries (cond b m (insert m k.0 k.1)))
@@ -95,6 +99,19 @@ entries_one m k = by_found (get m k.0) refl
 pub entries_all : (m : Lengths) (ks : Pool) → entries (chunks.with_lengths m ks) ≡ with_lengths (entries m) ks
 entries_all m [] = refl
 entries_all m (k ∷ ks) = entries_all (chunks.with_length m k) ks ∙ ap (λ (p : Pool). with_lengths p ks) (entries_one m k)
+
+-- ---- a map more
+
+pub has_lengths-joined : (m n : Lengths) → HasLengths (entries m) → HasLengths (entries n) → HasLengths (entries (chunks.joined m n))
+has_lengths-joined m n has fits q len is = by_found (get m q) refl (sym (found_joined m n q) ∙ get-entries (chunks.joined m n) q ∙ is)
+  where
+    by_found : (o : Option ℕ) → get m q ≡ o → chunks.first_of o (get n q) ≡ Some len → (1 ≤ len) × (len ≤ 16_777_216)
+    by_found None e f = fits q len (sym (get-entries n q) ∙ f)
+    by_found (Some x) e f = has q len (sym (get-entries m q) ∙ e ∙ f)
+
+-- one that is made of a list adds what the list has
+pub entries_listed : (m : Lengths) (ks : Pool) → with_lengths (entries m) (entries (chunks.with_lengths empty ks)) ≡ with_lengths (entries m) ks
+entries_listed m ks = sym (entries_all m (entries (chunks.with_lengths empty ks))) ∙ ap entries (joined_listed m ks) ∙ entries_all m ks
 
 -- ---- one length less
 

@@ -17,6 +17,8 @@ use Rattle.store_model.specs.WriterCalls as calls
 use Rattle.store_model.specs.WriterSteps.{with_pool}
 use Rattle.dynamic_index.specs.Writing.{Known, known_of}
 use Rattle.backup_session.specs.declared.index.OpenIndex.{OpenIndex}
+use Rattle.std.specs.FinMap.{empty}
+use Rattle.known_chunks.specs.Lengths.{Lengths, with_lengths}
 use Rattle.backup_session.specs.Session.{Pool, Writing, Session, StopsBy, IsPool, length_at, settled}
 use Rattle.backup_session.specs.Shown.{Shows, known_of as known_piece}
 use Rattle.backup_session.specs.Steps as steps
@@ -57,7 +59,7 @@ NamesPieces pool index entries result = IfAnswered result (TellsPieces (steps.pi
 
 -- ---- pieces that may be named
 
-abbrev pub NotesPieces : Session → Session → List Known → Type 0
+abbrev pub NotesPieces : Session → Session → Lengths → Type 0
 NotesPieces old new pieces = new ≡ settled (steps.previous old.writer pieces)
 
 abbrev pub NotesPiece : Session → Session → List ℕ → ℕ → Type 0
@@ -94,8 +96,9 @@ DoesPlainly show leave old new result step =
     (w : Writer) → Shows old.writer w → IfAnswered result (TellsPlainly show leave new (step w))
 
 -- of each plain writer that the session shows: the plain pieces may be named too
-abbrev pub ShowsPieces : Session → Session → List Known → Type 0
-ShowsPieces old new pieces = (w : Writer) → (shown : List (List ℕ)) → Shows old.writer w → pieces ≡ map known_piece shown → Shows new.writer (with_pool shown w)
+abbrev pub ShowsPieces : Session → Session → Lengths → Type 0
+ShowsPieces old new pieces =
+    (w : Writer) → (shown : List (List ℕ)) → Shows old.writer w → pieces ≡ with_lengths empty (map known_piece shown) → Shows new.writer (with_pool shown w)
 
 abbrev pub ShowsPiece : Session → Session → List ℕ → ℕ → Type 0
 ShowsPiece old new digest len = (w : Writer) → (piece : List ℕ) → Shows old.writer w → digest ≡ sha256 piece → len ≡ length piece → Shows new.writer (calls.chunk w piece)

@@ -21,6 +21,7 @@ use Rattle.backup_session.specs.declared.index.Layout.{Layout}
 use Rattle.backup_session.specs.declared.index.OpenIndex.{OpenIndex}
 use Rattle.backup_session.specs.declared.index.OpenIndex.TheVariants.{Dynamic, Fixed}
 use Rattle.backup_session.specs.Indexes.{layout_view, layout_of, count_of, end_of, size_of, csum_of, text_of, with_pieces}
+use Rattle.known_chunks.specs.Lengths.{Lengths}
 use Rattle.backup_session.specs.Session.{Pool, length_at, with_length, with_lengths, without_length, Open, Writing}
 
 abbrev pub opened : SnapshotKey → ℕ → Option SnapshotKey → Writing
@@ -93,8 +94,8 @@ new_dynamic w name moment = do
 
 -- ---- PREVIOUS, CHUNK and APPEND
 
-abbrev pub previous : Writing → List Known → Writing
-previous w pieces = record w { pool = with_lengths w.pool pieces }
+abbrev pub previous : Writing → Lengths → Writing
+previous w pieces = record w { pool = with_lengths w.pool (entries_of pieces) }
 
 abbrev pub chunk : Writing → List ℕ → ℕ → Writing
 chunk w digest len = record w { pool = with_length w.pool digest len }

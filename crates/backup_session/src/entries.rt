@@ -12,7 +12,7 @@ ghost use Rattle.backup_session.specs.Steps.{piece_in, pieces_in};
 ghost use Rattle.backup_session.specs.Kept.{HasLengths};
 
 use crate::index::{Layout, OpenIndex};
-use known_chunks::Known;
+use known_chunks::Pool;
 use std::alloc::Global;
 use store_types::{Digest32, Refusal};
 
@@ -33,7 +33,7 @@ fn want_entries(pieces: u32, entries: usize) -> Result<(), Refusal>
 /// The length of the piece that the entry at a place names, where it begins at the end reached so far and has a length
 /// that the layout takes there.
 fn piece_named(
-    pool: &Known,
+    pool: &Pool,
     layout: Layout,
     place: u32,
     end: u64,
@@ -65,7 +65,7 @@ fn piece_named(
 /// The pieces that the entries name, where the first begins at a start.
 fn pieces_named(
     alloc: Global,
-    pool: &Known,
+    pool: &Pool,
     layout: Layout,
     start: u64,
     entries: &[(Digest32, u64)],
@@ -92,7 +92,7 @@ fn pieces_named(
 /// length other than a fixed archive asks there.
 pub fn pieces_for(
     alloc: Global,
-    pool: &Known,
+    pool: &Pool,
     index: &OpenIndex,
     entries: &[(Digest32, u64)],
 ) -> Result<Vec<(Digest32, u32)>, Refusal>

@@ -1,20 +1,20 @@
 //! What a writer keeps.
 
-ghost use Rattle.std.specs.Prelude.{◌≡◌, ◌<◌, ◌≤◌, length, map, is_some, option_map, OnOk, OnErr, IfOk, IfErr, IsOk};
-ghost use Rattle.std.specs.List.{AllByRecursion, remove};
+ghost use Rattle.std.specs.Prelude.{◌≡◌, ◌<◌, ◌≤◌, length, is_some, option_map, OnOk, OnErr, IfOk, IfErr, IsOk};
+ghost use Rattle.std.specs.FinMap.{entries as pairs};
+ghost use Rattle.std.specs.List.{remove};
 ghost use Rattle.store_types.specs.Names.{IsKey};
 ghost use Rattle.store_types.specs.Times.{last_moment};
 ghost use Rattle.store_model.specs.Archives.{free_number as least_free};
 ghost use Rattle.blob_codec.specs.Blob.{data_of};
-ghost use Rattle.dynamic_index.specs.Writing.{known_of};
 ghost use Rattle.fixed_index.specs.Writing.{FitsSizes};
 ghost use Rattle.wire_commands.specs.HasText.{FitsRefusal};
 ghost use Rattle.backup_session.specs.Answers.{GivesManifest};
 ghost use Rattle.backup_session.specs.Calls.{StateDoes, StateBeginsFixed, StateCloses, StateTakesBlob};
 ghost use Rattle.backup_session.specs.Finish.{finish_check as steps_finish};
-ghost use Rattle.backup_session.specs.Kept.{after, IsClosing, HoldsBlob};
+ghost use Rattle.backup_session.specs.Kept.{after, HasLengths, IsClosing, HoldsBlob};
 ghost use Rattle.backup_session.specs.Steps as steps;
-ghost use Rattle.backup_session.specs.Session.{IsPool, IsLength, length_at};
+ghost use Rattle.backup_session.specs.Session.{IsPool, length_at};
 
 use crate::entries::pieces_for;
 use crate::files::{blob_fact, insert, keep_text, kept_text, want_room};
@@ -24,7 +24,7 @@ use crate::indexes::{closed, free_number, leave, place_of, uuid_of, want_number,
 use blob_codec::decode;
 use dynamic_index::DynamicWriter;
 use fixed_index::FixedWriter;
-use known_chunks::Known;
+use known_chunks::{Known, Pool};
 use manifest::{FileFact, Manifest};
 use std::alloc::{AllocError, Global};
 use std::marker::Model;
@@ -55,7 +55,7 @@ pub struct State {
     key: SnapshotKey,
     start: u64,
     base: Option<SnapshotKey>,
-    pool: Known,
+    pool: Pool,
     begun: Vec<Begun>,
     files: Vec<FileFact>,
     manifest: Option<Bytes>,
@@ -83,7 +83,7 @@ impl State {
             key,
             start,
             base,
-            pool: Known::new(alloc),
+            pool: Pool::new(alloc),
             begun: Vec::new(alloc),
             files: Vec::new(alloc),
             manifest: None,
@@ -240,13 +240,13 @@ impl State {
         Ok(number)
     }
 
-    /// Notes the lengths of pieces, each unless one is noted. At want of memory nothing has changed.
-    pub fn previous(&mut self, alloc: Global, pieces: &[(Digest32, u32)]) -> Result<(), AllocError>
-        requires { AllByRecursion IsLength (map known_of pieces.now) }
-        ensures ok { OnOk result (self.new ≡ steps.previous self.old (map known_of pieces.now)) }
+    /// Notes the lengths of these pieces, each unless one is noted. At want of memory nothing has changed.
+    pub fn previous(&mut self, pieces: Known) -> Result<(), AllocError>
+        requires { HasLengths (pairs pieces) }
+        ensures ok { OnOk result (self.new ≡ steps.previous self.old pieces) }
         ensures err { OnErr result (self.new ≡ self.old) }
     {
-        self.pool.add_all(alloc, pieces)
+        self.pool.join(pieces)
     }
 
     /// Notes a piece's length, unless one is noted.

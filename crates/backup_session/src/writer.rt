@@ -1,11 +1,10 @@
 //! A writer's calls.
 
-ghost use Rattle.std.specs.Prelude.{◌≡◌, ◌≤◌, map, is_some, option_map, None, IsSome, IsOk, IfErr, OnOk, OnErr};
-ghost use Rattle.std.specs.List.{AllByRecursion};
+ghost use Rattle.std.specs.Prelude.{◌≡◌, ◌≤◌, is_some, option_map, None, IsSome, IsOk, IfErr, OnOk, OnErr};
+ghost use Rattle.std.specs.FinMap.{entries as pairs};
 ghost use Rattle.store_types.specs.Names.{IsKey};
 ghost use Rattle.store_types.specs.Times.{last_moment};
 ghost use Rattle.blob_codec.specs.Blob.{data_of};
-ghost use Rattle.dynamic_index.specs.Writing.{known_of};
 ghost use Rattle.store_model.specs.Manifests.{finish_check as plain_finish};
 ghost use Rattle.store_model.specs.WriterSteps.{new_writer};
 ghost use Rattle.store_model.specs.WriterCalls as plain;
@@ -13,11 +12,13 @@ ghost use Rattle.wire_commands.specs.HasText.{FitsRefusal};
 ghost use Rattle.backup_session.specs.Answers.{IsPendingAt, GivesManifest, NotesPiece, NotesPieces, ForgetsAgain, takes_blob, ShowsPiece, ShowsPieces};
 ghost use Rattle.backup_session.specs.Calls.{Settles, Mirrors, BeginsFixed, BeginsFixedPlainly, Closes, ClosesPlainly, TakesBlob, TakesBlobPlainly};
 ghost use Rattle.backup_session.specs.Finish.{finish_check as steps_finish};
-ghost use Rattle.backup_session.specs.Session.{IsPool, IsLength, length_at, settled, kept};
+ghost use Rattle.backup_session.specs.Session.{IsPool, length_at, settled, kept};
+ghost use Rattle.backup_session.specs.Kept.{HasLengths};
 ghost use Rattle.backup_session.specs.Shown.{Shows, ForShown};
 ghost use Rattle.backup_session.specs.Steps as steps;
 
 use crate::state::{Pending, State};
+use known_chunks::Known;
 use manifest::Manifest;
 use std::alloc::{AllocError, Global};
 use std::marker::Model;
@@ -167,15 +168,15 @@ impl Writer {
 
     /// The chunks of a file of the base may be named from now on, each by its digest and its length. A length that is
     /// noted already stays. All are noted, or none.
-    pub fn previous(&mut self, alloc: Global, pieces: &[(Digest32, u32)]) -> Result<(), AllocError>
+    pub fn previous(&mut self, pieces: Known) -> Result<(), AllocError>
         requires settled { self.old.pending ≡ None }
-        requires lengths { AllByRecursion IsLength (map known_of pieces.now) }
-        ensures ok { OnOk result (NotesPieces self.old self.new (map known_of pieces.now)) }
+        requires lengths { HasLengths (pairs pieces) }
+        ensures ok { OnOk result (NotesPieces self.old self.new pieces) }
         ensures err { OnErr result (self.new ≡ self.old) }
         ensures settled { self.new.pending ≡ None }
-        ensures plain { OnOk result (ShowsPieces self.old self.new (map known_of pieces.now)) }
+        ensures plain { OnOk result (ShowsPieces self.old self.new pieces) }
     {
-        self.state.previous(alloc, pieces)
+        self.state.previous(pieces)
     }
 
     /// A chunk may be named from now on. A length that is noted already stays.

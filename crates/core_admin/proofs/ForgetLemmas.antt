@@ -40,6 +40,7 @@ use Rattle.core_state.specs.declared.kept.Listed.{Listed}
 use Rattle.core_state.specs.declared.kept.Session.{Session}
 use Rattle.core_state.specs.declared.parts.Parts.{Parts}
 use Rattle.store_stops.specs.declared.stop.Stop.{Stop}
+use Rattle.core_state.proofs.Rows.{rows_same}
 use Rattle.core_state.proofs.Commanding.{writes_does, writes_leaves, failed_leaves}
 use Rattle.core_state.proofs.Naming.{kept_key, named_is}
 use Rattle.core_state.proofs.Texts.{done_has_text}
@@ -100,25 +101,25 @@ module _ {D : Type 0} (d : Ghosts D) (old new : Parts D) (at : Place) (text : Li
   goes first = inr (subst (λ (change : Change). Steps d.calls d.images old.disk new.disk (MayLeave change (d.content old.disk))) (sym change_is) first)
 
   -- done: just its files are gone, its manifest first and for good
-  pub done_leaves : new.catalogue.listed ≡ without_listed key old.catalogue.listed → new.sessions.items ≡ old.sessions.items → new.locks ≡ old.locks
+  pub done_leaves : new.catalogue.listed ≡ without_listed key old.catalogue.listed → new.sessions.items ≡ old.sessions.items → new.locks ≡ old.locks → new.indexes.items ≡ old.indexes.items
       → (d.honest old.disk → d.content new.disk ≡ without (manifest_path key ∷ paths) (d.content old.disk))
       → Steps d.calls d.images old.disk new.disk (Forgets (manifest_path key) paths)
       → Now d.calls d.images new.disk (After d.calls d.images old.disk (ForgetsFirm (d.content old.disk) (manifest_path key) paths))
       → ActLeaves d old new at act (Ok Done)
-  done_leaves c l locks gone first firm =
+  done_leaves c l locks rows gone first firm =
       writes_leaves d old new at act Done tt refl (λ h. gone h ∙ sym (ap (λ (change : Change). after change (d.content old.disk)) change_is)) (goes first)
       (subst (λ (change : Change). IsFirm d old.disk new.disk change) (sym change_is) firm) (c ∙ sym (ap (λ o. without_named o old.catalogue.listed) named)) (λ _. (l, locks))
       (λ s h p held. inl (stood_before (manifest_path key ∷ paths) (d.content old.disk) (chunk_name (sha256 p)) _ (sym (ap (λ m. get m (chunk_name (sha256 p))) (gone h.honest)) ∙ held)))
-      (λ e. absurd (never e)) (λ e. absurd (never e))
+      (λ e. absurd (never e)) (λ e. absurd (never e)) (rows_same old new.indexes.items at.lane act rows)
 
   pub done_does : (failed : Type 0) → Serves d.honest d.faults old.disk new.disk failed → at.lane < 64 → to_forget text (session_at old at.lane) old.catalogue.listed old.locks ≡ Ok key
       → least_sharer old.locks key ≡ None → IsKey key → (d.honest old.disk → d.content new.disk ≡ without (manifest_path key ∷ paths) (d.content old.disk))
-      → new.catalogue.listed ≡ without_listed key old.catalogue.listed → new.sessions.items ≡ old.sessions.items → new.locks ≡ old.locks
+      → new.catalogue.listed ≡ without_listed key old.catalogue.listed → new.sessions.items ≡ old.sessions.items → new.locks ≡ old.locks → new.indexes.items ≡ old.indexes.items
       → ActDoes d old new at act (Ok Done)
-  done_does failed serves lt told free is gone c l locks =
+  done_does failed serves lt told free is gone c l locks rows =
       writes_does d old new at act Done failed serves done_has_text refl tt
       (λ _ s h. forget_step d old new s at.lane at.moment text key k h lt told there free is
-      (λ honest. gone honest ∙ ap (λ (ns : List (List ℕ)). without (manifest_path key ∷ map (file_path key) ns) (d.content old.disk)) names_are) c l locks)
+      (λ honest. gone honest ∙ ap (λ (ns : List (List ℕ)). without (manifest_path key ∷ map (file_path key) ns) (d.content old.disk)) names_are) c l locks rows)
 
   -- its files were not removed: want of memory comes before the first call that changes the disk
   pub undone_leaves : {A : Type 0} (removed : Result A DiskError) (e : DiskError) (result : Result Reply Stop) → IsErrAnd result (λ x. x ≡ stop_of e) → removed ≡ Err e → SameKept old new

@@ -10,7 +10,7 @@ use Rattle.store_types.proofs.KeyTexts.{no_slash}
 use Rattle.store_types.proofs.OrderLaws.{same_keys}
 use Rattle.store_files.specs.Archive.{Snapshot}
 use Rattle.store_model.specs.Store as model
-use Rattle.store_model.specs.Store.{Store, session, snapshot_named, snapshot_holder, holds_snapshot, without_snapshot}
+use Rattle.store_model.specs.Store.{Store, session, snapshot_named, snapshot_holder, holds_snapshot, is_key, without_snapshot}
 use Rattle.store_files.specs.Folder.{file_path}
 use Rattle.store_model.specs.Stands.{group_limit}
 use Rattle.store_model.proofs.Paths.{chunk_apart}
@@ -19,7 +19,9 @@ use Rattle.core_state.specs.declared.kept.Kept.{Kept}
 use Rattle.core_state.specs.declared.kept.Listed.{Listed}
 use Rattle.core_state.specs.declared.kept.Session.TheVariants.{Reader}
 use Rattle.core_state.specs.declared.parts.Parts.{Parts}
+use Rattle.core_state.specs.Indexed.{FitsRows}
 use Rattle.core_state.specs.Locked.{Locked}
+use Rattle.core_state.proofs.Rows.{Uses, rows_among}
 use Rattle.core_state.specs.Shown.{shown_snapshot, shown_session}
 use Rattle.core_state.specs.Holds.{IsOlder, IsSound, IsWriter, Shows, IsOnDisk}
 use Rattle.core_state.proofs.Finding.{found_in, found_passes}
@@ -50,6 +52,15 @@ sessions_still key ss (x ∷ xs) other =
 
 reads_other : (s : Store) (key : SnapshotKey) (lane : ℕ) → snapshot_holder s key ≡ None → ReadsOther key (session s lane)
 reads_other s key lane free = λ r is. sym (ap (holds_snapshot key) is) ∙ not_held s key lane free
+
+-- what a session uses is another
+uses_other : (s : Store) (key used : SnapshotKey) (lane : ℕ) → snapshot_holder s key ≡ None → Uses used (session s lane) → same_key key used ≡ false
+uses_other s key used lane free uses = by_session (session s lane) uses (not_held s key lane free)
+  where
+    by_session : (x : model.Session) → Uses used x → holds_snapshot key x ≡ false → same_key key used ≡ false
+    by_session model.none uses held = absurd uses
+    by_session (model.writer w) uses held = sym (ap (is_key key) uses) ∙ held
+    by_session (model.reader r) uses held = sym (ap (same_key key) uses) ∙ held
 
 -- ---- it is sound
 
@@ -84,8 +95,8 @@ sound_without s key free h = record {
 -- ---- the parts show it
 
 pub shows_without : {D : Type 0} (old new : Parts D) (s : Store) (key : SnapshotKey) → snapshot_holder s key ≡ None
-    → new.catalogue.listed ≡ without_listed key old.catalogue.listed → new.sessions.items ≡ old.sessions.items → new.locks ≡ old.locks → Shows old s → Shows new (forgot s key)
-shows_without old new s key free c l k h = record {
+    → new.catalogue.listed ≡ without_listed key old.catalogue.listed → new.sessions.items ≡ old.sessions.items → new.locks ≡ old.locks → new.indexes.items ≡ old.indexes.items → Shows old s → Shows new (forgot s key)
+shows_without old new s key free c l k rows h = record {
   catalogue =
       ap (λ items. map (λ x. x.kept) items) c
       ∙ sym (filter_map_to (λ (x : Listed). x.kept) (λ (x : Kept). not (same_key x.key key)) old.catalogue.listed)
@@ -93,6 +104,9 @@ shows_without old new s key free c l k h = record {
       ∙ filter_map_to shown_snapshot (λ (x : Kept). not (same_key x.key key)) s.snapshots;
   sessions = l ∙ h.sessions ∙ sym (sessions_still key s.snapshots s.sessions (λ i. reads_other s key i free));
   locks = subst (λ locks. Locked locks (forgot s key)) (sym k) (record { groups = (h.locks).groups; shared = (h.locks).shared });
+  indexes =
+      subst (FitsRows (forgot s key)) (sym rows)
+      (rows_among s (forgot s key) old.indexes.items refl (λ i used uses y at. named-without key used s.snapshots (uses_other s key used i free uses) ∙ at) h.indexes);
   sound = sound_without s key free h.sound;
 }
 

@@ -177,9 +177,9 @@ module _ {D : Type 0} (d : Ghosts D) (old new : Parts D) (s : Store) (lane momen
   pub forget_step : (key : SnapshotKey) (k : Kept) → Holds d old s → lane < 64 → to_forget text (session_at old lane) old.catalogue.listed old.locks ≡ Ok key
       → kept_named key old.catalogue.listed ≡ Some k → least_sharer old.locks key ≡ None → IsKey key
       → (d.honest old.disk → d.content new.disk ≡ without (manifest_path key ∷ map (file_path key) (names_beside k.files)) (d.content old.disk))
-      → new.catalogue.listed ≡ without_listed key old.catalogue.listed → new.sessions.items ≡ old.sessions.items → new.locks ≡ old.locks
+      → new.catalogue.listed ≡ without_listed key old.catalogue.listed → new.sessions.items ≡ old.sessions.items → new.locks ≡ old.locks → new.indexes.items ≡ old.indexes.items
       → (after : Store) × (outcome s lane moment (Forget text) ≡ Ok (after, Done)) × Shows new after × IsOnDisk (d.content new.disk) after
-  forget_step key k h lt told there none named gone c l locks =
+  forget_step key k h lt told there none named gone c l locks rows =
       let shown = (h.shows).catalogue in
       let sound = (h.shows).sound in
       let is = session_shown old s lane h.shows lt in
@@ -190,7 +190,7 @@ module _ {D : Type 0} (d : Ghosts D) (old new : Parts D) (s : Store) (lane momen
       = gone h.honest ∙ ap (λ (k : Kept). without (manifest_path key ∷ map (file_path key) (names_beside k.files)) (d.content old.disk)) y.2 in (
         forgot s key,
         done s lane moment text old.catalogue.listed old.locks shown (h.shows).locks (session_at old lane) key is told,
-        shows_without old new s key is_none c l locks h.shows,
+        shows_without old new s key is_none c l locks rows h.shows,
         disk_without (d.content old.disk) (d.content new.disk) s key y.0 (names_of (d.content old.disk) (d.content new.disk) key y.0 whole files) y.1 named
             (are_plain (d.content old.disk) (d.content new.disk) key y.0 whole files) (takes (d.content old.disk) (d.content new.disk) key y.0 whole files) sound h.files,
       )

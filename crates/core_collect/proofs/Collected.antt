@@ -1,8 +1,7 @@
 -- The next mark or visit of a collector, or its end, by the calls that it makes.
 use Rattle.disk_trait.specs.declared.disk.Disk.{Ghosts}
-use Rattle.std.proofs.Common.{◌≡◌, ◌⊎◌, ⊎_elim, ◌<◌, ◌≤◌, ◌+◌, ℕ, max, Bool, true, false, cond, is_some, length, List, [], ◌∷◌, Option, Some, None, IfSome, Result, Ok, Err, inl, inr, refl, sym, ap, subst, ◌∙◌, arith}
+use Rattle.std.proofs.Common.{◌≡◌, ◌⊎◌, ⊎_elim, ◌<◌, ◌≤◌, ◌+◌, ℕ, max, Bool, true, false, cond, is_some, length, List, [], ◌∷◌, Option, Some, None, IfSome, Result, Ok, Err, Vec, Global, inl, inr, refl, sym, ap, subst, ◌∙◌, arith}
 use Rattle.std.specs.Prelude.{IfErr, IsErrAnd, IsErrOf, IsSomeAnd, option_map}
-use Rattle.std.proofs.lemmas.List.{length-take}
 use Rattle.disk_trait.specs.Disk.{Same, Serves, Steps}
 use Rattle.disk_trait.specs.Effects.{DiskWantKeeps, LeavesBy, LeavesSame, OnlyReads}
 use Rattle.disk_trait.specs.Files.{Files}
@@ -42,7 +41,7 @@ use Rattle.core_collect.specs.declared.marking.Unread.{Unread}
 use Rattle.core_collect.specs.declared.marking.Unread.TheVariants as unread
 use Rattle.core_collect.specs.Beside.{IsPresent, IsSweepable, StandsBeside}
 use Rattle.core_collect.specs.Ending.{EndsPlan}
-use Rattle.core_collect.specs.Marking.{FindsNext, GoesFurther, MarksSome, entries_left, marked_now}
+use Rattle.core_collect.specs.Marking.{AtHand, FindsNext, GoesFurther, MarksSome}
 use Rattle.core_collect.specs.Passing.{FailsByPlan, LosesFirst, PassesOn, PassesOrEnds}
 use Rattle.core_collect.specs.Stepping.{CollectDoes, IsIndex, IsTheSweeps, Outcome, Spares, path_of_early}
 use Rattle.core_collect.specs.Stepping as stepping
@@ -107,8 +106,8 @@ marked_touches : (u v : Upkeep) (digests : List Digest32) (moment : ℕ) → Tou
     → SameTouches (touches_kept v) (touched (λ x. is_among x digests) moment (touches_kept u))
 marked_touches u v digests moment touches undated = record { last = touches; undated = λ x. ap (λ us. is_among x us.items) undated }
 
-few_marked : (c : Collector) → length (marked_now c) ≤ mark_limit
-few_marked c = let most = length-take mark_limit (entries_left c) in omega (arith, most)
+few_marked : (c : Collector) (digests : List Digest32) → AtHand c digests → length digests ≤ mark_limit
+few_marked c digests hand = let n = hand.all in omega (arith, n)
 
 marked_early : (before after_ : Book) (digests : List Digest32) (moment : ℕ) → TouchesEach before after_ digests moment → NoneAfter before moment → NoneAfter after_ moment
 marked_early before after_ digests moment touches early x = subst (λ o. IfSome o (λ when. when ≤ moment)) (sym (touches x)) (by_last (is_among x digests) (last_of before x) (early x))
@@ -151,9 +150,10 @@ module _ {D : Type 0} (d : Ghosts D) (old new : Parts D) (u v : Upkeep) (c e f :
       → PassesOrEnds d old.disk old.catalogue.listed u.book v.book c f at.moment stays f.ended
   unended f still passes = subst (PassesOrEnds d old.disk old.catalogue.listed u.book v.book c f at.moment stays) (sym still) passes
 
-  pub marked_does : OnlyReads d old.disk new.disk (IsErrOf {T = Bool} (Ok true) unread.DiskFailed) → SameKept old new → FindsNext d old c e (Ok true) → MarksSome u.book v.book e f at.moment → v.undated ≡ u.undated
+  pub marked_does : (digests : Vec Digest32 Global) → OnlyReads d old.disk new.disk (IsErrOf {T = Option (Vec Digest32 Global)} (Ok (Some digests)) unread.DiskFailed) → SameKept old new
+      → FindsNext d old c e (Ok (Some digests)) → MarksSome u.book v.book e f digests.items at.moment → v.undated ≡ u.undated
       → is_over c.plan ≡ false → c.ended ≡ None → CollectDoes d old new u v c f at (Ok None)
-  marked_does reads kept finds marks undated going goes =
+  marked_does digests reads kept finds marks undated going goes =
       let still : f.ended ≡ None = marks.ended ∙ (finds.further).ended ∙ goes in record {
         serves = record { kept = (reads.serves).kept; count = (reads.serves).count; cause = λ failed. cc };
         kept = kept;
@@ -162,9 +162,9 @@ module _ {D : Type 0} (d : Ghosts D) (old new : Parts D) (u v : Upkeep) (c e f :
         may_change = inl refl;
         content = λ _ honest. reads.same honest;
         crash = same_leaves d old.disk new.disk stays reads.crash;
-        touches = inl (marked_now e, refl, few_marked e, marked_touches u v (marked_now e) at.moment marks.touches undated);
-        by_plan = (going, ap (λ us. record v { undated = us }) undated, unended f still (record { passed = (finds.found).0; mid = e; finds = (finds.found).1; does = inl (finds.at_hand refl, marks, refl) }));
-        early = λ before le early. marked_early u.book v.book (marked_now e) at.moment marks.touches (none_later u.book before at.moment le early);
+        touches = inl (digests.items, refl, few_marked e digests.items (finds.at_hand digests refl), marked_touches u v digests.items at.moment marks.touches undated);
+        by_plan = (going, ap (λ us. record v { undated = us }) undated, unended f still (record { passed = (finds.found).0; mid = e; digests = digests.items; finds = (finds.found).1; does = inl (finds.at_hand digests refl, marks, refl) }));
+        early = λ before le early. marked_early u.book v.book digests.items at.moment marks.touches (none_later u.book before at.moment le early);
         fits = λ before le in_time early. tt;
         lane = marks.lane ∙ (finds.further).lane;
         ends = none_ends f still;
@@ -172,14 +172,14 @@ module _ {D : Type 0} (d : Ghosts D) (old new : Parts D) (u v : Upkeep) (c e f :
         same = fixed_then c e f.plan finds.further (ap (λ (p : Plan). p.start) marks.plan) (ap (λ (p : Plan). p.cutoff) marks.plan) (ap (λ (p : Plan). p.indexes) marks.plan);
         unread = λ _ honest. ap path_of_early still ∙ sym (finds.unread honest);
         tells = λ acts s w beside able.
-            (marked_tells d old new u v c e f (IsErrOf {T = Bool} (Ok true) unread.DiskFailed) at.moment reads kept finds marks (ap (λ us. record v { undated = us }) undated) going goes acts s w beside, spares_same s);
+            (marked_tells d old new u v c e f (IsErrOf {T = Option (Vec Digest32 Global)} (Ok (Some digests)) unread.DiskFailed) at.moment reads kept digests finds marks (ap (λ us. record v { undated = us }) undated) going goes acts s w beside, spares_same s);
       }
 
--- ---- an index that does not decode, want of memory and a fault as one is looked for
+-- ---- an index that does not decode or is not as it was opened, want of memory and a fault as one is looked for
 
 module _ {D : Type 0} (d : Ghosts D) (old new : Parts D) (u : Upkeep) (c e : Collector) (at : Place) where
   -- the search shows what the collector showed
-  still_shows : (result : Result Bool Unread) → FindsNext d old c e result → (acts : ℕ) (s : Store) (w : Swept) → StandsBeside d old u acts (Some c) s w.touches w.sweep
+  still_shows : (result : Result (Option (Vec Digest32 Global)) Unread) → FindsNext d old c e result → (acts : ℕ) (s : Store) (w : Swept) → StandsBeside d old u acts (Some c) s w.touches w.sweep
       → ShowsOpen acts old.catalogue.listed s.snapshots (Some e) w.sweep
   still_shows result finds acts s w beside = by_sweep w.sweep beside.shows
     where
@@ -194,7 +194,7 @@ module _ {D : Type 0} (d : Ghosts D) (old new : Parts D) (u : Upkeep) (c e : Col
       by_sweep None shows = shows
       by_sweep (Some sweep) shows = (finds.shows acts s sweep beside.holds shows).1
 
-  pub unread_does : (f : Collector) (path : List ℕ) → OnlyReads d old.disk new.disk (IsErrOf {T = Bool} (Err (unread.Unreadable path)) unread.DiskFailed) → SameKept old new
+  pub unread_does : (f : Collector) (path : List ℕ) → OnlyReads d old.disk new.disk (IsErrOf {T = Option (Vec Digest32 Global)} (Err (unread.Unreadable path)) unread.DiskFailed) → SameKept old new
       → FindsNext d old c e (Err (unread.Unreadable path)) → f.lane ≡ e.lane → f.plan ≡ e.plan → f.ended ≡ Some (earlies.Unreadable path) → is_over c.plan ≡ false → c.ended ≡ None
       → CollectDoes d old new u u c f at (Ok None)
   unread_does f path reads kept finds lane plan ended going goes = record {
@@ -217,7 +217,7 @@ module _ {D : Type 0} (d : Ghosts D) (old new : Parts D) (u : Upkeep) (c e : Col
     tells = λ acts s w beside able. absurd (never_unread path finds acts s w beside);
   }
 
-  pub wanting_does : OnlyReads d old.disk new.disk (IsErrOf {T = Bool} (Err unread.NoMemory) unread.DiskFailed) → SameKept old new → FindsNext d old c e (Err unread.NoMemory) → c.ended ≡ None
+  pub wanting_does : OnlyReads d old.disk new.disk (IsErrOf {T = Option (Vec Digest32 Global)} (Err unread.NoMemory) unread.DiskFailed) → SameKept old new → FindsNext d old c e (Err unread.NoMemory) → c.ended ≡ None
       → CollectDoes d old new u u c e at (Err stops.NoMemory)
   wanting_does reads kept finds goes = record {
     serves = record { kept = (reads.serves).kept; count = (reads.serves).count; cause = λ failed. cc };
@@ -247,7 +247,7 @@ module _ {D : Type 0} (d : Ghosts D) (old new : Parts D) (u : Upkeep) (c e : Col
     );
   }
 
-  pub failed_does : OnlyReads d old.disk new.disk (IsErrOf {T = Bool} (Err unread.DiskFailed) unread.DiskFailed) → SameKept old new → FindsNext d old c e (Err unread.DiskFailed) → c.ended ≡ None
+  pub failed_does : OnlyReads d old.disk new.disk (IsErrOf {T = Option (Vec Digest32 Global)} (Err unread.DiskFailed) unread.DiskFailed) → SameKept old new → FindsNext d old c e (Err unread.DiskFailed) → c.ended ≡ None
       → CollectDoes d old new u u c e at (Err stops.DiskFailed)
   failed_does reads kept finds goes = record {
     serves = record { kept = (reads.serves).kept; count = (reads.serves).count; cause = λ _. (reads.serves).cause refl };
@@ -272,8 +272,8 @@ module _ {D : Type 0} (d : Ghosts D) (old new : Parts D) (u : Upkeep) (c e : Col
 -- ---- a visit
 
 module _ {D : Type 0} (d : Ghosts D) (old new : Parts D) (mid : D) (u v : Upkeep) (c e f : Collector) (at : Place)
-    (reads : OnlyReads d old.disk mid (IsErrOf {T = Bool} (Ok false) unread.DiskFailed)) (kept : SameKept old new) (finds : FindsNext d old c e (Ok false))
-    (lane : f.lane ≡ e.lane) (same_ended : f.ended ≡ e.ended) (entries : f.entries ≡ e.entries) (undated : v.undated ≡ u.undated) (going : is_over c.plan ≡ false) (goes_on : c.ended ≡ None) where
+    (reads : OnlyReads d old.disk mid (IsErrOf {T = Option (Vec Digest32 Global)} (Ok None) unread.DiskFailed)) (kept : SameKept old new) (finds : FindsNext d old c e (Ok None))
+    (lane : f.lane ≡ e.lane) (same_ended : f.ended ≡ e.ended) (pages : f.pages ≡ e.pages) (undated : v.undated ≡ u.undated) (going : is_over c.plan ≡ false) (goes_on : c.ended ≡ None) where
   abbrev Visits : Result (Unit {0}) DiskError → Type 0
   Visits r = VisitsNext d mid new.disk u.book v.book e.plan f.plan r
 
@@ -325,13 +325,13 @@ module _ {D : Type 0} (d : Ghosts D) (old new : Parts D) (mid : D) (u v : Upkeep
 
     tells : (acts : ℕ) (s : Store) (w : Swept) → StandsBeside d old u acts (Some c) s w.touches w.sweep → IsSweepable s w → IsTheSweeps d new v acts f s w at.moment (visit_outcome r) × Spares s x.change
     tells acts s w beside able =
-        visited_tells d old new mid u v c e f (IsErrOf {T = Bool} (Ok false) unread.DiskFailed) at.moment r reads kept serves finds x same_ended entries undated going goes_on acts s w beside able
+        visited_tells d old new mid u v c e f (IsErrOf {T = Option (Vec Digest32 Global)} (Ok None) unread.DiskFailed) at.moment r reads kept serves finds x same_ended pages undated going goes_on acts s w beside able
 
   pub visited_does : (done : Unit {0}) → Serves d.honest d.faults mid new.disk (IsErrOf {T = Unit {0}} (Ok done) disks.Failed) → Visits (Ok done) → CollectDoes d old new u v c f at (Ok None)
   visited_does done serves x =
       let first = first_is u.book v.book (x.done).0 f.plan x.change (next_visit (x.done).0) (x.done).2 in
       let keeps = visited_keeps d mid u.book v.book e.plan (x.done).0 f.plan x.change (next_visit (x.done).0) (x.done).1 first in record {
-        serves = both_serve d.honest d.faults old.disk mid new.disk (IsErrOf {T = Bool} (Ok false) unread.DiskFailed) (IsErrOf {T = Unit {0}} (Ok done) disks.Failed) (IsErrOf {T = Option GcReport} (Ok None) stops.DiskFailed) reads.serves serves (λ failed. cc);
+        serves = both_serve d.honest d.faults old.disk mid new.disk (IsErrOf {T = Option (Vec Digest32 Global)} (Ok None) unread.DiskFailed) (IsErrOf {T = Unit {0}} (Ok done) disks.Failed) (IsErrOf {T = Option GcReport} (Ok None) stops.DiskFailed) reads.serves serves (λ failed. cc);
         kept = kept;
         unrefused = λ refusal is. cc;
         change = x.change;
@@ -343,7 +343,7 @@ module _ {D : Type 0} (d : Ghosts D) (old new : Parts D) (mid : D) (u v : Upkeep
           going,
           ap (λ us. record v { undated = us }) undated,
           subst (PassesOrEnds d old.disk old.catalogue.listed u.book v.book c f at.moment x.change) (sym still)
-              (record { passed = (finds.found).0; mid = e; finds = (finds.found).1; does = inr (finds.all_marked refl, ((x.done).0, listed_as (x.done).0 (x.done).1, (x.done).2)) }),
+              (record { passed = (finds.found).0; mid = e; digests = []; finds = (finds.found).1; does = inr (finds.all_marked refl, ((x.done).0, listed_as (x.done).0 (x.done).1, (x.done).2)) }),
         );
         early = λ before le early. visited_early u.book v.book (x.done).0 f.plan x.change (next_visit (x.done).0) at.moment first (none_later u.book before at.moment le early);
         fits = λ before le in_time early. tt;
@@ -359,7 +359,7 @@ module _ {D : Type 0} (d : Ghosts D) (old new : Parts D) (mid : D) (u v : Upkeep
   pub unvisited_does : (error : DiskError) → Serves d.honest d.faults mid new.disk (IsErrOf {T = Unit {0}} (Err error) disks.Failed) → Visits (Err error) → CollectDoes d old new u v c f at (visit_outcome (Err error))
   unvisited_does disks.NoMemory serves x =
       let plan : f.plan ≡ e.plan = (x.want refl).0 in record {
-        serves = both_serve d.honest d.faults old.disk mid new.disk (IsErrOf {T = Bool} (Ok false) unread.DiskFailed) (IsErrOf {T = Unit {0}} (Err disks.NoMemory) disks.Failed) (IsErrOf {T = Option GcReport} (Err stops.NoMemory) stops.DiskFailed)
+        serves = both_serve d.honest d.faults old.disk mid new.disk (IsErrOf {T = Option (Vec Digest32 Global)} (Ok None) unread.DiskFailed) (IsErrOf {T = Unit {0}} (Err disks.NoMemory) disks.Failed) (IsErrOf {T = Option GcReport} (Err stops.NoMemory) stops.DiskFailed)
             reads.serves serves (λ failed. cc);
         kept = kept;
         unrefused = λ refusal is. cc;
@@ -379,7 +379,7 @@ module _ {D : Type 0} (d : Ghosts D) (old new : Parts D) (mid : D) (u v : Upkeep
         tells = tells (Err disks.NoMemory) serves x;
       }
   unvisited_does disks.Failed serves x = record {
-    serves = both_serve d.honest d.faults old.disk mid new.disk (IsErrOf {T = Bool} (Ok false) unread.DiskFailed) (IsErrOf {T = Unit {0}} (Err disks.Failed) disks.Failed) (IsErrOf {T = Option GcReport} (Err stops.DiskFailed) stops.DiskFailed)
+    serves = both_serve d.honest d.faults old.disk mid new.disk (IsErrOf {T = Option (Vec Digest32 Global)} (Ok None) unread.DiskFailed) (IsErrOf {T = Unit {0}} (Err disks.Failed) disks.Failed) (IsErrOf {T = Option GcReport} (Err stops.DiskFailed) stops.DiskFailed)
         reads.serves serves (λ _. inr refl);
     kept = kept;
     unrefused = λ refusal is. cc;

@@ -1,9 +1,10 @@
--- What fits a collector's entries fits them still as its chunks are listed and visited.
+-- What fits the pages that a collector has at hand fits them still as its chunks are listed and visited.
 use Rattle.disk_trait.specs.declared.disk.Disk.{Ghosts}
-use Rattle.std.proofs.Common.{◌≡◌, ◌<◌, ◌⊎◌, List, [], ◌∷◌, length, inl, inr, refl, sym, subst, arith}
-use Rattle.store_types.specs.declared.names.Digest32.{Digest32}
-use Rattle.gc_plan.specs.Plan.{Plan, Stage, behind_visit, marking, sweeping, visited, with_removal}
-use Rattle.core_state.specs.Entries.{FitsEntries, marked_in}
+use Rattle.std.proofs.Common.{◌≡◌, ◌<◌, ◌≤◌, ◌⊎◌, ℕ, [], ◌∷◌, Option, inl, inr, refl, sym, subst, arith}
+use Rattle.std.specs.Prelude.{IsSome}
+use Rattle.gc_plan.specs.Plan.{Plan, Stage, behind_visit, entry_limit, marking, sweeping, visited, with_removal}
+use Rattle.paged_indexes.specs.declared.index.IndexPages.{IndexPages}
+use Rattle.core_state.specs.Entries.{FitsPages, count_at_hand, marked_in}
 use Rattle.core_collect.specs.Visiting.{IsListed}
 
 same_marked : (stage : Stage) → marked_in (behind_visit stage) ≡ marked_in stage
@@ -14,19 +15,32 @@ same_marked (sweeping (d ∷ ds)) = refl
 none_marked : 0 < 0 → ⊥
 none_marked some = omega (arith, some)
 
-module _ (entries : List Digest32) where
-  pub visited_fits : (p : Plan) → FitsEntries p entries → FitsEntries (visited p) entries
-  visited_fits p fits = record { named = fits.named; within = subst (λ n. 0 < n → n < length entries) (sym (same_marked p.stage)) fits.within; few = fits.few }
+some_left : (marked count : ℕ) → marked < count → 0 < count
+some_left marked count lt = omega (arith, lt)
 
-  pub removal_fits : (p : Plan) → FitsEntries p entries → FitsEntries (with_removal p) entries
-  removal_fits p fits = record { named = fits.named; within = fits.within; few = fits.few }
+module _ (pages : Option IndexPages) where
+  pub visited_fits : (p : Plan) → FitsPages p pages → FitsPages (visited p) pages
+  visited_fits p fits = record {
+    named = fits.named;
+    begun = subst (λ n. 0 < n → IsSome pages) (sym (same_marked p.stage)) fits.begun;
+    within = subst (λ n. IsSome pages → n < count_at_hand pages) (sym (same_marked p.stage)) fits.within;
+    few = subst (λ n. n ≤ entry_limit) (sym (same_marked p.stage)) fits.few;
+  }
 
-  pub listed_fits : {D : Type 0} (d : Ghosts D) (disk : D) (p listed : Plan) → IsListed d disk p listed → FitsEntries p entries → FitsEntries listed entries
-  listed_fits d disk p listed (inl (has, same)) fits = subst (λ x. FitsEntries x entries) (sym same) fits
+  pub removal_fits : (p : Plan) → FitsPages p pages → FitsPages (with_removal p) pages
+  removal_fits p fits = record { named = fits.named; begun = fits.begun; within = fits.within; few = fits.few }
+
+  pub listed_fits : {D : Type 0} (d : Ghosts D) (disk : D) (p listed : Plan) → IsListed d disk p listed → FitsPages p pages → FitsPages listed pages
+  listed_fits d disk p listed (inl (has, same)) fits = subst (λ x. FitsPages x pages) (sym same) fits
   listed_fits d disk p listed (inr (none, (names, is, are))) fits =
-      subst (λ x. FitsEntries x entries) (sym is) (record { named = fits.named; within = λ some. absurd (none_marked some); few = fits.few })
+      subst (λ x. FitsPages x pages) (sym is) (record {
+        named = fits.named;
+        begun = λ some. absurd (none_marked some);
+        within = λ some. some_left (marked_in p.stage) (count_at_hand pages) (fits.within some);
+        few = omega arith;
+      })
 
   -- the first of the chunks was visited, and may have been removed
-  pub first_fits : {D : Type 0} (d : Ghosts D) (disk : D) (p listed q : Plan) → IsListed d disk p listed → (q ≡ visited listed) ⊎ (q ≡ with_removal (visited listed)) → FitsEntries p entries → FitsEntries q entries
-  first_fits d disk p listed q are (inl is) fits = subst (λ x. FitsEntries x entries) (sym is) (visited_fits listed (listed_fits d disk p listed are fits))
-  first_fits d disk p listed q are (inr is) fits = subst (λ x. FitsEntries x entries) (sym is) (removal_fits (visited listed) (visited_fits listed (listed_fits d disk p listed are fits)))
+  pub first_fits : {D : Type 0} (d : Ghosts D) (disk : D) (p listed q : Plan) → IsListed d disk p listed → (q ≡ visited listed) ⊎ (q ≡ with_removal (visited listed)) → FitsPages p pages → FitsPages q pages
+  first_fits d disk p listed q are (inl is) fits = subst (λ x. FitsPages x pages) (sym is) (visited_fits listed (listed_fits d disk p listed are fits))
+  first_fits d disk p listed q are (inr is) fits = subst (λ x. FitsPages x pages) (sym is) (removal_fits (visited listed) (visited_fits listed (listed_fits d disk p listed are fits)))

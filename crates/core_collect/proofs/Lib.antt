@@ -5,7 +5,10 @@ pub mod Losing
 pub mod StartLemmas
 pub mod StartRefused
 pub mod StartActs
+pub mod Batches
+pub mod Counted
 pub mod ReadLemmas
+pub mod Reading
 pub mod MarkLemmas
 pub mod Settling
 pub mod Marked

@@ -29,6 +29,7 @@ use Rattle.core_state.specs.declared.kept.Listed.{Listed}
 use Rattle.core_state.specs.declared.parts.Parts.{Parts}
 use Rattle.core_state.specs.Changes.{Change, MayLeave, drops, installs, stays}
 use Rattle.core_state.specs.Holds.{HasUploads, Holds, IsOnDisk, Shows}
+use Rattle.core_state.specs.Indexed.{FitsRows}
 use Rattle.core_state.specs.Locked.{Locked}
 use Rattle.core_state.specs.Unchanged.{SameKept}
 use Rattle.core_state.proofs.SavingNames.{SameStore, on_disk_same, same_installs, stands_same}
@@ -171,6 +172,7 @@ module _ {D : Type 0} (d : Ghosts D) (old new : Parts D) (s : Store) (kept : Sam
     catalogue = ap (map (λ (x : Listed). x.kept)) kept.catalogue ∙ shows.catalogue;
     sessions = kept.sessions ∙ shows.sessions;
     locks = subst (λ l. Locked l s) (sym kept.locks) shows.locks;
+    indexes = subst (FitsRows s) (sym kept.indexes) shows.indexes;
     sound = shows.sound;
   }
 

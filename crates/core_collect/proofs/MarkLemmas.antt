@@ -1,24 +1,27 @@
 -- Marks: the plan of a collector shows the sweep of the plain store as indexes are passed over, read and marked.
-use Rattle.std.proofs.Common.{◌≡◌, ◌<◌, ◌≤◌, ◌+◌, ◌-◌, ◌==◌, ◌++◌, ℕ, zero, suc, min, Bool, true, false, cond, List, [], ◌∷◌, drop, length, map, take, Option, Some, None, IsSome, is_some, IsSomeAnd, length-drop, length-take, nat_lt, refl, sym, ap, ap₂, subst, ◌∙◌, arith}
+use Rattle.std.proofs.Common.{◌≡◌, ◌<◌, ◌≤◌, ◌+◌, ◌-◌, ◌==◌, ◌++◌, ℕ, zero, suc, min, Bool, true, false, cond, List, [], ◌∷◌, drop, length, Option, Some, None, IfSome, IsSome, is_some, IsSomeAnd, length-drop, nat_lt, true≢false, refl, sym, ap, ap₂, subst, ◌∙◌, arith}
 use Rattle.std.specs.Prelude.{slice_get}
 use Rattle.std.specs.List.{All}
-use Rattle.std.proofs.lemmas.Bool.{eq-eqb, le-ltb, lt-ltb, ltb-false, ne_eqb}
-use Rattle.std.proofs.lemmas.List.{drop_all, drop-map, length-map, nil_from_length, take_min, drop-drop}
+use Rattle.std.proofs.lemmas.Bool.{eq-eqb, eqb-true, le-ltb, lt-ltb, ltb-false, ne_eqb}
+use Rattle.std.proofs.lemmas.List.{drop-drop, drop_all}
 use Rattle.store_types.specs.declared.names.Digest32.{Digest32}
 use Rattle.store_types.specs.declared.names.SnapshotKey.{SnapshotKey}
 use Rattle.store_files.specs.Archive.{Snapshot}
 use Rattle.store_files.specs.Book.{Book}
 use Rattle.gc_plan.specs.Plan.{FitsMark, Plan, Stage, entry_limit, index_in, left_of, mark_in, mark_limit, marked_at, marking, next_index, next_mark, sweeping, with_mark}
 use Rattle.gc_plan.specs.declared.IndexAt.{IndexAt}
+use Rattle.paged_indexes.specs.declared.index.IndexPages.{IndexPages}
+use Rattle.paged_indexes.specs.Index.{pages_by}
 use Rattle.store_history.specs.Sweeping.{Sweep, Swept, Unmarked, passed, unmarked_of}
 use Rattle.core_state.specs.declared.collector.Collector.{Collector}
 use Rattle.core_state.specs.declared.kept.Kept.{Kept}
 use Rattle.core_state.specs.declared.kept.Listed.{Listed}
-use Rattle.core_state.specs.Entries.{FitsEntries, marked_in}
-use Rattle.core_state.specs.Sweeps.{AreEntries, FitsRemoved, HasEntries, HasNumber, ShowsSweep, digests_named, kept_at, left_at, left_in, left_of_kept, unmarked_by, visits_by}
+use Rattle.core_state.specs.Entries.{FitsPages, count_at_hand, marked_in}
+use Rattle.core_state.specs.Sweeps.{ArePages, FitsRemoved, HasNumber, HasPages, ShowsSweep, digests_named, kept_at, left_at, left_in, left_of_kept, unmarked_by, visits_by}
 use Rattle.core_state.specs.Upkeeps.{TouchesEach}
 use Rattle.core_state.proofs.Finding.{some_same}
-use Rattle.core_collect.specs.Marking.{AtHand, BeginsWith, MarksSome, PassesOver, at_hand_then, behind_next, bytes_of, entries_left, left_then, marked_now}
+use Rattle.core_collect.specs.Entries.{bytes_of, marked_from}
+use Rattle.core_collect.specs.Marking.{AtHand, BeginsWith, HasAll, MarksSome, PassesOver, all_of, behind_next, entries_left, left_then, marked_now}
 use Rattle.core_collect.proofs.StartLemmas.{left_all}
 
 -- ---- lists
@@ -56,12 +59,8 @@ unmarked_some : (key : SnapshotKey) (name : List ℕ) (ds : List (List ℕ)) →
 unmarked_some key name [] some = absurd (some refl)
 unmarked_some key name (d ∷ ds) some = refl
 
-left_some : (first : ℕ) (entries : List Digest32) → (0 < first → first < length entries) → (entries ≡ [] → ⊥) → map (λ (d : Digest32). d.0) (drop first entries) ≡ [] → ⊥
-left_some zero entries within some none =
-    some (nil_from_length entries (omega (arith, ap length none, length-map (drop 0 entries) (λ (d : Digest32). d.0), length-drop 0 entries)))
-left_some (suc n) entries within some none =
-    let lt = within (omega arith) in
-    omega (arith, lt, ap length none, length-map (drop (suc n) entries) (λ (d : Digest32). d.0), length-drop (suc n) entries)
+left_some : (first : ℕ) (ds : List (List ℕ)) → first < length ds → drop first ds ≡ [] → ⊥
+left_some first ds below none = let n = ap length none in omega (arith, n, below, length-drop first ds)
 
 -- ---- a plan after a mark
 
@@ -111,8 +110,8 @@ mark_is indexes (marking place first) mark e = by_test (nat_lt place (length ind
     by_test false e = absurd (none_some mark e)
 mark_is indexes (sweeping names) mark e = absurd (none_some mark e)
 
-pub at_hand_mark : (c : Collector) → AtHand c → next_mark c.plan ≡ None → ⊥
-at_hand_mark c hand none = by_index (next_index c.plan) refl hand.next
+pub at_hand_mark : (c : Collector) (digests : List Digest32) → AtHand c digests → next_mark c.plan ≡ None → ⊥
+at_hand_mark c digests hand none = by_index (next_index c.plan) refl hand.next
   where
     none_is : false ≡ true → ⊥
     none_is e = cc
@@ -121,80 +120,101 @@ at_hand_mark c hand none = by_index (next_index c.plan) refl hand.next
     by_index None is some = none_is some
     by_index (Some i) is some = none_is (sym (ap is_some none) ∙ mark_there (c.plan).indexes (c.plan).stage i is)
 
--- where none is marked
-none_begun : (m n : ℕ) → m ≡ 0 → 0 < m → m < n
-none_begun m n zero_is begun = absurd (omega (arith, zero_is, begun))
-
 -- a plan may pass over the index that is next
-pub fits_pass : (p : Plan) (entries : List Digest32) → FitsEntries p entries → IsSome (next_mark p) → FitsMark p 0 0
-fits_pass p entries fits some = by_mark (next_mark p) refl some
+pub fits_pass : (p : Plan) (pages : Option IndexPages) → FitsPages p pages → IsSome (next_mark p) → FitsMark p 0 0
+fits_pass p pages fits some = by_mark (next_mark p) refl some
   where
     none_is : false ≡ true → ⊥
     none_is e = cc
 
-    within : (m : ℕ) → (0 < m → m < length entries) → m + 0 + 0 ≤ entry_limit
-    within zero left = omega arith
-    within (suc n) left = let lt = left (omega arith) in let few = fits.few in omega (arith, lt, few)
-
     by_mark : (o : Option (ℕ × ℕ)) → next_mark p ≡ o → IsSome o → IsSomeAnd o (λ mark. mark.1 + 0 + 0 ≤ entry_limit)
     by_mark None is some = absurd (none_is some)
-    by_mark (Some mark) is some = subst (λ n. n + 0 + 0 ≤ entry_limit) (sym (mark_is p.indexes p.stage mark is)) (within (marked_in p.stage) fits.within)
+    by_mark (Some mark) is some = let few = fits.few in omega (arith, few, mark_is p.indexes p.stage mark is)
 
 -- and then nothing of the next is marked
 pub over_zero : (stage : Stage) → marked_in (marked_at stage 0 0) ≡ 0
 over_zero (marking place first) = refl
 over_zero (sweeping names) = refl
 
--- ---- what fits the digests at hand
+-- ---- what fits the pages at hand
 
-pub fits_none : (p q : Plan) (entries : List Digest32) → FitsEntries p entries → q ≡ with_mark p 0 0 → FitsEntries q []
-fits_none p q entries fits is = subst (λ x. FitsEntries x []) (sym is) (record { named = fits.named; within = none_begun (marked_in (marked_at p.stage 0 0)) 0 (over_zero p.stage); few = omega arith })
+none_pages : false ≡ true → ⊥
+none_pages e = cc
 
--- none were at hand, and they are read
-pub fits_read : (p : Plan) (before after_ : List Digest32) → FitsEntries p before → before ≡ [] → length after_ ≤ entry_limit → FitsEntries p after_
-fits_read p before after_ fits none few = record { named = fits.named; within = λ some. absurd (begun some fits.within); few = few }
+pub fits_none : (p q : Plan) (pages : Option IndexPages) → FitsPages p pages → q ≡ with_mark p 0 0 → FitsPages q None
+fits_none p q pages fits is = subst (λ x. FitsPages x None) (sym is) (record {
+  named = fits.named;
+  begun = λ some. absurd (omega (arith, some, over_zero p.stage));
+  within = λ some. absurd (none_pages some);
+  few = omega (arith, over_zero p.stage);
+})
+
+-- none were at hand, and it is opened
+pub fits_opened : (p : Plan) (before : Option IndexPages) (x : IndexPages) → FitsPages p before → before ≡ None → ((pages_by x).count ≡ 0 → ⊥) → FitsPages p (Some x)
+fits_opened p before x fits none some = record {
+  named = fits.named;
+  begun = λ _. refl;
+  within = λ _. by_marked (marked_in p.stage) fits.begun;
+  few = fits.few;
+}
   where
-    begun : 0 < marked_in p.stage → (0 < marked_in p.stage → marked_in p.stage < length before) → ⊥
-    begun some left = let n = ap length none in let lt = left some in omega (arith, lt, n)
+    by_marked : (n : ℕ) → (0 < n → IsSome before) → n < (pages_by x).count
+    by_marked zero begun = omega (arith, some)
+    by_marked (suc n) begun = absurd (none_pages (subst (λ (o : Option IndexPages). IsSome o) none (begun (omega arith))))
+
+-- some entries were marked, and some are left
+pub fits_marked : (p q : Plan) (pages : Option IndexPages) (count left : ℕ) → FitsPages p pages → IsSome pages → q ≡ with_mark p count left → (left ≡ 0 → ⊥) → marked_in p.stage + count + left ≡ count_at_hand pages
+    → count_at_hand pages ≤ entry_limit → FitsPages q pages
+fits_marked p q pages count left fits some is more all few = subst (λ x. FitsPages x pages) (sym is) (record {
+  named = fits.named;
+  begun = λ _. some;
+  within = λ _. by_stage p.stage (fits.within some) all;
+  few = let lt = by_stage p.stage (fits.within some) all in omega (arith, lt, few);
+})
+  where
+    by_stage : (stage : Stage) → marked_in stage < count_at_hand pages → marked_in stage + count + left ≡ count_at_hand pages → marked_in (marked_at stage count left) < count_at_hand pages
+    by_stage (marking place first) below whole =
+        subst (λ b. marked_in (cond b (marking (place + 1) 0) (marking place (first + count))) < count_at_hand pages) (sym (ne_eqb left 0 more)) (omega (arith, whole, more))
+    by_stage (sweeping names) below whole = below
+
+-- all of an index were marked
+pub fits_over : (p q : Plan) (pages : Option IndexPages) (count left : ℕ) → FitsPages p pages → q ≡ with_mark p count left → left ≡ 0 → FitsPages q None
+fits_over p q pages count left fits is none =
+    fits_none p q pages fits (is ∙ ap (λ stage. record p { stage = stage }) (over_left p.stage count left (eq-eqb left 0 none)))
 
 -- ---- what a mark does
 
-module _ (before after_ : Book) (old new : Collector) (moment count rest : ℕ) (slice : List Digest32) (rest_is : rest ≡ length old.entries.items - marked_in (old.plan).stage)
-    (count_is : count ≡ min rest mark_limit) (slice_is : slice ≡ take count (drop (marked_in (old.plan).stage) old.entries.items)) where
-  whole_left : length (entries_left old) ≡ rest
-  whole_left = omega (arith, rest_is, length-drop (marked_in (old.plan).stage) old.entries.items)
+pub never_none : (o : Option IndexPages) → o ≡ None → IsSome o → ⊥
+never_none o is some = none_pages (subst (λ (q : Option IndexPages). IsSome q) is some)
 
-  count_now : count ≡ length (marked_now old)
-  count_now = omega (arith, whole_left, count_is, length-take mark_limit (entries_left old))
+-- how many are left of the index
+pub left_is : (c : Collector) (q : IndexPages) (first count : ℕ) → c.pages ≡ Some q → first ≡ marked_in (c.plan).stage → count ≡ (pages_by q).count → count - first ≡ entries_left c
+left_is c q first count had begins many = ap₂ (λ n k. n - k) (many ∙ sym (ap count_at_hand had)) begins
 
-  left_now : rest - count ≡ length (left_then old)
-  left_now = omega (arith, whole_left, count_is, length-drop mark_limit (entries_left old))
+module _ (before after_ : Book) (old new : Collector) (digests : List Digest32) (moment count rest : ℕ) (rest_is : rest ≡ entries_left old) (count_is : count ≡ min rest mark_limit) where
+  pages_now : (b : Bool) → (left_then old == 0) ≡ b → cond (count == rest) None old.pages ≡ cond b None old.pages
+  pages_now true none =
+      let all = eqb-true (left_then old) 0 none in
+      ap (λ b. cond b None old.pages) (eq-eqb count rest (omega (arith, rest_is, count_is, all)))
+  pages_now false some =
+      ap (λ b. cond b None old.pages)
+      (ne_eqb count rest (λ same. absurd (some_then (left_then old) some (omega (arith, rest_is, count_is, same)))))
+    where
+      some_then : (n : ℕ) → (n == 0) ≡ false → n ≡ 0 → ⊥
+      some_then n more none = true≢false (sym (eq-eqb n 0 none) ∙ more)
 
-  slice_now : slice ≡ marked_now old
-  slice_now =
-      let least : count ≡ min mark_limit (length (entries_left old)) = omega (arith, whole_left, count_is) in
-      slice_is ∙ ap (λ n. take n (entries_left old)) least ∙ take_min mark_limit (entries_left old)
-
-  entries_now : (xs : List Digest32) → left_then old ≡ xs → cond (count == rest) [] old.entries.items ≡ at_hand_then xs old.entries.items
-  entries_now [] is =
-      let none = ap length is in
-      let same : count ≡ rest = omega (arith, whole_left, count_is, none, length-drop mark_limit (entries_left old)) in
-      ap (λ b. cond b [] old.entries.items) (eq-eqb count rest same)
-  entries_now (x ∷ xs) is =
-      let some = ap length is in
-      let over : rest ≡ length xs + 1 + mark_limit = omega (arith, whole_left, some, length-drop mark_limit (entries_left old)) in
-      ap (λ b. cond b [] old.entries.items) (ne_eqb count rest (λ e. omega (arith, e, over, count_is)))
-
-  pub marks_some : TouchesEach before after_ slice moment → new.lane ≡ old.lane → new.ended ≡ old.ended → new.plan ≡ with_mark old.plan count (rest - count)
-      → new.entries.items ≡ cond (count == rest) [] old.entries.items → left_of new.plan < left_of old.plan → MarksSome before after_ old new moment
-  marks_some touches lane ended plan entries less = record {
-    touches = subst (λ ds. TouchesEach before after_ ds moment) slice_now touches;
-    lane = lane;
-    ended = ended;
-    plan = plan ∙ ap₂ (λ n m. with_mark old.plan n m) count_now left_now;
-    entries = entries ∙ entries_now (left_then old) refl;
-    less = less;
-  }
+  pub marks_some : TouchesEach before after_ digests moment → new.lane ≡ old.lane → new.ended ≡ old.ended → new.plan ≡ with_mark old.plan count (rest - count)
+      → new.pages ≡ cond (count == rest) None old.pages → left_of new.plan < left_of old.plan → MarksSome before after_ old new digests moment
+  marks_some touches lane ended plan pages less =
+      let now : count ≡ marked_now old = omega (arith, rest_is, count_is) in
+      let left : rest - count ≡ left_then old = omega (arith, rest_is, count_is) in record {
+        touches = touches;
+        lane = lane;
+        ended = ended;
+        plan = plan ∙ ap₂ (λ n m. with_mark old.plan n m) now left;
+        pages = pages ∙ pages_now (left_then old == 0) refl;
+        less = less;
+      }
 
 module _ (catalogue : List Listed) (snapshots : List Snapshot) where
   abbrev unmarked : List IndexAt → Stage → List Unmarked
@@ -246,97 +266,98 @@ module _ (catalogue : List Listed) (snapshots : List Snapshot) where
         to_visit = ap (λ (q : Plan). visits_by q.stage) over.plan ∙ visits_marked p.stage 0 0 ∙ h.to_visit;
         removed = ap (λ (q : Plan). q.removed) over.plan ∙ h.removed;
         few = subst (λ (q : Plan). FitsRemoved q.stage q.removed) (sym over.plan) (few_marked p.stage 0 0 p.removed h.few);
-        entries = λ some. absurd (some over.none);
+        pages = subst (λ (o : Option IndexPages). IfSome o (λ q. HasPages catalogue snapshots q (next_index new.plan))) (sym over.none) tt;
         numbers = subst (λ (q : Plan). All (HasNumber acts) q.indexes) (sym over.plan) h.numbers;
       }
 
-  -- ---- an index whose digests are at hand
+  -- ---- an index whose pages are at hand
 
-  pub begins_with : (c : Collector) (i : IndexAt) (k : Kept) (us : List Unmarked) → next_index c.plan ≡ Some i → kept_at i.snapshot catalogue ≡ Some k
-      → digests_named k.key i.name snapshots ≡ bytes_of c.entries → (c.entries.items ≡ [] → ⊥) → unmarked (c.plan).indexes (c.plan).stage ≡ us → BeginsWith catalogue snapshots c us
-  begins_with c i k us at there digests some shown =
+  pub begins_with : (c : Collector) (i : IndexAt) (k : Kept) (q : IndexPages) (digests : List Digest32) (us : List Unmarked) → next_index c.plan ≡ Some i → kept_at i.snapshot catalogue ≡ Some k → c.pages ≡ Some q
+      → HasAll snapshots k i q → bytes_of digests ≡ marked_from (marked_in (c.plan).stage) (all_of k i snapshots) → unmarked (c.plan).indexes (c.plan).stage ≡ us → BeginsWith catalogue snapshots c digests us
+  begins_with c i k q digests us at there had all are shown =
       let first = marked_in (c.plan).stage in
-      let bytes : Digest32 → List ℕ = λ d. d.0 in
-      let left : left_at catalogue snapshots first i ≡ record { key = k.key; name = i.name; digests = map bytes (drop first c.entries.items) } ∷ [] =
+      let ds = all_of k i snapshots in
+      let many : count_at_hand c.pages ≡ length ds = ap count_at_hand had ∙ all.count in
+      let below = (c.fits).within (ap is_some had) in
+      let left : left_at catalogue snapshots first i ≡ record { key = k.key; name = i.name; digests = drop first ds } ∷ [] =
       ap (left_of_kept snapshots i.name first) there
-      ∙ ap (λ ds. unmarked_of k.key i.name (drop first ds)) digests
-      ∙ ap (unmarked_of k.key i.name) (drop-map bytes first c.entries.items)
-      ∙ unmarked_some k.key i.name (map bytes (drop first c.entries.items)) (left_some first c.entries.items (c.fits).within some) in record {
+      ∙ unmarked_some k.key i.name (drop first ds) (left_some first ds (omega (arith, below, many))) in record {
         index = i;
         kept = k;
         next = at;
         there = there;
-        digests = digests;
+        all = subst (λ (o : Option IndexPages). IsSomeAnd o (HasAll snapshots k i)) (sym had) all;
+        digests_are = are;
         begins = sym shown ∙ first_left (c.plan).indexes (c.plan).stage i at ∙ ap (λ xs. xs ++ behind_next catalogue snapshots c.plan) left;
       }
 
   -- ---- a mark
 
-  module _ (acts : ℕ) (w : Swept) (sweep : Sweep) (before after_ : Book) (e f : Collector) (moment : ℕ) (marks : MarksSome before after_ e f moment)
-      (shown : ShowsSweep acts catalogue snapshots e sweep) (b : BeginsWith catalogue snapshots e sweep.unmarked) where
-    abbrev bytes : Digest32 → List ℕ
-    bytes d = d.0
+  module _ (acts : ℕ) (w : Swept) (sweep : Sweep) (before after_ : Book) (e f : Collector) (digests : List Digest32) (moment : ℕ) (marks : MarksSome before after_ e f digests moment)
+      (shown : ShowsSweep acts catalogue snapshots e sweep) (b : BeginsWith catalogue snapshots e digests sweep.unmarked) where
+    abbrev ds : List (List ℕ)
+    ds = all_of b.kept b.index snapshots
+
+    abbrev done : ℕ
+    done = marked_in (e.plan).stage
 
     abbrev first : Unmarked
-    first = record { key = (b.kept).key; name = (b.index).name; digests = map bytes (entries_left e) }
+    first = record { key = (b.kept).key; name = (b.index).name; digests = drop done ds }
 
     abbrev p : Plan
     p = e.plan
 
     abbrev count : ℕ
-    count = length (marked_now e)
+    count = marked_now e
 
-    abbrev done : ℕ
-    done = marked_in p.stage
+    abbrev left : ℕ
+    left = left_then e
 
-    none_zero : (xs : List Digest32) → xs ≡ [] → (length xs == 0) ≡ true
-    none_zero xs none = eq-eqb (length xs) 0 (ap length none)
+    -- the pages at hand are those of the index
+    had : (o : Option IndexPages) → IsSomeAnd o (HasAll snapshots b.kept b.index) → (count_at_hand o ≡ length ds) × IfSome o (λ q. ArePages snapshots (b.index).name q (Some b.kept))
+    had None none = absurd none
+    had (Some q) all = (all.count, all.pages)
 
-    some_zero : (x : Digest32) (xs : List Digest32) → left_then e ≡ x ∷ xs → (length (left_then e) == 0) ≡ false
-    some_zero x xs is = ne_eqb (length (left_then e)) 0 (λ none. let two = ap length is in omega (arith, none, two))
+    many : left ≡ length ds - done - mark_limit
+    many = let n = (had e.pages b.all).0 in omega (arith, n)
 
-    -- a whole mark is of the limit
-    whole : (x : Digest32) (xs : List Digest32) → left_then e ≡ x ∷ xs → count ≡ mark_limit
-    whole x xs is =
-        let two = ap length is in
-        omega (arith, two, length-take mark_limit (entries_left e), length-drop mark_limit (entries_left e))
-
-    left_is : (x : Digest32) (xs : List Digest32) → left_then e ≡ x ∷ xs → left_at catalogue snapshots (done + count) (b.index) ≡ unmarked_of (b.kept).key (b.index).name (drop mark_limit (map bytes (entries_left e)))
-    left_is x xs is =
+    left_stays : (left == 0) ≡ false → left_at catalogue snapshots (done + count) (b.index) ≡ unmarked_of (b.kept).key (b.index).name (drop mark_limit (drop done ds))
+    left_stays some =
+        let whole : count ≡ mark_limit = whole_mark left some (λ more. omega (arith, more)) in
         ap (left_of_kept snapshots (b.index).name (done + count)) b.there
-        ∙ ap (λ ds. unmarked_of (b.kept).key (b.index).name (drop (done + count) ds)) b.digests
-        ∙ ap (λ n. unmarked_of (b.kept).key (b.index).name (drop (done + n) (map bytes e.entries.items))) (whole x xs is)
-        ∙ ap (unmarked_of (b.kept).key (b.index).name) (sym (drop-drop mark_limit done (map bytes e.entries.items)) ∙ ap (drop mark_limit) (drop-map bytes done e.entries.items))
+        ∙ ap (λ n. unmarked_of (b.kept).key (b.index).name (drop (done + n) ds)) whole
+        ∙ ap (unmarked_of (b.kept).key (b.index).name) (sym (drop-drop mark_limit done ds))
+      where
+        -- a mark that leaves some is of the limit
+        whole_mark : (n : ℕ) → (n == 0) ≡ false → ((n ≡ 0 → ⊥) → count ≡ mark_limit) → count ≡ mark_limit
+        whole_mark n more go = go (λ none. true≢false (sym (eq-eqb n 0 none) ∙ more))
 
-    marked_left : (xs : List Digest32) → left_then e ≡ xs
-        → unmarked p.indexes (marked_at p.stage count (length (left_then e))) ≡ unmarked_of (b.kept).key (b.index).name (drop mark_limit (map bytes (entries_left e))) ++ behind_next catalogue snapshots p
-    marked_left [] is =
-        let none : drop mark_limit (map bytes (entries_left e)) ≡ [] = drop-map bytes mark_limit (entries_left e) ∙ ap (map bytes) is in
-        ap (unmarked p.indexes) (over_left p.stage count (length (left_then e)) (none_zero (left_then e) is))
+    marked_left : (t : Bool) → (left == 0) ≡ t → unmarked p.indexes (marked_at p.stage count left) ≡ unmarked_of (b.kept).key (b.index).name (drop mark_limit (drop done ds)) ++ behind_next catalogue snapshots p
+    marked_left true over =
+        let none : drop mark_limit (drop done ds) ≡ [] = drop_all mark_limit (drop done ds) (omega (arith, eqb-true left 0 over, many, length-drop done ds)) in
+        ap (unmarked p.indexes) (over_left p.stage count left over)
         ∙ sym (ap (λ us. us ++ behind_next catalogue snapshots p) (unmarked_none (b.kept).key (b.index).name _ none))
-    marked_left (x ∷ xs) is =
-        later_left p.indexes p.stage b.index count (length (left_then e)) b.next (some_zero x xs is)
-        ∙ ap (λ us. us ++ behind_next catalogue snapshots p) (left_is x xs is)
+    marked_left false some =
+        later_left p.indexes p.stage b.index count left b.next some ∙ ap (λ us. us ++ behind_next catalogue snapshots p) (left_stays some)
 
-    entries_then : (xs : List Digest32) → left_then e ≡ xs → (f.entries.items ≡ [] → ⊥) → HasEntries catalogue snapshots f.entries.items (next_index f.plan)
-    entries_then [] is some = absurd (some (marks.entries ∙ ap (λ ds. at_hand_then ds e.entries.items) is))
-    entries_then (x ∷ xs) is some =
-        let next : next_index f.plan ≡ Some b.index =
-        ap next_index marks.plan ∙ same_index p.indexes p.stage count (length (left_then e)) (some_zero x xs is) ∙ b.next in
-        let are : AreEntries snapshots (b.index).name e.entries.items (Some b.kept) = sym b.digests in
-        subst (HasEntries catalogue snapshots f.entries.items) (sym next)
-        (subst (λ ds. HasEntries catalogue snapshots ds (Some b.index)) (sym (marks.entries ∙ ap (λ ds. at_hand_then ds e.entries.items) is))
-        (subst (AreEntries snapshots (b.index).name e.entries.items) (sym b.there) are))
+    pages_then : (t : Bool) → (left == 0) ≡ t → IfSome f.pages (λ q. HasPages catalogue snapshots q (next_index f.plan))
+    pages_then true over =
+        subst (λ (o : Option IndexPages). IfSome o (λ q. HasPages catalogue snapshots q (next_index f.plan))) (sym (marks.pages ∙ ap (λ t. cond t None e.pages) over)) tt
+    pages_then false some =
+        let next : next_index f.plan ≡ Some b.index = ap next_index marks.plan ∙ same_index p.indexes p.stage count left some ∙ b.next in
+        subst (λ (o : Option IndexPages). IfSome o (λ q. HasPages catalogue snapshots q (next_index f.plan))) (sym (marks.pages ∙ ap (λ t. cond t None e.pages) some))
+        (subst (λ (i : Option IndexAt). IfSome e.pages (λ q. HasPages catalogue snapshots q i)) (sym next)
+        (subst (λ (k : Option Kept). IfSome e.pages (λ q. ArePages snapshots (b.index).name q k)) (sym b.there) (had e.pages b.all).1))
 
     -- the plan shows the sweep after its next mark
     pub marked_shows : ShowsSweep acts catalogue snapshots f (passed w sweep (first ∷ behind_next catalogue snapshots p))
     marked_shows = record {
       start = ap (λ (q : Plan). q.start) marks.plan ∙ shown.start;
       cutoff = ap (λ (q : Plan). q.cutoff) marks.plan ∙ shown.cutoff;
-      unmarked = ap (λ (q : Plan). unmarked q.indexes q.stage) marks.plan ∙ marked_left (left_then e) refl;
-      to_visit = ap (λ (q : Plan). visits_by q.stage) marks.plan ∙ visits_marked p.stage count (length (left_then e)) ∙ shown.to_visit;
+      unmarked = ap (λ (q : Plan). unmarked q.indexes q.stage) marks.plan ∙ marked_left (left == 0) refl;
+      to_visit = ap (λ (q : Plan). visits_by q.stage) marks.plan ∙ visits_marked p.stage count left ∙ shown.to_visit;
       removed = ap (λ (q : Plan). q.removed) marks.plan ∙ shown.removed;
-      few = subst (λ (q : Plan). FitsRemoved q.stage q.removed) (sym marks.plan) (few_marked p.stage count (length (left_then e)) p.removed shown.few);
-      entries = entries_then (left_then e) refl;
+      few = subst (λ (q : Plan). FitsRemoved q.stage q.removed) (sym marks.plan) (few_marked p.stage count left p.removed shown.few);
+      pages = pages_then (left == 0) refl;
       numbers = subst (λ (q : Plan). All (HasNumber acts) q.indexes) (sym marks.plan) shown.numbers;
     }

@@ -1,43 +1,44 @@
--- What is read of an index: its digests, or that there is none.
-use Rattle.std.proofs.Common.{◌≡◌, ◌<◌, ◌≤◌, ◌+◌, ◌==◌, ◌||◌, ℕ, Bool, true, false, List, [], ◌∷◌, ◌++◌, get_or, length, map, option_map, Option, Some, None, Result, Ok, Err, refl, sym, ap, subst, ◌∙◌, arith}
+-- What is read of an index: its next digests, or that it is unreadable.
+use Rattle.std.proofs.Common.{◌≡◌, ◌<◌, ◌+◌, ◌==◌, ◌||◌, inl, inr, ℕ, zero, suc, Bool, true, false, cond, List, [], ◌∷◌, get_or, length, map, option_map, Option, Some, None, IsSomeAnd, Result, Ok, Err, refl, sym, ap, subst, ◌∙◌, arith}
 use Rattle.std.specs.FinMap.{get}
 use Rattle.std.specs.List.{find}
+use Rattle.std.proofs.lemmas.List.{length-map}
 use Rattle.disk_trait.specs.Files.{Files}
 use Rattle.sha2.specs.Sha256.{sha256}
-use Rattle.std.proofs.lemmas.List.{length-map, map_push}
-use Rattle.store_types.specs.Chain.Refusing.{◌>>=◌}
-use Rattle.store_types.specs.declared.names.Digest32.{Digest32}
 use Rattle.store_types.specs.FileNames.{is_blob_name, is_dynamic_name, is_fixed_name, is_index_name}
 use Rattle.store_types.specs.declared.refusal.Refusal.{Refusal}
-use Rattle.store_types.specs.declared.refusal.Refusal.TheVariants.{Unreadable}
-use Rattle.store_files.specs.Archive.{Archive, Content, archive, blob, Snapshot, archive_text, ends_from, file_text}
+use Rattle.store_files.specs.Archive.{Content, File, archive, archive_text, blob, Snapshot, ends_from, file_named, file_text}
 use Rattle.store_files.specs.DynamicIndex.{Ended}
+use Rattle.store_files.specs.Folder.{file_path}
 use Rattle.store_model.specs.Stands.{FitsContent, StandsFor, keys_rise, names_content}
 use Rattle.store_model.specs.Store.{snapshot_named}
-use Rattle.store_model.specs.WriterSteps.{part_of}
-use Rattle.store_stops.specs.Stops.{Gives}
+use Rattle.store_stops.specs.declared.stop.Stop.{Stop}
+use Rattle.store_stops.specs.declared.stop.Stop.TheVariants as stops
 use Rattle.paged_indexes.specs.declared.kinds.IndexKind.{IndexKind}
 use Rattle.paged_indexes.specs.declared.index.IndexPages.{IndexPages}
-use Rattle.paged_indexes.specs.Index.{entries_in}
-use Rattle.snapshot_files.specs.Indexes.{Indexed, index_at, index_opened, kind_of_index, layout_kind}
-use Rattle.store_stops.specs.declared.stop.Stop.{Stop}
-use Rattle.store_stops.specs.declared.stop.Stop.TheVariants as errors
+use Rattle.paged_indexes.specs.Index.{entries_in, pages_by}
+use Rattle.paged_indexes.specs.Laws.{IsIndex}
+use Rattle.paged_indexes.proofs.PagesRead.{opened_is_index}
+use Rattle.restore_reader.specs.Shown.{pages_of}
+use Rattle.snapshot_files.specs.Indexes.{index_opened, kind_of_index}
 use Rattle.snapshot_files.proofs.Archives.{archive_read, blob_no_dynamic, blob_no_fixed, layout_index}
-use Rattle.snapshot_files.proofs.Indexed.{at_nothing, at_text, index_is, no_index}
-use Rattle.snapshot_files.proofs.Opened.{unopened_at}
+use Rattle.snapshot_files.proofs.Opened.{opened_there, unopened_there}
 use Rattle.gc_plan.specs.declared.IndexAt.{IndexAt}
 use Rattle.store_history.specs.Sweeping.{digests_of}
 use Rattle.store_history.proofs.Found.{each_named}
 use Rattle.core_state.specs.declared.kept.Kept.{Kept}
 use Rattle.core_state.specs.declared.kept.Listed.{Listed}
 use Rattle.core_state.specs.Found.{kept_named, path_in, path_of_kept}
-use Rattle.core_state.specs.Shown.{shown_snapshot}
-use Rattle.core_state.specs.Sweeps.{digests_in, digests_named, kept_at}
+use Rattle.core_state.specs.Shown.{files_named, shown_snapshot}
+use Rattle.core_state.specs.Sweeps.{ArePages, digests_in, digests_named, kept_at}
 use Rattle.core_state.proofs.Finding.{found_in, mapped}
 use Rattle.core_state.proofs.Found.{IsThere, is_there, kept_is, not_there, there_fits, there_kind, there_named, there_text}
-use Rattle.core_collect.specs.Marking.{Reads, digests_read, path_at}
+use Rattle.core_state.proofs.KeptPages.{index_is_kept, kept_is as pages_kept, opens_as}
+use Rattle.core_collect.specs.Entries.{bytes_of, entry_digests, marked_from, next_read}
+use Rattle.core_collect.specs.Marking.{Standing, TellsStanding, UnreadBy, first_standing, marked_next, passed_over, path_at, standing_as, standing_by, unreadable}
+use Rattle.core_collect.specs.declared.marking.Opened.{Opened}
 use Rattle.core_collect.specs.declared.marking.Unread.{Unread}
-use Rattle.core_collect.specs.declared.marking.Unread.TheVariants as unreads
+use Rattle.core_collect.proofs.Batches.{next_is}
 use Rattle.core_collect.proofs.Lists.{each_like}
 
 -- ---- an index of the plain store
@@ -45,22 +46,6 @@ use Rattle.core_collect.proofs.Lists.{each_like}
 digests_end : (start : ℕ) (pieces : List (List ℕ)) → map (λ (e : Ended). e.digest) (ends_from start pieces) ≡ map sha256 pieces
 digests_end start [] = refl
 digests_end start (p ∷ ps) = ap (λ ds. sha256 p ∷ ds) (digests_end (start + length p) ps)
-
-abbrev digests_by : Result Indexed Refusal → Result (List (List ℕ)) Refusal
-digests_by r = r >>= λ x. Ok (map (λ e. e.digest) x.entries)
-
-read_as : (m : Files) (path : List ℕ) (b : IndexKind) (r : Result Indexed Refusal) → index_at m path b 0 ≡ r → digests_read m path b ≡ digests_by r
-unfolding digests_read
-read_as m path b r is = ap digests_by is
-
-archive_digests : (m : Files) (path : List ℕ) (a : Archive) → FitsContent (archive a) → get m path ≡ Some (archive_text a) → digests_read m path (layout_kind a.layout) ≡ Ok (digests_of (archive a))
-archive_digests m path a fits there =
-    let b = layout_kind a.layout in
-    let text = archive_text a in
-    let es = ends_from 0 a.pieces in
-    let x : Indexed = record { part = part_of text 0; entries = es } in
-    read_as m path b (Ok x) (at_text m path b 0 text there ∙ index_is path b text 0 es (omega arith) (archive_read a fits))
-    ∙ ap (λ ds. let r : Result (List (List ℕ)) Refusal = Ok ds in r) (digests_end 0 a.pieces)
 
 no_blob : (name : List ℕ) → is_blob_name name ≡ true → is_index_name name ≡ true → ⊥
 no_blob name kind index = by_tests (is_fixed_name name) (is_dynamic_name name) (blob_no_fixed name kind) (blob_no_dynamic name kind) index
@@ -70,12 +55,41 @@ no_blob name kind index = by_tests (is_fixed_name name) (is_dynamic_name name) (
     by_tests false true e f h = cc
     by_tests true b e f h = cc
 
--- what stands there is an index's text
-content_digests : (m : Files) (path name : List ℕ) (c : Content) → names_content c name ≡ true → is_index_name name ≡ true → FitsContent c → get m path ≡ Some (file_text c)
-    → digests_read m path (kind_of_index name) ≡ Ok (digests_of c)
-unfolding file_text
-content_digests m path name (blob bytes) kind index fits there = absurd (no_blob name kind index)
-content_digests m path name (archive a) kind index fits there = ap (digests_read m path) (layout_index a name kind) ∙ archive_digests m path a fits there
+-- What stands there is an index, with the digests of the snapshot's file. What an opening keeps of it is what is kept of that file, and its
+-- pages are read by that.
+pub record IsPlain (m : Files) (snapshots : List Snapshot) (k : Kept) (name path : List ℕ) : Type 0 where
+  pub text : List ℕ
+  pub entries : List Ended
+  pub there : get m path ≡ Some text
+  pub read : entries_in (kind_of_index name) text ≡ Some entries
+  pub digests : entry_digests entries ≡ digests_named k.key name snapshots
+  pub opens : (p : IndexPages) → index_opened m path (kind_of_index name) ≡ Ok p → ArePages snapshots name p (Some k)
+  pub is_index : (p : IndexPages) → ArePages snapshots name p (Some k) → IsIndex m p entries
+
+module _ (m : Files) (snapshots : List Snapshot) (k : Kept) (name path : List ℕ) (t : IsThere snapshots k.key name path) where
+  abbrev IsOf : IndexPages → File → Type 0
+  IsOf p f = p ≡ pages_of name (file_path k.key name) (file_text f.content)
+
+  plain_by : (c : Content) → (t.file).content ≡ c → names_content c name ≡ true → is_index_name name ≡ true → FitsContent c → get m path ≡ Some (file_text c) → IsPlain m snapshots k name path
+  unfolding file_text
+  plain_by (blob bytes) is kind index fits there = absurd (no_blob name kind index)
+  plain_by (archive a) is kind index fits there =
+      let named : file_named name (files_named k.key snapshots) ≡ Some t.file = there_named snapshots k.key name path t in
+      let text : file_text (t.file).content ≡ file_text (archive a) = ap file_text is in record {
+        text = archive_text a;
+        entries = ends_from 0 a.pieces;
+        there = there;
+        read = ap (λ q. entries_in q (archive_text a)) (layout_index a name kind) ∙ archive_read a fits;
+        digests = digests_end 0 a.pieces ∙ sym (ap digests_in named ∙ ap digests_of is);
+        opens = λ p opened.
+            subst (λ o. IsSomeAnd o (IsOf p)) (sym named)
+            (pages_kept m snapshots k.key name path t a there p (opens_as m path (kind_of_index name) p opened)
+            ∙ sym (ap (pages_of name (file_path k.key name)) text));
+        is_index = λ p are.
+            let of_file : IsOf p t.file = subst (λ o. IsSomeAnd o (IsOf p)) named are in
+            let is_kept = of_file ∙ ap (pages_of name (file_path k.key name)) text in
+            subst (λ q. IsIndex m q (ends_from 0 a.pieces)) (sym is_kept) (index_is_kept m snapshots k.key name path t a there fits kind);
+      }
 
 -- ---- by the catalogue
 
@@ -105,71 +119,67 @@ module _ (catalogue : List Listed) (snapshots : List Snapshot) (same : map (λ x
     pub no_digests : path_at i catalogue ≡ None → digests_named k.key i.name snapshots ≡ []
     no_digests missing = ap digests_in (not_there i.name catalogue snapshots k.key same (path_same ∙ missing))
 
-    -- its index is read as its digests
-    pub index_digests : (m : Files) (path : List ℕ) → StandsFor m snapshots → is_index_name i.name ≡ true → path_at i catalogue ≡ Some path
-        → digests_read m path (kind_of_index i.name) ≡ Ok (digests_named k.key i.name snapshots)
-    index_digests m path stands index found =
+    -- and its index is read so
+    pub index_plain : (m : Files) (path : List ℕ) → StandsFor m snapshots → is_index_name i.name ≡ true → path_at i catalogue ≡ Some path → IsPlain m snapshots k i.name path
+    index_plain m path stands index found =
         let there : IsThere snapshots k.key i.name path = is_there i.name catalogue snapshots k.key path same (path_same ∙ found) in
-        content_digests m path i.name (there.file).content (there_kind snapshots k.key i.name path there stands.each) index (there_fits snapshots k.key i.name path there stands.each)
+        plain_by m snapshots k i.name path there (there.file).content refl (there_kind snapshots k.key i.name path there stands.each) index (there_fits snapshots k.key i.name path there stands.each)
         (there_text m snapshots k.key i.name path there stands.files)
-        ∙ sym (ap (λ o. let r : Result (List (List ℕ)) Refusal = Ok (digests_in o) in r) (there_named snapshots k.key i.name path there))
+
+some_none : (es : List Ended) → ◌≡◌ {A = Option (List Ended)} (Some es) None → ⊥
+some_none es e = cc
+
+-- it is opened
+pub plain_opens : (m : Files) (snapshots : List Snapshot) (k : Kept) (name path : List ℕ) (refusal : Refusal) → IsPlain m snapshots k name path → index_opened m path (kind_of_index name) ≡ Err refusal → ⊥
+plain_opens m snapshots k name path refusal plain is =
+    some_none plain.entries (sym plain.read ∙ (unopened_there m path (kind_of_index name) refusal plain.text plain.there is).0)
+
+-- the pages at hand are as many entries' as there are, of which the next are its digests
+pub plain_count : (m : Files) (snapshots : List Snapshot) (k : Kept) (name path : List ℕ) (p : IndexPages) → IsPlain m snapshots k name path → ArePages snapshots name p (Some k)
+    → (pages_by p).count ≡ length (digests_named k.key name snapshots)
+plain_count m snapshots k name path p plain are =
+    (plain.is_index p are).count ∙ sym (length-map plain.entries (λ (e : Ended). e.digest)) ∙ ap length plain.digests
+
+pub plain_next : (m : Files) (snapshots : List Snapshot) (k : Kept) (name path : List ℕ) (p : IndexPages) (first : ℕ) → IsPlain m snapshots k name path → ArePages snapshots name p (Some k) → first < (pages_by p).count
+    → next_read m path p first ≡ Ok (marked_from first (digests_named k.key name snapshots))
+plain_next m snapshots k name path p first plain are below =
+    let is = plain.is_index p are in
+    next_is m path p plain.entries is first (subst (λ n. first < n) is.count below)
+    ∙ ap (λ ds. let r : Result (List (List ℕ)) Refusal = Ok (marked_from first ds) in r) plain.digests
 
 -- ---- by what was read
 
-err_same : (a b : Refusal) → ◌≡◌ {A = Result Indexed Refusal} (Err a) (Err b) → a ≡ b
-err_same a b e = cc
+-- why it is not read is handed on
+pub told_unread : {A : Type 0} (how : A → Standing) (stands : Standing) (path : List ℕ) (stop : Stop) (unread : Unread) → UnreadBy path stop unread
+    → ((refusal : Refusal) → stop ≡ stops.Refused refusal → stands ≡ unreadable path) → TellsStanding how stands (Err unread)
+told_unread how stands path (stops.Refused refusal) unread (inl is) told = subst (λ u. TellsStanding how stands (Err u)) (sym is) tt
+told_unread how stands path (stops.Refused refusal) unread (inr is) told = subst (λ u. TellsStanding how stands (Err u)) (sym is) (told refusal refl)
+told_unread how stands path stops.NoMemory unread is told = subst (λ u. TellsStanding how stands (Err u)) (sym is) tt
+told_unread how stands path stops.DiskFailed unread is told = subst (λ u. TellsStanding how stands (Err u)) (sym is) tt
 
-ok_err : (x : Indexed) (r : Refusal) → ◌≡◌ {A = Result Indexed Refusal} (Ok x) (Err r) → ⊥
-ok_err x r e = cc
+some_more : (n : ℕ) → (n == 0) ≡ false → 0 < n
+some_more zero e = cc
+some_more (suc n) e = omega arith
 
--- from the first byte on no range is refused
-only_unreadable : (m : Files) (path : List ℕ) (b : IndexKind) (r : Refusal) → index_at m path b 0 ≡ Err r → r ≡ Unreadable path
-only_unreadable m path b r is = by_text (get m path) refl
+-- it was opened, and these are its first digests
+pub opened_stands : (m : Files) (path : List ℕ) (kind : IndexKind) (x : Opened) → index_opened m path kind ≡ Ok x.pages
+    → ((text : List ℕ) (entries : List Ended) → get m path ≡ Some text → entries_in kind text ≡ Some entries → bytes_of x.digests.items ≡ marked_from 0 (entry_digests entries))
+    → standing_as m path (index_opened m path kind) ≡ first_standing x
+opened_stands m path kind x opened taken =
+    let there = opened_there m path kind x.pages opened in
+    let es = there.entries in
+    let p = x.pages in
+    let is = opened_is_index m path there.text kind p es there.there (opens_as m path kind p opened) there.read in
+    ap (standing_as m path) opened ∙ by_count p es is (taken there.text es there.there there.read) ((pages_by p).count == 0) refl
   where
-    by_entries : (text : List ℕ) (o : Option (List Ended)) → get m path ≡ Some text → entries_in b text ≡ o → r ≡ Unreadable path
-    by_entries text None there none = err_same r (Unreadable path) (sym is ∙ at_text m path b 0 text there ∙ no_index path b text 0 (omega arith) none)
-    by_entries text (Some es) there some =
-        absurd (ok_err (record { part = part_of text 0; entries = es }) r (sym (index_is path b text 0 es (omega arith) some) ∙ sym (at_text m path b 0 text there) ∙ is))
-
-    by_text : (o : Option (List ℕ)) → get m path ≡ o → r ≡ Unreadable path
-    by_text None none = err_same r (Unreadable path) (sym is ∙ at_nothing m path b 0 none)
-    by_text (Some text) there = by_entries text (entries_in b text) there refl
-
-pub unreadable_read : (m : Files) (path : List ℕ) (b : IndexKind) (r : Refusal) → index_at m path b 0 ≡ Err r → digests_read m path b ≡ Err (Unreadable path)
-unreadable_read m path b r is =
-    read_as m path b (Err r) is ∙ ap (λ q. let x : Result (List (List ℕ)) Refusal = Err q in x) (only_unreadable m path b r is)
-
-abbrev pub IsRefusal : Stop → Type 0
-IsRefusal (errors.Refused r) = Unit {0}
-IsRefusal errors.NoMemory = ⊥
-IsRefusal errors.DiskFailed = ⊥
-
--- the digests that were read
-pub digests_given : (m : Files) (path : List ℕ) (b : IndexKind) (x : Indexed) (ds : List (List ℕ)) → index_at m path b 0 ≡ Ok x → ds ≡ map (λ (e : Ended). e.digest) x.entries → digests_read m path b ≡ Ok ds
-digests_given m path b x ds is same = read_as m path b (Ok x) is ∙ ap (λ q. let r : Result (List (List ℕ)) Refusal = Ok q in r) (sym same)
-
--- ---- the digests of entries
-
-abbrev bytes : Digest32 → List ℕ
-bytes d = d.0
-
-abbrev digest_in : Ended → List ℕ
-digest_in e = e.digest
-
--- one entry more
-pub digests_more : (es : List Ended) (e : Ended) (before after_ : List Digest32) (d : Digest32) → after_ ≡ before ++ d ∷ [] → d.0 ≡ e.digest
-    → map bytes before ≡ map digest_in es → map bytes after_ ≡ map digest_in (es ++ e ∷ [])
-digests_more es e before after_ d pushed same so_far =
-    ap (map bytes) pushed ∙ map_push bytes before d ∙ ap (λ ds. ds ++ d.0 ∷ []) so_far ∙ ap (λ x. map digest_in es ++ x ∷ []) same ∙ sym (map_push digest_in es e)
-
--- they are as many as the entries
-pub digests_few : (entries : List Ended) (digests : List Digest32) (limit : ℕ) → map bytes digests ≡ map digest_in entries → length entries ≤ limit → length digests ≤ limit
-digests_few entries digests limit same few = let n = ap length same in omega (arith, few, n, length-map digests bytes, length-map entries digest_in)
-
--- a refused read: no index stands there
-pub refused_read : (m : Files) (path q : List ℕ) (b : IndexKind) (e : Stop) (unread : Unread) → q ≡ path → unread ≡ unreads.Unreadable path → IsRefusal e → Gives (λ (p : IndexPages). p) (Err e) (index_opened m q b)
-    → Reads (digests_read m path b) (Err unread)
-refused_read m path q b (errors.Refused r) unread same is refused gives =
-    subst (λ u. Reads (digests_read m path b) (Err u)) (sym is) (unreadable_read m path b r (ap (λ p. index_at m p b 0) (sym same) ∙ unopened_at m q b r gives))
-refused_read m path q b errors.NoMemory unread same is refused gives = absurd refused
-refused_read m path q b errors.DiskFailed unread same is refused gives = absurd refused
+    by_count : (p : IndexPages) (es : List Ended) → IsIndex m p es → bytes_of x.digests.items ≡ marked_from 0 (entry_digests es) → (b : Bool) → ((pages_by p).count == 0) ≡ b
+        → cond ((pages_by p).count == 0) passed_over (standing_by path p (next_read m path p 0)) ≡ cond ((pages_by p).count == 0) passed_over (marked_next p (bytes_of x.digests.items))
+    by_count p es is taken true none =
+        ap (λ c. cond c passed_over (standing_by path p (next_read m path p 0))) none ∙ sym (ap (λ c. cond c passed_over (marked_next p (bytes_of x.digests.items))) none)
+    by_count p es is taken false some =
+        let count = is.count in
+        let more : 0 < length es = some_more (length es) (ap (λ n. n == 0) (sym count) ∙ some) in
+        ap (λ c. cond c passed_over (standing_by path p (next_read m path p 0))) some
+        ∙ ap (standing_by path p) (next_is m path p es is 0 more)
+        ∙ ap (marked_next p) (sym taken)
+        ∙ sym (ap (λ c. cond c passed_over (marked_next p (bytes_of x.digests.items))) some)

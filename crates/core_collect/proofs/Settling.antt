@@ -1,21 +1,21 @@
 -- The index that is next is passed over, read or unreadable, and the search for the one that is marked.
 use Rattle.disk_trait.specs.declared.disk.Disk.{Ghosts}
-use Rattle.std.proofs.Common.{◌≡◌, ◌⊎◌, ⊎_elim, ◌<◌, ℕ, zero, suc, Bool, true, false, cond, nat_lt, le_refl, le_of_eq, List, [], ◌∷◌, drop, length, map, Option, Some, None, Result, Ok, Err, IsSome, is_some, IsErrAnd, IsErrOf, Vec, Global, vec_len, ◌==◌, true≢false, inl, inr, refl, sym, ap, ap₂, subst, ◌∙◌, arith}
+use Rattle.std.proofs.Common.{◌≡◌, ◌⊎◌, ⊎_elim, ◌<◌, ◌-◌, ◌==◌, ℕ, zero, suc, min, Bool, true, false, cond, nat_lt, le_refl, le_of_eq, List, [], ◌∷◌, drop, length, Option, Some, None, Result, Ok, Err, IfSome, IsSome, is_some, IsErrAnd, IsErrOf, Vec, Global, inl, inr, refl, sym, ap, ap₂, subst, ◌∙◌, arith}
 use Rattle.std.specs.Prelude.{slice_get}
 use Rattle.std.specs.List.{All}
-use Rattle.std.proofs.lemmas.Bool.{eq-eqb, eqb-true, ltb-false}
+use Rattle.std.proofs.lemmas.Bool.{eq-eqb, eqb-true, ltb-false, ne_eqb}
 use Rattle.std.proofs.lemmas.List.{drop_all, nil_from_length}
 use Rattle.std.proofs.lemmas.List.Elements.{All-head, All-tail}
 use Rattle.disk_trait.specs.Effects.{OnlyReads}
 use Rattle.disk_trait.specs.Files.{Files}
 use Rattle.store_types.specs.declared.names.Digest32.{Digest32}
 use Rattle.store_types.specs.declared.refusal.Refusal.{Refusal}
-use Rattle.store_types.specs.declared.refusal.Refusal.TheVariants as refusals
 use Rattle.store_types.specs.FileNames.{is_index_name}
-use Rattle.paged_indexes.specs.declared.kinds.IndexKind.{IndexKind}
-use Rattle.snapshot_files.specs.Indexes.{kind_of_index}
+use Rattle.paged_indexes.specs.declared.index.IndexPages.{IndexPages}
+use Rattle.paged_indexes.specs.Index.{pages_by}
+use Rattle.snapshot_files.specs.Indexes.{index_opened, kind_of_index}
 use Rattle.store_model.specs.Store.{Store}
-use Rattle.gc_plan.specs.Plan.{Plan, Stage, ends_at, index_in, is_over, left_of, mark_in, marked_at, marking, next_index, next_mark, sweeping, with_mark}
+use Rattle.gc_plan.specs.Plan.{Plan, Stage, ends_at, index_in, is_over, left_of, mark_in, mark_limit, marked_at, marking, next_index, next_mark, sweeping, with_mark}
 use Rattle.gc_plan.specs.declared.IndexAt.{IndexAt}
 use Rattle.disk_trait.proofs.OnlyReading.{reads_none, reads_then}
 use Rattle.store_history.specs.Sweeping.{Sweep}
@@ -23,35 +23,56 @@ use Rattle.core_state.specs.declared.collector.Collector.{Collector}
 use Rattle.core_state.specs.declared.kept.Kept.{Kept}
 use Rattle.core_state.specs.declared.kept.Listed.{Listed}
 use Rattle.core_state.specs.declared.parts.Parts.{Parts}
+use Rattle.core_state.specs.Entries.{count_at_hand, marked_in}
 use Rattle.core_state.specs.Found.{path_of_kept}
 use Rattle.core_state.specs.Holds.{Holds}
-use Rattle.core_state.specs.Sweeps.{AreEntries, FitsRemoved, HasEntries, HasNumber, ShowsSweep, digests_named, kept_at, unmarked_by, visits_by}
+use Rattle.core_state.specs.Sweeps.{ArePages, FitsRemoved, HasNumber, HasPages, ShowsSweep, digests_named, kept_at, unmarked_by, visits_by}
 use Rattle.core_state.specs.Unchanged.{SameKept}
 use Rattle.core_state.proofs.Acting.{holds_same}
 use Rattle.core_state.proofs.Finding.{some_same}
-use Rattle.core_collect.specs.Marking.{FindsAfter, FindsNext, GoesFurther, IsSettled, IfUnreadable, MayPass, PassesNext, PassesOver, Reads, SettlesNext, ShowsStill, Standing, StandsAt, at_hand_after, bytes_of, digests_read, indexes_left, marked_next, next_unreadable, passed_by, passed_over, path_at, standing, standing_as, standing_at, unless_passed, unreadable_in}
+use Rattle.core_collect.specs.Entries.{AreNext, bytes_of, marked_from, next_read}
+use Rattle.core_collect.specs.Marking.{FindsAfter, FindsNext, GoesFurther, IsSettled, IfUnreadable, MayPass, PassesNext, PassesOver, SettlesNext, ShowsStill, Standing, StandsAt, TellsStanding, all_of, at_hand_after, first_standing, indexes_left, marked_next, marked_now, next_unreadable, passed_by, passed_over, path_at, standing, standing_as, standing_at, standing_by, unless_passed, unreadable, unreadable_in}
+use Rattle.core_collect.specs.declared.marking.Opened.{Opened}
 use Rattle.core_collect.specs.declared.marking.Unread.{Unread}
 use Rattle.core_collect.specs.declared.marking.Unread.TheVariants.{DiskFailed, NoMemory, Unreadable}
-use Rattle.core_collect.proofs.ReadLemmas.{index_digests, no_digests}
-use Rattle.core_collect.proofs.MarkLemmas.{all_marked, at_place, begins_with, drop_from, mark_there, no_index, passed_shows}
+use Rattle.core_collect.proofs.ReadLemmas.{IsPlain, index_plain, no_digests, plain_count, plain_next, plain_opens}
+use Rattle.core_collect.proofs.MarkLemmas.{all_marked, at_place, begins_with, drop_from, mark_there, no_index, over_zero, passed_shows}
 
 none_some : {A : Type 0} (x : A) → None ≡ Some x → ⊥
 none_some x e = cc
 
-false_true : ◌≡◌ {A = Result Bool Unread} (Ok false) (Ok true) → ⊥
-false_true e = cc
+abbrev Found : Type 0
+Found = Result (Option (Vec Digest32 Global)) Unread
 
-true_false : ◌≡◌ {A = Result Bool Unread} (Ok true) (Ok false) → ⊥
-true_false e = cc
+none_found : (digests : Vec Digest32 Global) → ◌≡◌ {A = Found} (Ok None) (Ok (Some digests)) → ⊥
+none_found digests e = cc
 
-err_ok : (unread : Unread) (found : Bool) → ◌≡◌ {A = Result Bool Unread} (Err unread) (Ok found) → ⊥
+found_none : (digests : Vec Digest32 Global) → ◌≡◌ {A = Found} (Ok (Some digests)) (Ok None) → ⊥
+found_none digests e = cc
+
+found_same : (a b : Vec Digest32 Global) → ◌≡◌ {A = Found} (Ok (Some a)) (Ok (Some b)) → a ≡ b
+found_same a b e = cc
+
+err_ok : (unread : Unread) (found : Option (Vec Digest32 Global)) → ◌≡◌ {A = Found} (Err unread) (Ok found) → ⊥
 err_ok unread found e = cc
 
-ok_same : (a b : List (List ℕ)) → ◌≡◌ {A = Result (List (List ℕ)) Refusal} (Ok a) (Ok b) → a ≡ b
-ok_same a b e = cc
+-- ---- how an index stands
 
-ok_err : (a : List (List ℕ)) (r : Refusal) → ◌≡◌ {A = Result (List (List ℕ)) Refusal} (Ok a) (Err r) → ⊥
-ok_err a r e = cc
+next_same : (p q : IndexPages) (a b : List (List ℕ)) → marked_next p a ≡ marked_next q b → a ≡ b
+next_same p q a b e = cc
+
+next_unread : (p : IndexPages) (a : List (List ℕ)) (path : List ℕ) → marked_next p a ≡ unreadable path → ⊥
+next_unread p a path e = cc
+
+passed_unread : (path : List ℕ) → passed_over ≡ unreadable path → ⊥
+passed_unread path e = cc
+
+passed_next : (p : IndexPages) (a : List (List ℕ)) → passed_over ≡ marked_next p a → ⊥
+passed_next p a e = cc
+
+some_count : (n : ℕ) → (n == 0) ≡ false → 0 < n
+some_count zero e = cc
+some_count (suc n) e = omega arith
 
 at_index : (P : IndexAt → Type 0) (is : List IndexAt) (place : ℕ) (i : IndexAt) → All P is → slice_get is place ≡ Some i → P i
 at_index P [] place i all e = absurd (none_some i e)
@@ -69,18 +90,6 @@ left_from is (sweeping names) i e = absurd (none_some i e)
 none_left : (is : List IndexAt) (stage : Stage) → index_in is stage ≡ None → indexes_left is stage ≡ []
 none_left is (marking place first) e = drop_all place is (at_place is place e)
 none_left is (sweeping names) e = refl
-
-standing_some : (path : List ℕ) (ds : List (List ℕ)) → (ds ≡ [] → ⊥) → standing_as path (Ok ds) ≡ marked_next ds
-standing_some path [] some = absurd (some refl)
-standing_some path (d ∷ ds) some = refl
-
-standing_had : (m : Files) (kind : IndexKind) (entries : List Digest32) (path : List ℕ) → (entries ≡ [] → ⊥) → standing_at m kind entries (Some path) ≡ marked_next (map (λ (d : Digest32). d.0) entries)
-standing_had m kind [] path some = absurd (some refl)
-standing_had m kind (d ∷ ds) path some = refl
-
-bytes_some : (entries : List Digest32) → (entries ≡ [] → ⊥) → map (λ (d : Digest32). d.0) entries ≡ [] → ⊥
-bytes_some [] some e = some refl
-bytes_some (d ∷ ds) some e = cc
 
 kept_there : (i : IndexAt) (catalogue : List Listed) (path : List ℕ) → path_at i catalogue ≡ Some path → (k : Kept) × (kept_at i.snapshot catalogue ≡ Some k)
 kept_there i catalogue path found = from_state (kept_at i.snapshot catalogue) refl found
@@ -105,28 +114,45 @@ module _ {D : Type 0} (d : Ghosts D) (parts : Parts D) where
   catalogue = parts.catalogue.listed
 
   -- no index is next
-  pub none_settles : (c : Collector) → next_index c.plan ≡ None → SettlesNext d parts c c (Ok false)
+  pub none_settles : (c : Collector) → next_index c.plan ≡ None → SettlesNext d parts c c (Ok None)
   none_settles c none = record {
     further = further_same c;
     shows = λ acts s sweep holds h. (h, tt);
-    at_hand = λ e. absurd (false_true e);
+    at_hand = λ digests e. absurd (none_found digests e);
     passes = λ _ some. absurd (none_is (sym (ap is_some (no_index (c.plan).indexes (c.plan).stage none)) ∙ some));
-    found = λ e. absurd (false_true e);
+    found = λ digests e. absurd (none_found digests e);
     unread = λ honest. refl;
   }
     where
       none_is : false ≡ true → ⊥
       none_is e = cc
 
+  pub unmarked_settles : (c : Collector) → next_mark c.plan ≡ None → SettlesNext d parts c c (Ok None)
+  unmarked_settles c none = none_settles c (by_index (next_index c.plan) refl)
+    where
+      none_is : false ≡ true → ⊥
+      none_is e = cc
+
+      by_index : (o : Option IndexAt) → next_index c.plan ≡ o → o ≡ None
+      by_index None is = refl
+      by_index (Some i) is = absurd (none_is (sym (ap is_some none) ∙ mark_there (c.plan).indexes (c.plan).stage i is))
+
   -- what is told of the index that is next
   next_is : (c : Collector) (i : IndexAt) → next_index c.plan ≡ Some i → next_unreadable m catalogue c
-      ≡ unless_passed (standing m catalogue c.entries.items i) (unreadable_in m catalogue [] (indexes_left (c.plan).indexes (marked_at (c.plan).stage 0 0)))
-  next_is c i at = ap (unreadable_in m catalogue c.entries.items) (left_from (c.plan).indexes (c.plan).stage i at)
+      ≡ unless_passed (standing m catalogue c.pages (marked_in (c.plan).stage) i) (unreadable_in m catalogue None 0 (indexes_left (c.plan).indexes (marked_at (c.plan).stage 0 0)))
+  next_is c i at = ap (unreadable_in m catalogue c.pages (marked_in (c.plan).stage)) (left_from (c.plan).indexes (c.plan).stage i at)
+
+  -- once one is passed over
+  after_pass : (old new : Collector) → PassesOver old new → next_unreadable m catalogue new ≡ unreadable_in m catalogue None 0 (indexes_left (old.plan).indexes (marked_at (old.plan).stage 0 0))
+  after_pass old new over =
+      ap₂ (λ o (p : Plan). unreadable_in m catalogue o (marked_in p.stage) (indexes_left p.indexes p.stage)) over.none over.plan
+      ∙ ap (λ n. unreadable_in m catalogue None n (indexes_left (old.plan).indexes (marked_at (old.plan).stage 0 0))) (over_zero (old.plan).stage)
 
   -- it is passed over
-  passed_settles : (old new : Collector) (i : IndexAt) → next_index old.plan ≡ Some i → PassesOver old new → (d.honest parts.disk → standing m catalogue old.entries.items i ≡ passed_over)
-      → (path_at i catalogue ≡ None) ⊎ (old.entries.items ≡ [])
-      → ((s : Store) → Holds d parts s → (k : Kept) → kept_at i.snapshot catalogue ≡ Some k → digests_named k.key i.name s.snapshots ≡ []) → SettlesNext d parts old new (Ok false)
+  passed_settles : (old new : Collector) (i : IndexAt) → next_index old.plan ≡ Some i → PassesOver old new
+      → (d.honest parts.disk → standing m catalogue old.pages (marked_in (old.plan).stage) i ≡ passed_over)
+      → (path_at i catalogue ≡ None) ⊎ (old.pages ≡ None)
+      → ((s : Store) → Holds d parts s → (k : Kept) → kept_at i.snapshot catalogue ≡ Some k → digests_named k.key i.name s.snapshots ≡ []) → SettlesNext d parts old new (Ok None)
   passed_settles old new i at over stands may empty = record {
     further = record {
       lane = over.lane;
@@ -138,150 +164,319 @@ module _ {D : Type 0} (d : Ghosts D) (parts : Parts D) where
       not_more = let less = over.less in omega arith;
     };
     shows = λ acts s sweep holds h. (passed_shows catalogue s.snapshots acts old new sweep i over at (empty s holds) h, tt);
-    at_hand = λ e. absurd (false_true e);
+    at_hand = λ digests e. absurd (none_found digests e);
     passes = λ _ _. (
       over,
-      (λ honest j there. subst (λ k. standing m catalogue old.entries.items k ≡ passed_over) (some_same i j (sym at ∙ there)) (stands honest)),
-      λ j there. subst (λ k. (path_at k catalogue ≡ None) ⊎ (old.entries.items ≡ [])) (some_same i j (sym at ∙ there)) may,
+      (λ honest j there. subst (λ k. standing m catalogue old.pages (marked_in (old.plan).stage) k ≡ passed_over) (some_same i j (sym at ∙ there)) (stands honest)),
+      λ j there. subst (λ k. (path_at k catalogue ≡ None) ⊎ (old.pages ≡ None)) (some_same i j (sym at ∙ there)) may,
     );
-    found = λ e. absurd (false_true e);
+    found = λ digests e. absurd (none_found digests e);
     unread = λ honest.
         next_is old i at
-        ∙ ap (λ st. unless_passed st (unreadable_in m catalogue [] (indexes_left (old.plan).indexes (marked_at (old.plan).stage 0 0)))) (stands honest)
-        ∙ sym (ap₂ (λ es (p : Plan). unreadable_in m catalogue es (indexes_left p.indexes p.stage)) over.none over.plan);
+        ∙ ap (λ st. unless_passed st (unreadable_in m catalogue None 0 (indexes_left (old.plan).indexes (marked_at (old.plan).stage 0 0)))) (stands honest)
+        ∙ sym (after_pass old new over);
   }
 
   -- its snapshot was forgotten
-  pub gone_settles : (old new : Collector) (i : IndexAt) → next_index old.plan ≡ Some i → path_at i catalogue ≡ None → PassesOver old new → SettlesNext d parts old new (Ok false)
+  pub gone_settles : (old new : Collector) (i : IndexAt) → next_index old.plan ≡ Some i → path_at i catalogue ≡ None → PassesOver old new → SettlesNext d parts old new (Ok None)
   gone_settles old new i at missing over =
-      passed_settles old new i at over (λ honest. ap (standing_at m (kind_of_index i.name) old.entries.items) missing) (inl missing)
+      passed_settles old new i at over (λ honest. ap (standing_at m (kind_of_index i.name) old.pages (marked_in (old.plan).stage)) missing) (inl missing)
       (λ s holds k kept. no_digests catalogue s.snapshots (holds.shows).catalogue ((holds.shows).sound).order i k kept missing)
 
-  -- of a plain store it is read as its digests
-  is_read : (c : Collector) (i : IndexAt) (path : List ℕ) (s : Store) → next_index c.plan ≡ Some i → path_at i catalogue ≡ Some path → Holds d parts s
-      → (k : Kept) → kept_at i.snapshot catalogue ≡ Some k → digests_read m path (kind_of_index i.name) ≡ Ok (digests_named k.key i.name s.snapshots)
-  is_read c i path s at found holds k kept =
-      index_digests catalogue s.snapshots (holds.shows).catalogue ((holds.shows).sound).order i k kept m path (holds.files).snapshots
+  -- of a plain store it is an index's file
+  is_plain : (c : Collector) (i : IndexAt) (path : List ℕ) (s : Store) → next_index c.plan ≡ Some i → path_at i catalogue ≡ Some path → Holds d parts s
+      → (k : Kept) → kept_at i.snapshot catalogue ≡ Some k → IsPlain m s.snapshots k i.name path
+  is_plain c i path s at found holds k kept =
+      index_plain catalogue s.snapshots (holds.shows).catalogue ((holds.shows).sound).order i k kept m path (holds.files).snapshots
       (at_next (λ (j : IndexAt). is_index_name j.name ≡ true) (c.plan).indexes (c.plan).stage i (c.fits).named at) found
 
-  read_standing : (c : Collector) (i : IndexAt) (path : List ℕ) (r : Result (List (List ℕ)) Refusal) → path_at i catalogue ≡ Some path → c.entries.items ≡ [] → digests_read m path (kind_of_index i.name) ≡ r
-      → standing m catalogue c.entries.items i ≡ standing_as path r
-  read_standing c i path r found none read =
-      ap₂ (standing_at m (kind_of_index i.name)) none found ∙ ap (standing_as path) read
+  opened_standing : (c : Collector) (i : IndexAt) (path : List ℕ) → path_at i catalogue ≡ Some path → c.pages ≡ None
+      → standing m catalogue c.pages (marked_in (c.plan).stage) i ≡ standing_as m path (index_opened m path (kind_of_index i.name))
+  opened_standing c i path found none =
+      ap₂ (λ o q. standing_at m (kind_of_index i.name) o (marked_in (c.plan).stage) q) none found
 
-  -- it has no entries
-  pub empty_settles : (old new : Collector) (i : IndexAt) (path : List ℕ) → next_index old.plan ≡ Some i → path_at i catalogue ≡ Some path → old.entries.items ≡ []
-      → (d.honest parts.disk → digests_read m path (kind_of_index i.name) ≡ Ok []) → PassesOver old new → SettlesNext d parts old new (Ok false)
-  empty_settles old new i path at found none read over =
-      passed_settles old new i at over (λ honest. read_standing old i path (Ok []) found none (read honest)) (inr none)
-      (λ s holds k kept. ok_same (digests_named k.key i.name s.snapshots) [] (sym (is_read old i path s at found holds k kept) ∙ read holds.honest))
+  had_standing : (c : Collector) (i : IndexAt) (path : List ℕ) (p : IndexPages) → path_at i catalogue ≡ Some path → c.pages ≡ Some p
+      → standing m catalogue c.pages (marked_in (c.plan).stage) i ≡ standing_by path p (next_read m path p (marked_in (c.plan).stage))
+  had_standing c i path p found had =
+      ap₂ (λ o q. standing_at m (kind_of_index i.name) o (marked_in (c.plan).stage) q) had found
+
+  -- nothing of one that is opened is marked
+  none_marked : (c : Collector) → c.pages ≡ None → marked_in (c.plan).stage ≡ 0
+  none_marked c none = by_marked (marked_in (c.plan).stage) (c.fits).begun
+    where
+      none_some_pages : false ≡ true → ⊥
+      none_some_pages e = cc
+
+      by_marked : (n : ℕ) → (0 < n → IsSome c.pages) → n ≡ 0
+      by_marked zero begun = refl
+      by_marked (suc n) begun = absurd (none_some_pages (subst (λ (o : Option IndexPages). IsSome o) none (begun (omega arith))))
+
+  -- ---- it is opened
+
+  module _ (old : Collector) (i : IndexAt) (path : List ℕ) (at : next_index old.plan ≡ Some i) (found : path_at i catalogue ≡ Some path) (none : old.pages ≡ None) where
+    abbrev as_opened : Standing
+    as_opened = standing_as m path (index_opened m path (kind_of_index i.name))
+
+    -- and has no entries
+    pub empty_settles : (new : Collector) (x : Opened) → (pages_by x.pages).count ≡ 0 → (d.honest parts.disk → as_opened ≡ first_standing x) → PassesOver old new → SettlesNext d parts old new (Ok None)
+    empty_settles new x empty reads over =
+        passed_settles old new i at over (λ honest. opened_standing old i path found none ∙ reads honest ∙ passed_as) (inr none)
+        (λ s holds k kept. none_named s holds k kept (index_opened m path (kind_of_index i.name)) refl)
+      where
+        passed_as : first_standing x ≡ passed_over
+        passed_as = ap (λ b. cond b passed_over (marked_next x.pages (bytes_of x.digests.items))) (eq-eqb (pages_by x.pages).count 0 empty)
+
+        by_read : (p : IndexPages) (r : Result (List (List ℕ)) Refusal) → standing_by path p r ≡ passed_over → ⊥
+        by_read p (Ok digests) e = cc
+        by_read p (Err refusal) e = passed_unread path (sym e)
+
+        by_count : (p : IndexPages) (b : Bool) → ((pages_by p).count == 0) ≡ b → standing_as m path (Ok p) ≡ passed_over → {n : ℕ} → (pages_by p).count ≡ n → n ≡ 0
+        by_count p true zero_is stands same = sym same ∙ eqb-true (pages_by p).count 0 zero_is
+        by_count p false some stands same =
+            absurd (by_read p (next_read m path p 0) (sym (ap (λ b. cond b passed_over (standing_by path p (next_read m path p 0))) some) ∙ stands))
+
+        none_named : (s : Store) → Holds d parts s → (k : Kept) → kept_at i.snapshot catalogue ≡ Some k → (r : Result IndexPages Refusal) → index_opened m path (kind_of_index i.name) ≡ r
+            → digests_named k.key i.name s.snapshots ≡ []
+        none_named s holds k kept (Err refusal) is = absurd (plain_opens m s.snapshots k i.name path refusal (is_plain old i path s at found holds k kept) is)
+        none_named s holds k kept (Ok p) is =
+            let plain = is_plain old i path s at found holds k kept in
+            let count = plain_count m s.snapshots k i.name path p plain (plain.opens p is) in
+            let stands : standing_as m path (Ok p) ≡ passed_over = sym (ap (standing_as m path) is) ∙ reads holds.honest ∙ passed_as in
+            nil_from_length (digests_named k.key i.name s.snapshots) (by_count p ((pages_by p).count == 0) refl stands count)
 
   -- ---- it is to be marked
 
-  abbrev IsHad : (old new : Collector) → IndexAt → List ℕ → Type 0
-  IsHad old new i path = (s : Store) (sweep : Sweep) (acts : ℕ) → Holds d parts s → ShowsSweep acts catalogue s.snapshots old sweep → (k : Kept) → kept_at i.snapshot catalogue ≡ Some k
-      → digests_named k.key i.name s.snapshots ≡ bytes_of new.entries
+  -- for each store its pages are the file's
+  abbrev HasPagesOf : Collector → Collector → IndexAt → IndexPages → Type 0
+  HasPagesOf old new i p = (s : Store) (sweep : Sweep) (acts : ℕ) → Holds d parts s → ShowsSweep acts catalogue s.snapshots old sweep → (k : Kept) → kept_at i.snapshot catalogue ≡ Some k
+      → ArePages s.snapshots i.name p (Some k)
 
-  had_shows : (old new : Collector) (i : IndexAt) (path : List ℕ) (acts : ℕ) (s : Store) (sweep : Sweep) → next_index old.plan ≡ Some i → path_at i catalogue ≡ Some path → new.plan ≡ old.plan
-      → (new.entries.items ≡ [] → ⊥) → IsHad old new i path → Holds d parts s → ShowsSweep acts catalogue s.snapshots old sweep
-      → ShowsSweep acts catalogue s.snapshots new sweep × IsSettled catalogue new (Ok true) s.snapshots sweep
-  had_shows old new i path acts s sweep at found plan some had holds h =
-      let there = kept_there i catalogue path found in
-      let k = there.0 in
-      let digests : digests_named k.key i.name s.snapshots ≡ bytes_of new.entries = had s sweep acts holds h k there.1 in
-      let next : next_index new.plan ≡ Some i = ap next_index plan ∙ at in
-      let are : AreEntries s.snapshots i.name new.entries.items (Some k) = sym digests in
-      let shown : ShowsSweep acts catalogue s.snapshots new sweep = record {
-        start = ap (λ (p : Plan). p.start) plan ∙ h.start;
-        cutoff = ap (λ (p : Plan). p.cutoff) plan ∙ h.cutoff;
-        unmarked = ap (λ (p : Plan). unmarked_by catalogue s.snapshots p.indexes p.stage) plan ∙ h.unmarked;
-        to_visit = ap (λ (p : Plan). visits_by p.stage) plan ∙ h.to_visit;
-        removed = ap (λ (p : Plan). p.removed) plan ∙ h.removed;
-        few = subst (λ (p : Plan). FitsRemoved p.stage p.removed) (sym plan) h.few;
-        entries = λ _. subst (HasEntries catalogue s.snapshots new.entries.items) (sym next) (subst (AreEntries s.snapshots i.name new.entries.items) (sym there.1) are);
-        numbers = subst (λ (p : Plan). All (HasNumber acts) p.indexes) (sym plan) h.numbers;
-      } in
-      (shown, begins_with catalogue s.snapshots new i k sweep.unmarked next there.1 digests some shown.unmarked)
+  module _ (old new : Collector) (i : IndexAt) (path : List ℕ) (p : IndexPages) (digests : Vec Digest32 Global) (at : next_index old.plan ≡ Some i) (found : path_at i catalogue ≡ Some path)
+      (plan : new.plan ≡ old.plan) (lane : new.lane ≡ old.lane) (ended : new.ended ≡ old.ended) (had : new.pages ≡ Some p) (are : HasPagesOf old new i p)
+      (next : d.honest parts.disk → standing_by path p (next_read m path p (marked_in (old.plan).stage)) ≡ marked_next p (bytes_of digests.items))
+      (stands : d.honest parts.disk → standing m catalogue old.pages (marked_in (old.plan).stage) i ≡ marked_next p (bytes_of digests.items)) where
+    abbrev first : ℕ
+    first = marked_in (old.plan).stage
 
-  had_settles : (old new : Collector) (i : IndexAt) (path : List ℕ) → next_index old.plan ≡ Some i → path_at i catalogue ≡ Some path → new.plan ≡ old.plan → new.lane ≡ old.lane → new.ended ≡ old.ended
-      → (new.entries.items ≡ [] → ⊥) → IsHad old new i path → ((old.entries.items ≡ [] → ⊥) → new.entries.items ≡ old.entries.items) → (d.honest parts.disk → standing m catalogue old.entries.items i ≡ marked_next (bytes_of new.entries))
-      → SettlesNext d parts old new (Ok true)
-  had_settles old new i path at found plan lane ended some had kept stands = record {
-    further = record {
-      lane = lane;
-      ended = ended;
-      start = ap (λ (p : Plan). p.start) plan;
-      cutoff = ap (λ (p : Plan). p.cutoff) plan;
-      indexes = ap (λ (p : Plan). p.indexes) plan;
-      over = λ going. ap is_over plan ∙ going;
-      not_more = le_of_eq (ap left_of plan);
-    };
-    shows = λ acts s sweep holds h. had_shows old new i path acts s sweep at found plan some had holds h;
-    at_hand = λ _. record { next = ap is_some (ap next_index plan ∙ at); some = some };
-    passes = λ e _. absurd (true_false e);
-    found = λ _. record {
-      lane = lane;
-      plan = plan;
-      skipped = λ honest n below. absurd (omega (arith, below));
-      let_go = λ more. absurd (omega (arith, more));
-      had = kept;
-      read = λ honest j there. subst (λ k. standing m catalogue old.entries.items k ≡ marked_next (bytes_of new.entries)) (some_same i j (sym at ∙ there)) (stands honest);
-    };
-    unread = λ honest. next_is old i at ∙ ap (λ st. unless_passed st (unreadable_in m catalogue [] (indexes_left (old.plan).indexes (marked_at (old.plan).stage 0 0)))) (stands honest);
-  }
+    below : first < (pages_by p).count
+    below = let lt = (new.fits).within (ap is_some had) in
+        subst (λ (q : Plan). marked_in q.stage < (pages_by p).count) plan (subst (λ o. marked_in (new.plan).stage < count_at_hand o) had lt)
 
-  -- its digests were at hand
-  pub kept_settles : (c : Collector) (i : IndexAt) (path : List ℕ) → next_index c.plan ≡ Some i → path_at i catalogue ≡ Some path → (c.entries.items ≡ [] → ⊥) → SettlesNext d parts c c (Ok true)
-  kept_settles c i path at found some =
-      had_settles c c i path at found refl refl refl some had (λ _. refl)
-      (λ honest. ap (standing_at m (kind_of_index i.name) c.entries.items) found ∙ standing_had m (kind_of_index i.name) c.entries.items path some)
-    where
-      had : IsHad c c i path
-      had s sweep acts holds h k kept =
-          let entries : HasEntries catalogue s.snapshots c.entries.items (Some i) = subst (HasEntries catalogue s.snapshots c.entries.items) at (h.entries some) in
-          sym (subst (AreEntries s.snapshots i.name c.entries.items) kept entries)
-
-  -- they are read
-  pub read_settles : (old new : Collector) (i : IndexAt) (path : List ℕ) → next_index old.plan ≡ Some i → path_at i catalogue ≡ Some path → new.plan ≡ old.plan → new.lane ≡ old.lane → new.ended ≡ old.ended
-      → old.entries.items ≡ [] → (new.entries.items ≡ [] → ⊥) → (d.honest parts.disk → digests_read m path (kind_of_index i.name) ≡ Ok (bytes_of new.entries)) → SettlesNext d parts old new (Ok true)
-  read_settles old new i path at found plan lane ended none some read =
-      had_settles old new i path at found plan lane ended some
-      (λ s sweep acts holds h k kept. ok_same (digests_named k.key i.name s.snapshots) (bytes_of new.entries) (sym (is_read old i path s at found holds k kept) ∙ read holds.honest))
-      (λ were. absurd (were none))
-      (λ honest. read_standing old i path (Ok (bytes_of new.entries)) found none (read honest) ∙ standing_some path (bytes_of new.entries) (bytes_some new.entries.items some))
-
-  -- or they are not to be had
-  pub unread_settles : (c : Collector) (i : IndexAt) (path : List ℕ) (unread : Unread) → next_index c.plan ≡ Some i → path_at i catalogue ≡ Some path → c.entries.items ≡ []
-      → IfUnreadable (λ name. name ≡ path) unread → (d.honest parts.disk → Reads (digests_read m path (kind_of_index i.name)) (Err unread)) → SettlesNext d parts c c (Err unread)
-  unread_settles c i path (Unreadable name) at found none same read = record {
-    further = further_same c;
-    shows = λ acts s sweep holds h.
+    had_shows : (acts : ℕ) (s : Store) (sweep : Sweep) → Holds d parts s → ShowsSweep acts catalogue s.snapshots old sweep
+        → ShowsSweep acts catalogue s.snapshots new sweep × IsSettled catalogue new (Ok (Some digests)) s.snapshots sweep
+    had_shows acts s sweep holds h =
         let there = kept_there i catalogue path found in
-        (h, ok_err (digests_named (there.0).key i.name s.snapshots) (refusals.Unreadable name) (sym (is_read c i path s at found holds there.0 there.1) ∙ read holds.honest));
-    at_hand = λ e. absurd (err_ok (Unreadable name) true e);
-    passes = λ e _. absurd (err_ok (Unreadable name) false e);
-    found = λ e. absurd (err_ok (Unreadable name) true e);
+        let k = there.0 in
+        let of_file = are s sweep acts holds h k there.1 in
+        let plain = is_plain old i path s at found holds k there.1 in
+        let all = all_of k i s.snapshots in
+        let read : next_read m path p first ≡ Ok (marked_from first all) = plain_next m s.snapshots k i.name path p first plain of_file below in
+        let same : bytes_of digests.items ≡ marked_from first all = next_same p p (bytes_of digests.items) (marked_from first all) (sym (next holds.honest) ∙ ap (standing_by path p) read) in
+        let next_now : next_index new.plan ≡ Some i = ap next_index plan ∙ at in
+        let shown : ShowsSweep acts catalogue s.snapshots new sweep = record {
+          start = ap (λ (q : Plan). q.start) plan ∙ h.start;
+          cutoff = ap (λ (q : Plan). q.cutoff) plan ∙ h.cutoff;
+          unmarked = ap (λ (q : Plan). unmarked_by catalogue s.snapshots q.indexes q.stage) plan ∙ h.unmarked;
+          to_visit = ap (λ (q : Plan). visits_by q.stage) plan ∙ h.to_visit;
+          removed = ap (λ (q : Plan). q.removed) plan ∙ h.removed;
+          few = subst (λ (q : Plan). FitsRemoved q.stage q.removed) (sym plan) h.few;
+          pages = subst (λ (o : Option IndexPages). IfSome o (λ q. HasPages catalogue s.snapshots q (next_index new.plan))) (sym had)
+              (subst (HasPages catalogue s.snapshots p) (sym next_now) (subst (ArePages s.snapshots i.name p) (sym there.1) of_file));
+          numbers = subst (λ (q : Plan). All (HasNumber acts) q.indexes) (sym plan) h.numbers;
+        } in (
+          shown,
+          begins_with catalogue s.snapshots new i k p digests.items sweep.unmarked next_now there.1 had
+              (record { count = plain_count m s.snapshots k i.name path p plain of_file; pages = of_file })
+              (subst (λ (q : Plan). bytes_of digests.items ≡ marked_from (marked_in q.stage) all) (sym plan) same) shown.unmarked,
+        )
+
+    pub had_settles : length digests.items ≡ min mark_limit ((pages_by p).count - first) → ((q : IndexPages) → old.pages ≡ Some q → (p ≡ q) × AreNext q first digests.items) → SettlesNext d parts old new (Ok (Some digests))
+    had_settles many kept = record {
+      further = record {
+        lane = lane;
+        ended = ended;
+        start = ap (λ (q : Plan). q.start) plan;
+        cutoff = ap (λ (q : Plan). q.cutoff) plan;
+        indexes = ap (λ (q : Plan). q.indexes) plan;
+        over = λ going. ap is_over plan ∙ going;
+        not_more = le_of_eq (ap left_of plan);
+      };
+      shows = had_shows;
+      at_hand = λ ds e. record {
+        next = ap is_some (ap next_index plan ∙ at);
+        pages = ap is_some had;
+        all = subst (λ (v : Vec Digest32 Global). length v.items ≡ marked_now new) (found_same digests ds e) now_many;
+      };
+      passes = λ e _. absurd (found_none digests e);
+      found = λ ds e. subst (λ (v : Vec Digest32 Global). FindsAfter d parts.disk catalogue 0 old new v.items) (found_same digests ds e) (record {
+        lane = lane;
+        plan = plan;
+        skipped = λ honest n low. absurd (omega (arith, low));
+        let_go = λ more. absurd (omega (arith, more));
+        had = by_had old.pages refl;
+        kept = λ _. by_kept old.pages refl;
+        read = λ honest.
+            subst (λ (o : Option IndexPages). IfSome o (λ q. StandsAt m catalogue old 0 (marked_next q (bytes_of digests.items)))) (sym had)
+            (λ j there. subst (λ x. standing m catalogue old.pages first x ≡ marked_next p (bytes_of digests.items)) (some_same i j (sym at ∙ there)) (stands honest));
+      });
+      unread = λ honest.
+          next_is old i at
+          ∙ ap (λ st. unless_passed st (unreadable_in m catalogue None 0 (indexes_left (old.plan).indexes (marked_at (old.plan).stage 0 0)))) (stands honest);
+    }
+      where
+        none_some_pages : false ≡ true → ⊥
+        none_some_pages e = cc
+
+        now_many : length digests.items ≡ marked_now new
+        now_many = many ∙ sym (ap₂ (λ (o : Option IndexPages) (q : Plan). min mark_limit (count_at_hand o - marked_in q.stage)) had plan)
+
+        by_had : (o : Option IndexPages) → old.pages ≡ o → IsSome o → new.pages ≡ o
+        by_had None is some = absurd (none_some_pages some)
+        by_had (Some q) is some = had ∙ ap Some (kept q is).0
+
+        by_kept : (o : Option IndexPages) → old.pages ≡ o → IfSome o (λ q. AreNext q (marked_in (new.plan).stage) digests.items)
+        by_kept None is = tt
+        by_kept (Some q) is = subst (λ (x : Plan). AreNext q (marked_in x.stage) digests.items) (sym plan) (kept q is).1
+
+  -- its pages were at hand
+  pub kept_settles : (c : Collector) (i : IndexAt) (path : List ℕ) (p : IndexPages) (digests : Vec Digest32 Global) → next_index c.plan ≡ Some i → path_at i catalogue ≡ Some path → c.pages ≡ Some p
+      → (d.honest parts.disk → standing_by path p (next_read m path p (marked_in (c.plan).stage)) ≡ marked_next p (bytes_of digests.items)) → length digests.items ≡ min mark_limit ((pages_by p).count - marked_in (c.plan).stage)
+      → AreNext p (marked_in (c.plan).stage) digests.items → SettlesNext d parts c c (Ok (Some digests))
+  kept_settles c i path p digests at found had reads many kept =
+      had_settles c c i path p digests at found refl refl refl had are reads (λ honest. had_standing c i path p found had ∙ reads honest) many
+      (λ q is. let same : p ≡ q = some_same p q (sym had ∙ is) in (same, subst (λ x. AreNext x (marked_in (c.plan).stage) digests.items) same kept))
+    where
+      are : HasPagesOf c c i p
+      are s sweep acts holds h k kept_is =
+          let has : HasPages catalogue s.snapshots p (next_index c.plan) = subst (λ (o : Option IndexPages). IfSome o (λ q. HasPages catalogue s.snapshots q (next_index c.plan))) had h.pages in
+          subst (ArePages s.snapshots i.name p) kept_is (subst (HasPages catalogue s.snapshots p) at has)
+
+  -- it is opened, and has entries
+  pub read_settles : (old new : Collector) (i : IndexAt) (path : List ℕ) (x : Opened) → next_index old.plan ≡ Some i → path_at i catalogue ≡ Some path → new.plan ≡ old.plan → new.lane ≡ old.lane → new.ended ≡ old.ended
+      → old.pages ≡ None → new.pages ≡ Some x.pages → ((pages_by x.pages).count ≡ 0 → ⊥) → (d.honest parts.disk → standing_as m path (index_opened m path (kind_of_index i.name)) ≡ first_standing x)
+      → length x.digests.items ≡ min mark_limit (pages_by x.pages).count → SettlesNext d parts old new (Ok (Some x.digests))
+  read_settles old new i path x at found plan lane ended none had some reads many =
+      had_settles old new i path x.pages x.digests at found plan lane ended had are next
+      (λ honest. opened_standing old i path found none ∙ reads honest ∙ next_as) (many ∙ sym (ap (λ n. min mark_limit ((pages_by x.pages).count - n)) (none_marked old none) ∙ ap (min mark_limit) nothing_less))
+      (λ q is. absurd (none_some q (sym none ∙ is)))
+    where
+      nothing_less : (pages_by x.pages).count - 0 ≡ (pages_by x.pages).count
+      nothing_less = omega arith
+
+      next_as : first_standing x ≡ marked_next x.pages (bytes_of x.digests.items)
+      next_as = ap (λ b. cond b passed_over (marked_next x.pages (bytes_of x.digests.items))) (ne_eqb (pages_by x.pages).count 0 some)
+
+      by_read : (p : IndexPages) (r : Result (List (List ℕ)) Refusal) → standing_by path p r ≡ marked_next x.pages (bytes_of x.digests.items) → p ≡ x.pages
+      by_read p (Ok digests) e = cc
+      by_read p (Err refusal) e = cc
+
+      -- what stands there was opened so
+      opened_so : (r : Result IndexPages Refusal) → index_opened m path (kind_of_index i.name) ≡ r → standing_as m path r ≡ marked_next x.pages (bytes_of x.digests.items)
+          → (index_opened m path (kind_of_index i.name) ≡ Ok x.pages) × (standing_by path x.pages (next_read m path x.pages 0) ≡ marked_next x.pages (bytes_of x.digests.items))
+      opened_so (Err refusal) is e = absurd (next_unread x.pages (bytes_of x.digests.items) path (sym e))
+      opened_so (Ok p) is e = by_count p ((pages_by p).count == 0) is refl e
+        where
+          by_count : (p : IndexPages) (b : Bool) → index_opened m path (kind_of_index i.name) ≡ Ok p → ((pages_by p).count == 0) ≡ b
+              → cond ((pages_by p).count == 0) passed_over (standing_by path p (next_read m path p 0)) ≡ marked_next x.pages (bytes_of x.digests.items)
+              → (index_opened m path (kind_of_index i.name) ≡ Ok x.pages) × (standing_by path x.pages (next_read m path x.pages 0) ≡ marked_next x.pages (bytes_of x.digests.items))
+          by_count p true opened empty e = absurd (passed_next x.pages (bytes_of x.digests.items) (sym (ap (λ b. cond b passed_over (standing_by path p (next_read m path p 0))) empty) ∙ e))
+          by_count p false opened more e =
+              let stands = sym (ap (λ b. cond b passed_over (standing_by path p (next_read m path p 0))) more) ∙ e in
+              let same = by_read p (next_read m path p 0) stands in
+              (opened ∙ ap (λ q. let r : Result IndexPages Refusal = Ok q in r) same, subst (λ q. standing_by path q (next_read m path q 0) ≡ marked_next x.pages (bytes_of x.digests.items)) same stands)
+
+      so : d.honest parts.disk → (index_opened m path (kind_of_index i.name) ≡ Ok x.pages) × (standing_by path x.pages (next_read m path x.pages 0) ≡ marked_next x.pages (bytes_of x.digests.items))
+      so honest = opened_so (index_opened m path (kind_of_index i.name)) refl (reads honest ∙ next_as)
+
+      next : d.honest parts.disk → standing_by path x.pages (next_read m path x.pages (marked_in (old.plan).stage)) ≡ marked_next x.pages (bytes_of x.digests.items)
+      next honest = ap (λ n. standing_by path x.pages (next_read m path x.pages n)) (none_marked old none) ∙ (so honest).1
+
+      are : HasPagesOf old new i x.pages
+      are s sweep acts holds h k kept = (is_plain old i path s at found holds k kept).opens x.pages (so holds.honest).0
+
+  -- ---- or its digests are not to be had
+
+  unread_settles : (c : Collector) (i : IndexAt) (path : List ℕ) (unread : Unread) → next_index c.plan ≡ Some i → path_at i catalogue ≡ Some path → IfUnreadable (λ name. name ≡ path) unread
+      → ((name : List ℕ) → unread ≡ Unreadable name → d.honest parts.disk → standing m catalogue c.pages (marked_in (c.plan).stage) i ≡ unreadable name)
+      → ((name : List ℕ) → unread ≡ Unreadable name → (acts : ℕ) (s : Store) (sweep : Sweep) → Holds d parts s → ShowsSweep acts catalogue s.snapshots c sweep → ⊥) → SettlesNext d parts c c (Err unread)
+  unread_settles c i path (Unreadable name) at found same stands never = record {
+    further = further_same c;
+    shows = λ acts s sweep holds h. (h, never name refl acts s sweep holds h);
+    at_hand = λ digests e. absurd (err_ok (Unreadable name) (Some digests) e);
+    passes = λ e _. absurd (err_ok (Unreadable name) None e);
+    found = λ digests e. absurd (err_ok (Unreadable name) (Some digests) e);
     unread = λ honest.
         next_is c i at
-        ∙ ap (λ st. unless_passed st (unreadable_in m catalogue [] (indexes_left (c.plan).indexes (marked_at (c.plan).stage 0 0)))) (read_standing c i path (Err (refusals.Unreadable name)) found none (read honest))
-        ∙ ap Some (sym same);
+        ∙ ap (λ st. unless_passed st (unreadable_in m catalogue None 0 (indexes_left (c.plan).indexes (marked_at (c.plan).stage 0 0)))) (stands name refl honest);
   }
-  unread_settles c i path NoMemory at found none same read = record {
+  unread_settles c i path NoMemory at found same stands never = record {
     further = further_same c;
     shows = λ acts s sweep holds h. (h, tt);
-    at_hand = λ e. absurd (err_ok NoMemory true e);
-    passes = λ e _. absurd (err_ok NoMemory false e);
-    found = λ e. absurd (err_ok NoMemory true e);
+    at_hand = λ digests e. absurd (err_ok NoMemory (Some digests) e);
+    passes = λ e _. absurd (err_ok NoMemory None e);
+    found = λ digests e. absurd (err_ok NoMemory (Some digests) e);
     unread = λ honest. tt;
   }
-  unread_settles c i path DiskFailed at found none same read = record {
+  unread_settles c i path DiskFailed at found same stands never = record {
     further = further_same c;
     shows = λ acts s sweep holds h. (h, tt);
-    at_hand = λ e. absurd (err_ok DiskFailed true e);
-    passes = λ e _. absurd (err_ok DiskFailed false e);
-    found = λ e. absurd (err_ok DiskFailed true e);
+    at_hand = λ digests e. absurd (err_ok DiskFailed (Some digests) e);
+    passes = λ e _. absurd (err_ok DiskFailed None e);
+    found = λ digests e. absurd (err_ok DiskFailed (Some digests) e);
     unread = λ honest. tt;
   }
+
+  -- of one that was to be opened
+  pub unopened_settles : (c : Collector) (i : IndexAt) (path : List ℕ) (unread : Unread) → next_index c.plan ≡ Some i → path_at i catalogue ≡ Some path → c.pages ≡ None → IfUnreadable (λ name. name ≡ path) unread
+      → (d.honest parts.disk → TellsStanding first_standing (standing_as m path (index_opened m path (kind_of_index i.name))) (Err unread)) → SettlesNext d parts c c (Err unread)
+  unopened_settles c i path unread at found none same reads =
+      unread_settles c i path unread at found same (λ name is honest. opened_standing c i path found none ∙ told name is honest) never
+    where
+      told : (name : List ℕ) → unread ≡ Unreadable name → d.honest parts.disk → standing_as m path (index_opened m path (kind_of_index i.name)) ≡ unreadable name
+      told name is honest = subst (λ u. TellsStanding first_standing (standing_as m path (index_opened m path (kind_of_index i.name))) (Err u)) is (reads honest)
+
+      -- an index of a plain store is opened, and its first entries are read
+      never : (name : List ℕ) → unread ≡ Unreadable name → (acts : ℕ) (s : Store) (sweep : Sweep) → Holds d parts s → ShowsSweep acts catalogue s.snapshots c sweep → ⊥
+      never name is acts s sweep holds h =
+          let there = kept_there i catalogue path found in
+          by_opened s holds there.0 there.1 (index_opened m path (kind_of_index i.name)) refl (told name is holds.honest)
+        where
+          by_count : (s : Store) (k : Kept) (p : IndexPages) (b : Bool) → IsPlain m s.snapshots k i.name path → ArePages s.snapshots i.name p (Some k) → ((pages_by p).count == 0) ≡ b
+              → cond ((pages_by p).count == 0) passed_over (standing_by path p (next_read m path p 0)) ≡ unreadable name → ⊥
+          by_count s k p true plain are empty e = passed_unread name (sym (ap (λ b. cond b passed_over (standing_by path p (next_read m path p 0))) empty) ∙ e)
+          by_count s k p false plain are more e =
+              let read = plain_next m s.snapshots k i.name path p 0 plain are (some_count (pages_by p).count more) in
+              next_unread p (marked_from 0 (digests_named k.key i.name s.snapshots)) name
+              (sym (ap (standing_by path p) read) ∙ sym (ap (λ b. cond b passed_over (standing_by path p (next_read m path p 0))) more) ∙ e)
+
+          by_opened : (s : Store) → Holds d parts s → (k : Kept) → kept_at i.snapshot catalogue ≡ Some k → (r : Result IndexPages Refusal) → index_opened m path (kind_of_index i.name) ≡ r
+              → standing_as m path (index_opened m path (kind_of_index i.name)) ≡ unreadable name → ⊥
+          by_opened s holds k kept (Err refusal) is e = plain_opens m s.snapshots k i.name path refusal (is_plain c i path s at found holds k kept) is
+          by_opened s holds k kept (Ok p) is e =
+              let plain = is_plain c i path s at found holds k kept in
+              by_count s k p ((pages_by p).count == 0) plain (plain.opens p is) refl (sym (ap (standing_as m path) is) ∙ e)
+
+  -- of one whose pages are at hand
+  pub unkept_settles : (c : Collector) (i : IndexAt) (path : List ℕ) (p : IndexPages) (unread : Unread) → next_index c.plan ≡ Some i → path_at i catalogue ≡ Some path → c.pages ≡ Some p → IfUnreadable (λ name. name ≡ path) unread
+      → (d.honest parts.disk → TellsStanding {A = Vec Digest32 Global} (λ digests. marked_next p (bytes_of digests.items)) (standing_by path p (next_read m path p (marked_in (c.plan).stage))) (Err unread)) → SettlesNext d parts c c (Err unread)
+  unkept_settles c i path p unread at found had same reads =
+      unread_settles c i path unread at found same (λ name is honest. had_standing c i path p found had ∙ told name is honest) never
+    where
+      told : (name : List ℕ) → unread ≡ Unreadable name → d.honest parts.disk → standing_by path p (next_read m path p (marked_in (c.plan).stage)) ≡ unreadable name
+      told name is honest =
+          subst (λ u. TellsStanding {A = Vec Digest32 Global} (λ digests. marked_next p (bytes_of digests.items)) (standing_by path p (next_read m path p (marked_in (c.plan).stage))) (Err u)) is (reads honest)
+
+      below : marked_in (c.plan).stage < (pages_by p).count
+      below = subst (λ o. marked_in (c.plan).stage < count_at_hand o) had ((c.fits).within (ap is_some had))
+
+      never : (name : List ℕ) → unread ≡ Unreadable name → (acts : ℕ) (s : Store) (sweep : Sweep) → Holds d parts s → ShowsSweep acts catalogue s.snapshots c sweep → ⊥
+      never name is acts s sweep holds h =
+          let there = kept_there i catalogue path found in
+          let k = there.0 in
+          let has : HasPages catalogue s.snapshots p (next_index c.plan) = subst (λ (o : Option IndexPages). IfSome o (λ q. HasPages catalogue s.snapshots q (next_index c.plan))) had h.pages in
+          let are : ArePages s.snapshots i.name p (Some k) = subst (ArePages s.snapshots i.name p) there.1 (subst (HasPages catalogue s.snapshots p) at has) in
+          let read = plain_next m s.snapshots k i.name path p (marked_in (c.plan).stage) (is_plain c i path s at found holds k there.1) are below in
+          next_unread p (marked_from (marked_in (c.plan).stage) (digests_named k.key i.name s.snapshots)) name (sym (ap (standing_by path p) read) ∙ told name is holds.honest)
 
 -- ---- the search
 
@@ -300,14 +495,14 @@ pub record HasPassed {D : Type 0} (d : Ghosts D) (parts now : Parts D) (old c : 
   pub shows : ShowsStill d parts old c (λ _ _. Unit {0})
   pub passed : ℕ
   pub plan : c.plan ≡ passed_by passed old.plan
-  pub entries : c.entries.items ≡ at_hand_after passed old.entries.items
+  pub pages : c.pages ≡ at_hand_after passed old.pages
   pub skipped : d.honest parts.disk → (n : ℕ) → n < passed → StandsAt (d.content parts.disk) parts.catalogue.listed old n passed_over
   pub let_go : 0 < passed → MayPass parts.catalogue.listed old
   pub unread : d.honest parts.disk → next_unreadable (d.content parts.disk) parts.catalogue.listed old ≡ next_unreadable (d.content parts.disk) parts.catalogue.listed c
 
 module _ {D : Type 0} (d : Ghosts D) (parts now : Parts D) (old c : Collector) (h : HasPassed d parts now old c) where
   holds_now : (s : Store) → Holds d parts s → Holds d now s
-  holds_now s holds = holds_same d parts now s ((h.reads).serves).kept (h.reads).same (h.kept).catalogue (h.kept).sessions (h.kept).locks holds
+  holds_now s holds = holds_same d parts now s ((h.reads).serves).kept (h.reads).same h.kept holds
 
   further_then : (e : Collector) → GoesFurther c e → GoesFurther old e
   further_then e next = record {
@@ -321,7 +516,7 @@ module _ {D : Type 0} (d : Ghosts D) (parts now : Parts D) (old c : Collector) (
   }
 
   -- what the parts of now say is said of those before
-  shows_then : (e : Collector) (result : Result Bool Unread) (acts : ℕ) (s : Store) (sweep : Sweep) → ShowsStill d now c e (IsSettled now.catalogue.listed e result) → Holds d parts s
+  shows_then : (e : Collector) (result : Found) (acts : ℕ) (s : Store) (sweep : Sweep) → ShowsStill d now c e (IsSettled now.catalogue.listed e result) → Holds d parts s
       → ShowsSweep acts parts.catalogue.listed s.snapshots old sweep → ShowsSweep acts parts.catalogue.listed s.snapshots e sweep × IsSettled parts.catalogue.listed e result s.snapshots sweep
   shows_then e result acts s sweep next holds shown =
       let was = (h.shows acts s sweep holds shown).0 in
@@ -337,59 +532,66 @@ module _ {D : Type 0} (d : Ghosts D) (parts now : Parts D) (old c : Collector) (
   -- how the index that is next stands, by what it stood at first
   stands_as : (how : Standing) → d.honest parts.disk → StandsAt (d.content now.disk) now.catalogue.listed c 0 how → StandsAt (d.content parts.disk) parts.catalogue.listed old h.passed how
   stands_as how honest stands i at =
-      sym (ap₂ (λ f q. standing f q c.entries.items i) ((h.reads).same honest) (h.kept).catalogue
-      ∙ ap (λ es. standing (d.content parts.disk) parts.catalogue.listed es i) h.entries)
+      sym (ap₂ (λ f q. standing f q c.pages (marked_in (c.plan).stage) i) ((h.reads).same honest) (h.kept).catalogue
+      ∙ ap₂ (λ o (p : Plan). standing (d.content parts.disk) parts.catalogue.listed o (marked_in p.stage) i) h.pages h.plan)
       ∙ stands i (ap next_index h.plan ∙ at)
 
-  found_after : (e : Collector) → FindsAfter d now.disk now.catalogue.listed 0 c e → FindsAfter d parts.disk parts.catalogue.listed h.passed old e
-  found_after e found = record {
+  found_after : (e : Collector) (digests : List Digest32) → FindsAfter d now.disk now.catalogue.listed 0 c e digests → FindsAfter d parts.disk parts.catalogue.listed h.passed old e digests
+  found_after e digests found = record {
     lane = found.lane ∙ (h.further).lane;
     plan = found.plan ∙ h.plan;
     skipped = h.skipped;
     let_go = h.let_go;
-    had = λ some. found.had (λ none. some (sym h.entries ∙ none)) ∙ h.entries;
-    read = λ honest. stands_as (marked_next (bytes_of e.entries)) honest (found.read (honest_now honest));
+    had = λ some. found.had (subst (λ (o : Option IndexPages). IsSome o) (sym h.pages) some) ∙ h.pages;
+    kept = λ next. subst (λ (o : Option IndexPages). IfSome o (λ p. AreNext p (marked_in (e.plan).stage) digests)) h.pages (found.kept next);
+    read = λ honest. by_pages e.pages honest (found.read (honest_now honest));
   }
+    where
+      by_pages : (o : Option IndexPages) → d.honest parts.disk → IfSome o (λ p. StandsAt (d.content now.disk) now.catalogue.listed c 0 (marked_next p (bytes_of digests)))
+          → IfSome o (λ p. StandsAt (d.content parts.disk) parts.catalogue.listed old h.passed (marked_next p (bytes_of digests)))
+      by_pages None honest stands = tt
+      by_pages (Some p) honest stands = stands_as (marked_next p (bytes_of digests)) honest stands
 
   skipped_then : d.honest parts.disk → StandsAt (d.content now.disk) now.catalogue.listed c 0 passed_over → (n : ℕ) → n < suc h.passed → StandsAt (d.content parts.disk) parts.catalogue.listed old n passed_over
   skipped_then honest stands n below =
       ⊎_elim {C = StandsAt (d.content parts.disk) parts.catalogue.listed old n passed_over} (λ (less : n < h.passed). h.skipped honest n less)
       (λ (same : n ≡ h.passed). subst (λ k. StandsAt (d.content parts.disk) parts.catalogue.listed old k passed_over) (sym same) (stands_as passed_over honest stands)) (at_most n h.passed below)
 
-  -- the digests at hand at first are let go with the first index
+  -- the pages at hand at first are let go with the first index
   let_go_then : (n : ℕ) → h.passed ≡ n → MayPass now.catalogue.listed c → MayPass parts.catalogue.listed old
   let_go_then zero none may i at =
-      subst (λ (es : List Digest32). (path_at i parts.catalogue.listed ≡ None) ⊎ (es ≡ [])) (h.entries ∙ ap (λ k. at_hand_after k old.entries.items) none)
-      (subst (λ q. (path_at i q ≡ None) ⊎ (c.entries.items ≡ [])) (h.kept).catalogue (may i (ap next_index (h.plan ∙ ap (λ k. passed_by k old.plan) none) ∙ at)))
+      subst (λ (o : Option IndexPages). (path_at i parts.catalogue.listed ≡ None) ⊎ (o ≡ None)) (h.pages ∙ ap (λ k. at_hand_after k old.pages) none)
+      (subst (λ q. (path_at i q ≡ None) ⊎ (c.pages ≡ None)) (h.kept).catalogue (may i (ap next_index (h.plan ∙ ap (λ k. passed_by k old.plan) none) ∙ at)))
   let_go_then (suc n) some may i at = h.let_go (omega (arith, some)) i at
 
   -- one more
-  pub passed_then : (later : Parts D) (e : Collector) (failed : Type 0) → (failed → ⊥) → OnlyReads d now.disk later.disk failed → SameKept now later → SettlesNext d now c e (Ok false) → PassesNext d now c e → HasPassed d parts later old e
+  pub passed_then : (later : Parts D) (e : Collector) (failed : Type 0) → (failed → ⊥) → OnlyReads d now.disk later.disk failed → SameKept now later → SettlesNext d now c e (Ok None) → PassesNext d now c e → HasPassed d parts later old e
   passed_then later e failed never reads kept settles (over, stands, may) = record {
     reads = reads_then d parts.disk now.disk later.disk ⊥ failed ⊥ h.reads reads (λ no. absurd no);
     kept = record {
       catalogue = kept.catalogue ∙ (h.kept).catalogue;
       sessions = kept.sessions ∙ (h.kept).sessions;
       locks = kept.locks ∙ (h.kept).locks;
+      indexes = kept.indexes ∙ (h.kept).indexes;
     };
     further = further_then e settles.further;
-    shows = λ acts s sweep holds shown. ((shows_then e (Ok false) acts s sweep settles.shows holds shown).0, tt);
+    shows = λ acts s sweep holds shown. ((shows_then e (Ok None) acts s sweep settles.shows holds shown).0, tt);
     passed = suc h.passed;
     plan = over.plan ∙ ap (λ (p : Plan). with_mark p 0 0) h.plan;
-    entries = over.none;
+    pages = over.none;
     skipped = λ honest. skipped_then honest (stands (honest_now honest));
     let_go = λ _. let_go_then h.passed refl may;
     unread = λ honest. h.unread honest ∙ sym (unread_as c honest) ∙ settles.unread (honest_now honest) ∙ unread_as e honest;
   }
 
   -- all are passed
-  pub all_passed : next_mark c.plan ≡ None → FindsNext d parts old c (Ok false)
+  pub all_passed : next_mark c.plan ≡ None → FindsNext d parts old c (Ok None)
   all_passed none = record {
     further = h.further;
     shows = λ acts s sweep holds shown.
         let is = (h.shows acts s sweep holds shown).0 in
         (is, sym is.unmarked ∙ all_marked parts.catalogue.listed s.snapshots (c.plan).indexes (c.plan).stage none);
-    at_hand = λ e. absurd (false_true e);
+    at_hand = λ digests e. absurd (none_found digests e);
     all_marked = λ _. none;
     found = (
       h.passed,
@@ -398,32 +600,44 @@ module _ {D : Type 0} (d : Ghosts D) (parts now : Parts D) (old c : Collector) (
         plan = h.plan;
         skipped = h.skipped;
         let_go = h.let_go;
-        had = λ _. h.entries;
-        read = λ honest i at. absurd (none_is (sym (ap is_some none) ∙ mark_there (c.plan).indexes (c.plan).stage i (ap next_index h.plan ∙ at)));
+        had = λ _. h.pages;
+        kept = λ next. absurd (no_next (next_index c.plan) refl next);
+        read = λ honest. by_pages c.pages;
       },
     );
-    unread = λ honest. h.unread honest ∙ ap (unreadable_in (d.content parts.disk) parts.catalogue.listed c.entries.items) (none_marked (c.plan).indexes (c.plan).stage none);
+    unread = λ honest. h.unread honest ∙ ap (unreadable_in (d.content parts.disk) parts.catalogue.listed c.pages (marked_in (c.plan).stage)) (none_marked_left (c.plan).indexes (c.plan).stage none);
   }
     where
       none_is : false ≡ true → ⊥
       none_is e = cc
 
-      by_test : (is : List IndexAt) (place first : ℕ) (b : Bool) → nat_lt place (length is) ≡ b → cond {A = Option (ℕ × ℕ)} b (Some (place, first)) None ≡ None → drop place is ≡ []
-      by_test is place first true less e = absurd (none_some (place, first) (sym e))
-      by_test is place first false less e = drop_all place is (ltb-false place (length is) less)
+      no_index_next : (i : IndexAt) → next_index c.plan ≡ Some i → ⊥
+      no_index_next i at = none_is (sym (ap is_some none) ∙ mark_there (c.plan).indexes (c.plan).stage i at)
 
-      none_marked : (is : List IndexAt) (stage : Stage) → mark_in is stage ≡ None → indexes_left is stage ≡ []
-      none_marked is (marking place first) e = by_test is place first (nat_lt place (length is)) refl e
-      none_marked is (sweeping names) e = refl
+      no_next : (o : Option IndexAt) → next_index c.plan ≡ o → IsSome o → ⊥
+      no_next None is some = none_is some
+      no_next (Some i) is some = no_index_next i is
+
+      by_pages : (o : Option IndexPages) → IfSome o (λ p. StandsAt (d.content parts.disk) parts.catalogue.listed old h.passed (marked_next p []))
+      by_pages None = tt
+      by_pages (Some p) = λ i at. absurd (no_index_next i (ap next_index h.plan ∙ at))
+
+      by_test : (is : List IndexAt) (place done : ℕ) (b : Bool) → nat_lt place (length is) ≡ b → cond {A = Option (ℕ × ℕ)} b (Some (place, done)) None ≡ None → drop place is ≡ []
+      by_test is place done true less e = absurd (none_some (place, done) (sym e))
+      by_test is place done false less e = drop_all place is (ltb-false place (length is) less)
+
+      none_marked_left : (is : List IndexAt) (stage : Stage) → mark_in is stage ≡ None → indexes_left is stage ≡ []
+      none_marked_left is (marking place done) e = by_test is place done (nat_lt place (length is)) refl e
+      none_marked_left is (sweeping names) e = refl
 
   -- one is to be marked, or it is not to be had
-  pub found_then : (e : Collector) → SettlesNext d now c e (Ok true) → FindsNext d parts old e (Ok true)
-  found_then e settles = record {
+  pub found_then : (e : Collector) (digests : Vec Digest32 Global) → SettlesNext d now c e (Ok (Some digests)) → FindsNext d parts old e (Ok (Some digests))
+  found_then e digests settles = record {
     further = further_then e settles.further;
-    shows = λ acts s sweep holds shown. shows_then e (Ok true) acts s sweep settles.shows holds shown;
+    shows = λ acts s sweep holds shown. shows_then e (Ok (Some digests)) acts s sweep settles.shows holds shown;
     at_hand = settles.at_hand;
-    all_marked = λ e. absurd (true_false e);
-    found = (h.passed, found_after e (settles.found refl));
+    all_marked = λ is. absurd (found_none digests is);
+    found = (h.passed, found_after e digests.items (settles.found digests refl));
     unread = λ honest. h.unread honest ∙ sym (unread_as c honest) ∙ settles.unread (honest_now honest);
   }
 
@@ -431,24 +645,24 @@ module _ {D : Type 0} (d : Ghosts D) (parts now : Parts D) (old c : Collector) (
   unread_then e (Unreadable name) settles = record {
     further = further_then e settles.further;
     shows = λ acts s sweep holds shown. shows_then e (Err (Unreadable name)) acts s sweep settles.shows holds shown;
-    at_hand = λ e. absurd (err_ok (Unreadable name) true e);
-    all_marked = λ e. absurd (err_ok (Unreadable name) false e);
+    at_hand = λ digests is. absurd (err_ok (Unreadable name) (Some digests) is);
+    all_marked = λ is. absurd (err_ok (Unreadable name) None is);
     found = tt;
     unread = λ honest. h.unread honest ∙ sym (unread_as c honest) ∙ settles.unread (honest_now honest);
   }
   unread_then e NoMemory settles = record {
     further = further_then e settles.further;
     shows = λ acts s sweep holds shown. shows_then e (Err NoMemory) acts s sweep settles.shows holds shown;
-    at_hand = λ e. absurd (err_ok NoMemory true e);
-    all_marked = λ e. absurd (err_ok NoMemory false e);
+    at_hand = λ digests is. absurd (err_ok NoMemory (Some digests) is);
+    all_marked = λ is. absurd (err_ok NoMemory None is);
     found = tt;
     unread = λ honest. tt;
   }
   unread_then e DiskFailed settles = record {
     further = further_then e settles.further;
     shows = λ acts s sweep holds shown. shows_then e (Err DiskFailed) acts s sweep settles.shows holds shown;
-    at_hand = λ e. absurd (err_ok DiskFailed true e);
-    all_marked = λ e. absurd (err_ok DiskFailed false e);
+    at_hand = λ digests is. absurd (err_ok DiskFailed (Some digests) is);
+    all_marked = λ is. absurd (err_ok DiskFailed None is);
     found = tt;
     unread = λ honest. tt;
   }
@@ -457,12 +671,12 @@ module _ {D : Type 0} (d : Ghosts D) (parts now : Parts D) (old c : Collector) (
 pub passed_none : {D : Type 0} (d : Ghosts D) (parts : Parts D) (c : Collector) → HasPassed d parts parts c c
 passed_none d parts c = record {
   reads = reads_none d parts.disk ⊥ (λ no. no);
-  kept = record { catalogue = refl; sessions = refl; locks = refl };
+  kept = record { catalogue = refl; sessions = refl; locks = refl; indexes = refl };
   further = further_same c;
   shows = λ acts s sweep holds h. (h, tt);
   passed = 0;
   plan = refl;
-  entries = refl;
+  pages = refl;
   skipped = λ honest n below. absurd (omega (arith, below));
   let_go = λ more. absurd (omega (arith, more));
   unread = λ honest. refl;
@@ -471,19 +685,19 @@ passed_none d parts c = record {
 -- ---- by what was returned
 
 -- the error of a call is handed on
-pub handed_on : (P : Result Bool Unread → Type 0) (r : Result Bool Unread) (u : Unread) → IsErrAnd r (λ x. x ≡ u) → P (Err u) → P r
+pub handed_on : (P : Found → Type 0) (r : Found) (u : Unread) → IsErrAnd r (λ x. x ≡ u) → P (Err u) → P r
 handed_on P (Ok found) u is p = absurd is
 handed_on P (Err x) u is p = subst (λ y. P (Err y)) (sym is) p
 
-unread_same : (x y : Unread) → ◌≡◌ {A = Result Bool Unread} (Err x) (Err y) → x ≡ y
+unread_same : (x y : Unread) → ◌≡◌ {A = Found} (Err x) (Err y) → x ≡ y
 unread_same x y e = cc
 
-handed_why : {A : Type 0} (r : Result Bool Unread) (s : Result A Unread) (u : Unread) → IsErrAnd r (λ x. x ≡ u) → s ≡ Err u → IsErrOf r DiskFailed → IsErrOf s DiskFailed
+handed_why : {A : Type 0} (r : Found) (s : Result A Unread) (u : Unread) → IsErrAnd r (λ x. x ≡ u) → s ≡ Err u → IsErrOf r DiskFailed → IsErrOf s DiskFailed
 handed_why {A} (Ok found) s u is was failed = absurd is
 handed_why {A} (Err x) s u is was failed = was ∙ ap (λ y. let q : Result A Unread = Err y in q) (sym is ∙ unread_same x DiskFailed failed)
 
 -- of one call
-pub handed_reads : {D A : Type 0} (d : Ghosts D) (old new : D) (r : Result Bool Unread) (s : Result A Unread) (u : Unread) → IsErrAnd r (λ x. x ≡ u) → s ≡ Err u
+pub handed_reads : {D A : Type 0} (d : Ghosts D) (old new : D) (r : Found) (s : Result A Unread) (u : Unread) → IsErrAnd r (λ x. x ≡ u) → s ≡ Err u
     → OnlyReads d old new (IsErrOf s DiskFailed) → OnlyReads d old new (IsErrOf r DiskFailed)
 handed_reads d old new r s u is was reads = record {
   serves = record { kept = (reads.serves).kept; count = (reads.serves).count; cause = λ failed. (reads.serves).cause (handed_why r s u is was failed) };
@@ -491,31 +705,33 @@ handed_reads d old new r s u is was reads = record {
   same = reads.same;
 }
 
-module _ {D : Type 0} (d : Ghosts D) (parts now later : Parts D) (old c e : Collector) (h : HasPassed d parts now old c) (r : Result Bool Unread) (reads : OnlyReads d now.disk later.disk (IsErrOf r DiskFailed))
+module _ {D : Type 0} (d : Ghosts D) (parts now later : Parts D) (old c e : Collector) (h : HasPassed d parts now old c) (r : Found) (reads : OnlyReads d now.disk later.disk (IsErrOf r DiskFailed))
     (kept : SameKept now later) (settles : SettlesNext d now c e r) where
   pub search_kept : SameKept parts later
   search_kept = record {
     catalogue = kept.catalogue ∙ (h.kept).catalogue;
     sessions = kept.sessions ∙ (h.kept).sessions;
     locks = kept.locks ∙ (h.kept).locks;
+    indexes = kept.indexes ∙ (h.kept).indexes;
   }
 
   -- one was passed over
-  pub search_passed : r ≡ Ok false → IsSome (next_mark c.plan) → HasPassed d parts later old e
+  pub search_passed : r ≡ Ok None → IsSome (next_mark c.plan) → HasPassed d parts later old e
   search_passed is some =
-      let one : SettlesNext d now c e (Ok false) = subst (SettlesNext d now c e) is settles in
-      let why : IsErrOf r DiskFailed → ⊥ = λ failed. err_ok DiskFailed false (sym failed ∙ is) in
+      let one : SettlesNext d now c e (Ok None) = subst (SettlesNext d now c e) is settles in
+      let why : IsErrOf r DiskFailed → ⊥ = λ failed. err_ok DiskFailed None (sym failed ∙ is) in
       passed_then d parts now old c h later e (IsErrOf r DiskFailed) why reads kept one (one.passes refl some)
 
   -- one is found
-  pub search_found : r ≡ Ok true → FindsNext d parts old e (Ok true)
-  search_found is = found_then d parts now old c h e (subst (SettlesNext d now c e) is settles)
+  pub search_found : (digests : Vec Digest32 Global) → r ≡ Ok (Some digests) → FindsNext d parts old e (Ok (Some digests))
+  search_found digests is = found_then d parts now old c h e digests (subst (SettlesNext d now c e) is settles)
 
-  pub search_found_reads : r ≡ Ok true → OnlyReads d parts.disk later.disk (IsErrOf (Ok true) DiskFailed)
-  search_found_reads is = reads_then d parts.disk now.disk later.disk ⊥ (IsErrOf r DiskFailed) (IsErrOf (Ok true) DiskFailed) h.reads reads (λ failed. absurd (err_ok DiskFailed true (sym failed)))
+  pub search_found_reads : (digests : Vec Digest32 Global) → r ≡ Ok (Some digests) → OnlyReads d parts.disk later.disk (IsErrOf {T = Option (Vec Digest32 Global)} (Ok (Some digests)) DiskFailed)
+  search_found_reads digests is =
+      reads_then d parts.disk now.disk later.disk ⊥ (IsErrOf r DiskFailed) (IsErrOf {T = Option (Vec Digest32 Global)} (Ok (Some digests)) DiskFailed) h.reads reads (λ failed. absurd (err_ok DiskFailed (Some digests) (sym failed)))
 
   -- or it is not to be had
-  module _ (result : Result Bool Unread) (u : Unread) (handed : IsErrAnd result (λ x. x ≡ u)) (was : r ≡ Err u) where
+  module _ (result : Found) (u : Unread) (handed : IsErrAnd result (λ x. x ≡ u)) (was : r ≡ Err u) where
     pub search_unread : FindsNext d parts old e result
     search_unread = handed_on (FindsNext d parts old e) result u handed (unread_then d parts now old c h e u (subst (SettlesNext d now c e) was settles))
 
@@ -523,19 +739,7 @@ module _ {D : Type 0} (d : Ghosts D) (parts now later : Parts D) (old c e : Coll
     search_unread_reads =
         reads_then d parts.disk now.disk later.disk ⊥ (IsErrOf r DiskFailed) (IsErrOf result DiskFailed) h.reads reads (λ failed. inr (handed_why result r u handed was failed))
 
-pub search_over_reads : {D : Type 0} (d : Ghosts D) (parts now : Parts D) (old c : Collector) → HasPassed d parts now old c → OnlyReads d parts.disk now.disk (IsErrOf (Ok false) DiskFailed)
-search_over_reads d parts now old c h = reads_then d parts.disk now.disk now.disk ⊥ ⊥ (IsErrOf (Ok false) DiskFailed) h.reads (reads_none d now.disk ⊥ (λ no. no)) (λ failed. absurd (err_ok DiskFailed false (sym failed)))
-
--- ---- what is at hand
-
-pub none_items : (v : Vec Digest32 Global) (b : Bool) → b ≡ (vec_len v == 0) → b ≡ true → v.items ≡ []
-none_items v b is empty = let n = eqb-true (vec_len v) 0 (sym is ∙ empty) in nil_from_length v.items (omega (arith, v.ok.0, n))
-
-pub some_items : (v : Vec Digest32 Global) (b : Bool) → b ≡ (vec_len v == 0) → b ≡ false → v.items ≡ [] → ⊥
-some_items v b is full none =
-    let z = ap length none in
-    let n : vec_len v ≡ 0 = omega (arith, v.ok.0, z) in
-    true≢false (sym (eq-eqb (vec_len v) 0 n) ∙ sym is ∙ full)
-
-pub none_read : (v : Vec Digest32 Global) → v.items ≡ [] → ◌≡◌ {A = Result (List (List ℕ)) Refusal} (Ok (bytes_of v)) (Ok [])
-none_read v none = ap (λ ds. let r : Result (List (List ℕ)) Refusal = Ok (map (λ (d : Digest32). d.0) ds) in r) none
+pub search_over_reads : {D : Type 0} (d : Ghosts D) (parts now : Parts D) (old c : Collector) → HasPassed d parts now old c
+    → OnlyReads d parts.disk now.disk (IsErrOf {T = Option (Vec Digest32 Global)} (Ok None) DiskFailed)
+search_over_reads d parts now old c h =
+    reads_then d parts.disk now.disk now.disk ⊥ ⊥ (IsErrOf {T = Option (Vec Digest32 Global)} (Ok None) DiskFailed) h.reads (reads_none d now.disk ⊥ (λ no. no)) (λ failed. absurd (err_ok DiskFailed None (sym failed)))

@@ -1,6 +1,6 @@
 -- The start of a collector: what refuses it, and that its plan is the new sweep of the plain store.
 use Rattle.std.proofs.Common.{◌≡◌, ◌<◌, ◌≤◌, ◌+◌, ◌^◌, get_or, ◌++◌, ℕ, Bool, true, false, cond, min, List, [], ◌∷◌, append-nil, append_assoc, drop, filter, flat_map, length, map, take, Option, Some, None, Result, Ok, Err, IsErrAnd, refl, sym, ap, subst, ◌∙◌, arith}
-use Rattle.std.specs.Prelude.{AllPairs}
+use Rattle.std.specs.Prelude.{AllPairs, IfSome}
 use Rattle.std.specs.List.{All}
 use Rattle.std.proofs.lemmas.Bool.{or_parts}
 use Rattle.std.proofs.lemmas.List.{drop_all, drop_more, map-append, take_more}
@@ -19,8 +19,9 @@ use Rattle.store_model.specs.Stands.{IsSnapshot, keys_rise, names_content}
 use Rattle.store_model.specs.Store.{Store, session}
 use Rattle.store_model.specs.Store as model
 use Rattle.atime_book.specs.Touches.{cutoff_of}
-use Rattle.gc_plan.specs.Plan.{Plan, begun}
+use Rattle.gc_plan.specs.Plan.{Plan, begun, next_index}
 use Rattle.gc_plan.specs.declared.IndexAt.{IndexAt}
+use Rattle.paged_indexes.specs.declared.index.IndexPages.{IndexPages}
 use Rattle.backup_session.specs.Shown.{shown}
 use Rattle.store_history.specs.Sweeping.{Unmarked, digests_of, earlier, new_sweep, oldest_in, unmarked_of}
 use Rattle.store_history.specs.Sweeping as sweeps
@@ -36,11 +37,11 @@ use Rattle.core_state.specs.declared.entering.Place.{Place}
 use Rattle.core_state.specs.declared.parts.Parts.{Parts}
 use Rattle.store_stops.specs.declared.stop.Stop.{Stop}
 use Rattle.store_stops.specs.declared.stop.Stop.TheVariants as stops
-use Rattle.core_state.specs.Entries.{FitsEntries}
+use Rattle.core_state.specs.Entries.{FitsPages}
 use Rattle.core_state.specs.Holds.{Shows}
 use Rattle.core_state.specs.Numbers.{AreNumbered, IsGiven}
 use Rattle.core_state.specs.Shown.{files_named, shown_file, shown_files, shown_session, shown_snapshot}
-use Rattle.core_state.specs.Sweeps.{FitsRemoved, HasNumber, ShowsSweep, digests_in, kept_at, left_at, left_in, left_of_kept, unmarked_by, visits_by}
+use Rattle.core_state.specs.Sweeps.{FitsRemoved, HasNumber, HasPages, ShowsSweep, digests_in, kept_at, left_at, left_in, left_of_kept, unmarked_by, visits_by}
 use Rattle.core_state.specs.Wanted.{want_idle}
 use Rattle.core_collect.specs.Starting.{GivesCollector, IsNewCollector, MayOpen, earlier_of, indexes_in, indexes_of, oldest_kept, start_told}
 use Rattle.core_collect.proofs.Lists.{each_numbered}
@@ -212,7 +213,7 @@ started_shows parts s acts lane moment c shows numbers new =
       to_visit = ap (λ (p : Plan). visits_by p.stage) new.plan_is;
       removed = ap (λ (p : Plan). p.removed) new.plan_is;
       few = subst (λ (p : Plan). FitsRemoved p.stage p.removed) (sym new.plan_is) refl;
-      entries = λ some. absurd (some new.none_read);
+      pages = subst (λ (o : Option IndexPages). IfSome o (λ q. HasPages catalogue s.snapshots q (next_index c.plan))) (sym new.none_open) tt;
       numbers = subst (λ (p : Plan). All (HasNumber acts) p.indexes) (sym new.plan_is) (numbers_in acts catalogue numbers.given);
     }
 
@@ -300,8 +301,13 @@ indexes_next xs i x lt at =
     ∙ sym (ap indexes_in (take_more xs i x lt ∙ ap (λ y. take i xs ++ y ∷ []) (sym at)))
 
 -- of a plan that begins none are at hand
-pub fits_new : (moment : ℕ) (oldest : Option ℕ) (catalogue : List Listed) (p : Plan) → p ≡ begun moment oldest (indexes_in catalogue) → FitsEntries p []
-fits_new moment oldest catalogue p is = subst (λ q. FitsEntries q []) (sym is) (record { named = names_in catalogue; within = λ begun. absurd (omega (arith, begun)); few = omega arith })
+pub fits_new : (moment : ℕ) (oldest : Option ℕ) (catalogue : List Listed) (p : Plan) → p ≡ begun moment oldest (indexes_in catalogue) → FitsPages p None
+fits_new moment oldest catalogue p is =
+    subst (λ q. FitsPages q None) (sym is)
+    (record { named = names_in catalogue; begun = λ some. absurd (omega (arith, some)); within = λ some. absurd (none_is some); few = omega arith })
+  where
+    none_is : false ≡ true → ⊥
+    none_is e = cc
 
 -- what refuses it is handed on
 pub opening_stops : {D : Type 0} (parts : Parts D) (before : Option Collector) (at : Place) (stop : Stop) (r : Result Collector Stop) → IsErrAnd r (λ x. x ≡ stop) → MayOpen parts before at.lane (Err stop)

@@ -58,6 +58,7 @@ use Rattle.core_state.proofs.Clocks.{entered_for, next_begun}
 use Rattle.core_state.proofs.ForeignLemmas.{no_fault_before}
 use Rattle.core_state.proofs.LaterPlans.{WasOpen, closed_open, was_open}
 use Rattle.core_state.proofs.Reserves.{step_keeps_cut, step_keeps_filled, step_keeps_short}
+use Rattle.core_state.proofs.Acting.{plain_of}
 use Rattle.core_state.proofs.Stepped.{IsStepped, acted_stepped, begun_stepped, closed_step_stands, ended_shown, failed_step_stands, going_shown, halted_step_stands, passed_step_stands, refused_step_stands, short_step_stands}
 use Rattle.core_state.proofs.SteppedImages.{SparesStored, stays_spare}
 use Rattle.core_state.proofs.SteppedTouches.{passed_keeps, unpassed_keeps}
@@ -373,7 +374,7 @@ module _ {D E C : Type 0} (d : Ghosts D) (clock : clocks.Ghosts C) (old mid acte
       subst (λ p. IsEntered d acted new lane m 0 (Some (Refused (refusals.WrongState (state_of (session_at p lane))))) answer) b.parts
       (unfaulted_entered d acted between new lane lane m 0 (Some (Refused (refusals.WrongState (state_of (session_at mid.parts lane))))) answer e closes refl) in
       let kind : (answer.entry).kind ≡ COMMAND_KIND = ap (λ x. x.kind) entered.entry in
-      let kept : SameKept mid.parts acted.parts = record { catalogue = ap (λ p. p.catalogue.listed) parts; sessions = ap (λ p. p.sessions.items) parts; locks = ap (λ p. p.locks) parts } in
+      let kept : SameKept mid.parts acted.parts = record { catalogue = ap (λ p. p.catalogue.listed) parts; sessions = ap (λ p. p.sessions.items) parts; locks = ap (λ p. p.locks) parts; indexes = ap (λ p. p.indexes.items) parts } in
       let still : new.collector ≡ old.collector = entered.collector ∙ collector ∙ b.collector in
       let stepped : IsStepped d clock.readings old acted new lane m 0 (Some r) answer =
       acted_stepped d clock.readings old mid acted new lane m 0 (Some r) answer ⊥ acted.fault acted.collector ready others.journal others.clock others.remote (others.fault ∙ b.fault) kept
@@ -399,7 +400,7 @@ module _ {D E C : Type 0} (d : Ghosts D) (clock : clocks.Ghosts C) (old mid acte
       (λ h s touches so.
       unpassed_keeps d clock.readings old acted new h lane m 0 (Some r) answer stepped so touches (λ e. omega (arith, e)) (same_book upkeep)
       (λ _ x digest. subst (λ q. IsSome (get (d.content q) (chunk_name x)) ↔ IsSome ((touches_of_history h).last x)) (sym same) (touches.present none x digest)) old.collector touches.sweep
-      (λ y at. record { was = y; there = sym still ∙ at; plan = refl; same_entries = refl })
+      (λ y at. record { was = y; there = sym still ∙ at; plan = refl; same_pages = refl })
       (fits_as h lane 0 answer (ap (λ x. x.lane) entered.entry) kind tt))
       (λ h s touches. stays_spare stays (d.content (old.parts).disk) (world h) refl)
       (record {
@@ -644,7 +645,7 @@ module _ {D E C : Type 0} (d : Ghosts D) (clock : clocks.Ghosts C) (old mid acte
         })
         (collects_short lane old.collector new.collector x y was now does.lane on goes_on does.same) (step_as_any (short kind entered.reply_is))
         (step_keeps_filled d clock.readings old mid acted new lane m 2 (Some r) answer b others.journal filled uncut entered)
-        (record { kept = stepped.kept; uncalled = λ none_called. absurd (true_false (sym none_called)); disk = λ _ honest. reads o does (λ failed. cc) honest ∙ ap (λ z. after z (d.content (old.parts).disk)) (may o does) })
+        (record { kept = plain_of old.parts acted.parts stepped.kept; uncalled = λ none_called. absurd (true_false (sym none_called)); disk = λ _ honest. reads o does (λ failed. cc) honest ∙ ap (λ z. after z (d.content (old.parts).disk)) (may o does) })
         (λ h s kept. let w = (tells o does h s kept).0 in
         short_step_stands d clock.readings old acted new h lane m answer s inside (w.holds).honest stepped uncut (opened_same o does does.ends) (λ _. ((w.holds).files, only o does (λ failed. cc) h s)))
         (λ h s kept so. let w = (tells o does h s kept).0 in
@@ -687,7 +688,7 @@ module _ {D E C : Type 0} (d : Ghosts D) (clock : clocks.Ghosts C) (old mid acte
         (step_as_any (failed none kind entered.reply_is (entered.fault ∙ ap (λ n. Some n) (sym entered.place))
         (subst (λ p. Rose (d.faults (old.parts).disk) (d.faults p.disk)) (sym entered.parts) (stepped.rose refl none))))
         (step_keeps_filled d clock.readings old mid (record acted { fault = Some place; collector = closed_on lane acted.collector }) new lane m 5 (Some r) answer b others.journal filled uncut entered)
-        (record { kept = stepped.kept; uncalled = λ none_called. absurd (true_false (sym none_called)); disk = λ fine. absurd (fine refl) })
+        (record { kept = plain_of old.parts acted.parts stepped.kept; uncalled = λ none_called. absurd (true_false (sym none_called)); disk = λ fine. absurd (fine refl) })
         (λ h s kept.
         failed_step_stands d clock.readings old (record acted { fault = Some place; collector = closed_on lane acted.collector }) new h lane m answer s inside
         ((does.serves).kept.0 (subst (λ p. d.honest p.disk) (sym b.parts) s.honest)) acted.collector stepped none (opened_same o does does.ends) refl)

@@ -17,7 +17,7 @@ use Rattle.snapshot_files.specs.Forgotten.{MayLose}
 use Rattle.snapshot_files.proofs.Losing.{loses_one}
 use Rattle.gc_plan.specs.Plan.{Plan, next_visit, visited, with_removal}
 use Rattle.core_state.specs.Changes.{drops, stays}
-use Rattle.core_state.specs.Entries.{FitsEntries}
+use Rattle.core_state.specs.Entries.{FitsPages}
 use Rattle.core_collect.specs.Visiting.{DropsFirst, IsListed, ListsPlan, VisitedFirst, VisitsNext, VisitsOne, goes}
 use Rattle.core_collect.proofs.Fitting.{first_fits}
 use Rattle.core_collect.proofs.VisitLemmas.{goes_so, visited_less}
@@ -104,7 +104,7 @@ module _ {D : Type 0} (d : Ghosts D) (old mid : D) (book : Book) (p listed : Pla
   -- the chunks were not listed
   pub next_unlisted : (l r : Result (Unit {0}) DiskError) → ListsPlan d old mid p listed l → IsErr l → IsErr r → VisitsNext d old mid book book p listed r
   next_unlisted l r lists unlisted failed = record {
-    fits = λ entries fits. subst (λ x. FitsEntries x entries) (sym (lists.failed unlisted)) fits;
+    fits = λ pages fits. subst (λ x. FitsPages x pages) (sym (lists.failed unlisted)) fits;
     change = stays;
     going = inl refl;
     crash = (lists.reads).crash;
@@ -119,7 +119,7 @@ module _ {D : Type 0} (d : Ghosts D) (old mid : D) (book : Book) (p listed : Pla
     -- none is left
     pub next_none : (q : Plan) → next_visit listed ≡ None → q ≡ visited listed → VisitsNext d old mid book book p q (Ok tt)
     next_none q none plan_is = record {
-      fits = λ entries fits. first_fits entries d old p listed q are (inl plan_is) fits;
+      fits = λ pages fits. first_fits pages d old p listed q are (inl plan_is) fits;
       change = stays;
       going = inl refl;
       crash = reads.crash;
@@ -152,7 +152,7 @@ module _ {D : Type 0} (d : Ghosts D) (old mid : D) (book : Book) (p listed : Pla
           by_goes : (b : Bool) → goes book behind digest ≡ b → VisitsNext d old new book after_ p q r
           by_goes false fresh = absurd (ok_both v unvisited ((visit.stays fresh).3))
           by_goes true stale = record {
-            fits = λ entries fits. first_fits entries d old p listed q are (inl ((visit.failed unvisited).1 ∙ behind_is)) fits;
+            fits = λ pages fits. first_fits pages d old p listed q are (inl ((visit.failed unvisited).1 ∙ behind_is)) fits;
             change = drops (chunk_name digest.0 ∷ []);
             going = inr (drops_first stale);
             crash = reads_then_goes d old mid new (chunk_name digest.0) reads.crash (visit.crash stale);
@@ -170,7 +170,7 @@ module _ {D : Type 0} (d : Ghosts D) (old mid : D) (book : Book) (p listed : Pla
           by_goes false fresh =
               let same = visit.stays fresh in
               record {
-                fits = λ entries fits. first_fits entries d old p listed q are (inl (same.2 ∙ behind_is)) fits;
+                fits = λ pages fits. first_fits pages d old p listed q are (inl (same.2 ∙ behind_is)) fits;
                 change = stays;
                 going = inl refl;
                 crash = subst (λ (x : D). LeavesSame d old x) (sym same.0) reads.crash;
@@ -184,7 +184,7 @@ module _ {D : Type 0} (d : Ghosts D) (old mid : D) (book : Book) (p listed : Pla
               let taken = visit.taken stale in
               let plan_is : q ≡ with_removal (visited listed) = taken.1 ∙ ap with_removal behind_is in
               record {
-                fits = λ entries fits. first_fits entries d old p listed q are (inr plan_is) fits;
+                fits = λ pages fits. first_fits pages d old p listed q are (inr plan_is) fits;
                 change = drops (chunk_name digest.0 ∷ []);
                 going = inr (drops_first stale);
                 crash = reads_then_goes d old mid new (chunk_name digest.0) reads.crash (visit.crash stale);

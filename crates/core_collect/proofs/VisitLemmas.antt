@@ -1,8 +1,7 @@
 -- A visit of the collector is that of the sweep.
 use Rattle.disk_trait.specs.declared.disk.Disk.{Ghosts}
 use Rattle.std.proofs.Common.{◌≡◌, ◌⊎◌, inl, inr, ℕ, suc, ◌<◌, ◌≤◌, ◌+◌, ◌^◌, min, Bool, true, false, cond, List, [], ◌∷◌, length, Option, Some, None, Result, Ok, Err, refl, sym, subst, ap, ◌∙◌, arith, true≢false}
-use Rattle.std.specs.Prelude.{IfSome, IsErrOf, IsSomeAnd, Vec, unwrap_or}
-use Rattle.std.specs.declared.alloc.Global.{Global}
+use Rattle.std.specs.Prelude.{IfSome, IsErrOf, IsSomeAnd, unwrap_or}
 use Rattle.std.specs.FinMap.{remove}
 use Rattle.std.specs.List.{All}
 use Rattle.std.specs.Option.{IsSome}
@@ -32,7 +31,8 @@ use Rattle.store_stops.specs.declared.stop.Stop.TheVariants as stops
 use Rattle.core_state.specs.Changes.{Change, after, drops, stays}
 use Rattle.core_state.specs.Holds.{Holds}
 use Rattle.core_state.specs.Passes.{KeepsPlan, PassTouches}
-use Rattle.core_state.specs.Sweeps.{FitsRemoved, HasEntries, HasNumber, ShowsSweep, unmarked_by, visits_by}
+use Rattle.paged_indexes.specs.declared.index.IndexPages.{IndexPages}
+use Rattle.core_state.specs.Sweeps.{FitsRemoved, HasNumber, HasPages, ShowsSweep, unmarked_by, visits_by}
 use Rattle.core_state.specs.Unchanged.{SameKept}
 use Rattle.core_state.specs.Upkeeps.{touches_kept}
 use Rattle.core_collect.specs.Beside.{IsPresent, IsSweepable, StandsBeside, passed_touches}
@@ -235,6 +235,11 @@ visited_less d disk p listed q ahead (inr (none, (names, e, are))) is =
 
 -- ---- the sweep's visit
 
+-- nothing is said of pages at hand where no index is next
+any_pages : (o : Option IndexPages) → IfSome o (λ q. Unit {0})
+any_pages None = tt
+any_pages (Some q) = tt
+
 -- the plan with these chunks left is the sweep
 shows_left : (acts : ℕ) (catalogue others : List Listed) (s : Store) (e f : Collector) (sweep later : Sweep) (ds : List Digest32) (removed : ℕ) → others ≡ catalogue → ShowsSweep acts catalogue s.snapshots e sweep
     → f.plan ≡ record (e.plan) { stage = sweeping ds; removed = removed } → later ≡ record sweep { to_visit = Some (bytes_of ds); removed = removed } → sweep.unmarked ≡ [] → removed + length ds < 2 ^ 63
@@ -248,7 +253,7 @@ shows_left acts catalogue others s e f sweep later ds removed listed shows is la
       to_visit = ap (λ (p : Plan). visits_by p.stage) is;
       removed = ap (λ (p : Plan). p.removed) is;
       few = subst (λ (p : Plan). FitsRemoved p.stage p.removed) (sym is) few;
-      entries = λ some. subst (λ (p : Plan). HasEntries catalogue s.snapshots f.entries.items (next_index p)) (sym is) tt;
+      pages = subst (λ (p : Plan). IfSome f.pages (λ q. HasPages catalogue s.snapshots q (next_index p))) (sym is) (any_pages f.pages);
       numbers = subst (λ (p : Plan). All (HasNumber acts) p.indexes) (sym is) shows.numbers;
     }))
 
@@ -402,8 +407,8 @@ module _ {D : Type 0} (d : Ghosts D) (old new : Parts D) (mid : D) (u v : Upkeep
       (files ∙ ap (after change) (reads.same holds.honest))
 
   -- want of memory has changed nothing
-  pub visit_wanting : f.plan ≡ e.plan → f.entries ≡ e.entries → v.book ≡ u.book → d.content new.disk ≡ d.content old.disk → IsTheSweeps d new v acts f s w moment (Err stops.NoMemory)
-  visit_wanting plan_is entries book files = record {
+  pub visit_wanting : f.plan ≡ e.plan → f.pages ≡ e.pages → v.book ≡ u.book → d.content new.disk ≡ d.content old.disk → IsTheSweeps d new v acts f s w moment (Err stops.NoMemory)
+  visit_wanting plan_is pages book files = record {
     holds = holds_same d old new s kept holds honest files;
     touches_are = visited_touches u v w.touches None touches_are undated book;
     present = subst (λ (m : Files). IsPresent m w.touches) (sym files) present;
@@ -419,8 +424,8 @@ module _ {D : Type 0} (d : Ghosts D) (old new : Parts D) (mid : D) (u v : Upkeep
         to_visit = ap (λ (p : Plan). visits_by p.stage) plan_is ∙ shows.to_visit;
         removed = ap (λ (p : Plan). p.removed) plan_is ∙ shows.removed;
         few = subst (λ (p : Plan). FitsRemoved p.stage p.removed) (sym plan_is) shows.few;
-        entries = subst (λ (p : Plan). (f.entries.items ≡ [] → ⊥) → HasEntries old.catalogue.listed s.snapshots f.entries.items (next_index p)) (sym plan_is)
-            (subst (λ (xs : Vec Digest32 Global). (xs.items ≡ [] → ⊥) → HasEntries old.catalogue.listed s.snapshots xs.items (next_index e.plan)) (sym entries) shows.entries);
+        pages = subst (λ (p : Plan). IfSome f.pages (λ q. HasPages old.catalogue.listed s.snapshots q (next_index p))) (sym plan_is)
+            (subst (λ (o : Option IndexPages). IfSome o (λ q. HasPages old.catalogue.listed s.snapshots q (next_index e.plan))) (sym pages) shows.pages);
         numbers = subst (λ (p : Plan). All (HasNumber acts) p.indexes) (sym plan_is) shows.numbers;
       }
 
@@ -433,7 +438,7 @@ want_unfailed : ◌≡◌ {A = Result (Unit {0}) DiskError} (Err NoMemory) (Err 
 want_unfailed e = cc
 
 module _ {D : Type 0} (d : Ghosts D) (old new : Parts D) (mid : D) (u v : Upkeep) (c e f : Collector) (failed : Type 0) (moment : ℕ)
-    (reads : OnlyReads d old.disk mid failed) (kept : SameKept old new) (finds : FindsNext d old c e (Ok false)) (ended : f.ended ≡ e.ended) (entries : f.entries ≡ e.entries)
+    (reads : OnlyReads d old.disk mid failed) (kept : SameKept old new) (finds : FindsNext d old c e (Ok None)) (ended : f.ended ≡ e.ended) (pages : f.pages ≡ e.pages)
     (undated : v.undated ≡ u.undated) (ahead : is_plan_over c.plan ≡ false) (going : c.ended ≡ None) (acts : ℕ) (s : Store) (w : Swept)
     (beside : StandsBeside d old u acts (Some c) s w.touches w.sweep) (able : IsSweepable s w) (honest : d.honest new.disk) where
   abbrev Tells : Result (Unit {0}) DiskError → Change → Type 0
@@ -461,7 +466,7 @@ module _ {D : Type 0} (d : Ghosts D) (old new : Parts D) (mid : D) (u v : Upkeep
   tells_wanting : (x : VisitsNext d mid new.disk u.book v.book e.plan f.plan (Err NoMemory)) → Tells (Err NoMemory) x.change
   tells_wanting x = with_sweep (Err NoMemory) x.change (λ sweep is shows none left. (
     visit_wanting d old new mid u v e f failed moment acts s w sweep reads kept honest (ended ∙ (finds.further).ended ∙ going) undated beside.holds beside.touches_are beside.present shows none left is able
-        (x.want refl).0 entries (x.unswept refl)
+        (x.want refl).0 pages (x.unswept refl)
         (x.content want_unfailed honest_before ∙ ap (λ (y : Change). after y (d.content mid)) (x.want refl).1 ∙ reads.same (beside.holds).honest),
     subst (Spares s) (sym (x.want refl).1) (spares_same s),
   ))
@@ -477,13 +482,13 @@ module _ {D : Type 0} (d : Ghosts D) (old new : Parts D) (mid : D) (u v : Upkeep
           x.change drop
 
 pub visited_tells : {D : Type 0} (d : Ghosts D) (old new : Parts D) (mid : D) (u v : Upkeep) (c e f : Collector) (failed : Type 0) (moment : ℕ) (r : Result (Unit {0}) DiskError)
-    → OnlyReads d old.disk mid failed → SameKept old new → Serves d.honest d.faults mid new.disk (IsErrOf r Failed) → FindsNext d old c e (Ok false)
-    → (x : VisitsNext d mid new.disk u.book v.book e.plan f.plan r) → f.ended ≡ e.ended → f.entries ≡ e.entries → v.undated ≡ u.undated → is_plan_over c.plan ≡ false → c.ended ≡ None
+    → OnlyReads d old.disk mid failed → SameKept old new → Serves d.honest d.faults mid new.disk (IsErrOf r Failed) → FindsNext d old c e (Ok None)
+    → (x : VisitsNext d mid new.disk u.book v.book e.plan f.plan r) → f.ended ≡ e.ended → f.pages ≡ e.pages → v.undated ≡ u.undated → is_plan_over c.plan ≡ false → c.ended ≡ None
     → (acts : ℕ) (s : Store) (w : Swept) → StandsBeside d old u acts (Some c) s w.touches w.sweep → IsSweepable s w
     → IsTheSweeps d new v acts f s w moment (visit_outcome r) × Spares s x.change
-visited_tells d old new mid u v c e f failed moment (Ok done) reads kept serves finds x ended entries undated ahead going acts s w beside able =
-    tells_done d old new mid u v c e f failed moment reads kept finds ended entries undated ahead going acts s w beside able (serves.kept.0 ((reads.serves).kept.0 (beside.holds).honest)) done x
-visited_tells d old new mid u v c e f failed moment (Err NoMemory) reads kept serves finds x ended entries undated ahead going acts s w beside able =
-    tells_wanting d old new mid u v c e f failed moment reads kept finds ended entries undated ahead going acts s w beside able (serves.kept.0 ((reads.serves).kept.0 (beside.holds).honest)) x
-visited_tells d old new mid u v c e f failed moment (Err Failed) reads kept serves finds x ended entries undated ahead going acts s w beside able =
-    tells_failed d old new mid u v c e f failed moment reads kept finds ended entries undated ahead going acts s w beside able (serves.kept.0 ((reads.serves).kept.0 (beside.holds).honest)) x
+visited_tells d old new mid u v c e f failed moment (Ok done) reads kept serves finds x ended pages undated ahead going acts s w beside able =
+    tells_done d old new mid u v c e f failed moment reads kept finds ended pages undated ahead going acts s w beside able (serves.kept.0 ((reads.serves).kept.0 (beside.holds).honest)) done x
+visited_tells d old new mid u v c e f failed moment (Err NoMemory) reads kept serves finds x ended pages undated ahead going acts s w beside able =
+    tells_wanting d old new mid u v c e f failed moment reads kept finds ended pages undated ahead going acts s w beside able (serves.kept.0 ((reads.serves).kept.0 (beside.holds).honest)) x
+visited_tells d old new mid u v c e f failed moment (Err Failed) reads kept serves finds x ended pages undated ahead going acts s w beside able =
+    tells_failed d old new mid u v c e f failed moment reads kept finds ended pages undated ahead going acts s w beside able (serves.kept.0 ((reads.serves).kept.0 (beside.holds).honest)) x

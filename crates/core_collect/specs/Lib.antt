@@ -1,4 +1,5 @@
 pub mod Starting
+pub mod Entries
 pub mod Marking
 pub mod Visiting
 pub mod Ending

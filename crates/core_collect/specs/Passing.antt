@@ -1,6 +1,7 @@
 -- The next mark, visit or end of a collector by its own plan, on any disk.
 use Rattle.disk_trait.specs.declared.disk.Disk.{Ghosts}
-use Rattle.std.specs.Prelude.{◌≡◌, ◌⊎◌, ℕ, true, false, List, Option, Some, None}
+use Rattle.std.specs.Prelude.{◌≡◌, ◌⊎◌, ℕ, true, false, List, [], Option, Some, None}
+use Rattle.store_types.specs.declared.names.Digest32.{Digest32}
 use Rattle.store_files.specs.Book.{Book, book_text}
 use Rattle.wire_commands.specs.declared.reply.Reply.{Reply}
 use Rattle.atime_book.specs.Touches.{as_of}
@@ -19,10 +20,10 @@ use Rattle.core_collect.specs.Ending.{Reports, report_reply}
 use Rattle.core_collect.specs.Marking.{AtHand, FindsAfter, MarksSome}
 use Rattle.core_collect.specs.Visiting.{DropsFirst, IsListed, VisitedFirst}
 
--- the next entries of the index that is next are marked, of which the digests are at hand
-abbrev pub MarksNext : Book → Book → Collector → Collector → ℕ → Change → Type 0
-MarksNext before after_ c e moment change =
-    AtHand c × MarksSome before after_ c e moment × (change ≡ stays)
+-- these digests of the index that is next are marked, of which the pages are at hand
+abbrev pub MarksNext : Book → Book → Collector → Collector → List Digest32 → ℕ → Change → Type 0
+MarksNext before after_ c e digests moment change =
+    AtHand c digests × MarksSome before after_ c e digests moment × (change ≡ stays)
 
 -- no index is left: the chunks are listed, where they were not, and the first is visited, if one is left
 abbrev pub VisitsFirst : {D : Type 0} → Ghosts D → D → Book → Book → Collector → Collector → Change → Type 0
@@ -34,10 +35,11 @@ VisitsFirst d disk before after_ c e change =
 pub record PassesOn {D : Type 0} (d : Ghosts D) (disk : D) (catalogue : List Listed) (before after_ : Book) (c e : Collector) (moment : ℕ) (change : Change) : Type 0 where
   pub passed : ℕ
   pub mid : Collector
-  pub finds : FindsAfter d disk catalogue passed c mid
-  pub does : MarksNext before after_ mid e moment change ⊎ VisitsFirst d disk before after_ mid e change
+  pub digests : List Digest32
+  pub finds : FindsAfter d disk catalogue passed c mid digests
+  pub does : MarksNext before after_ mid e digests moment change ⊎ VisitsFirst d disk before after_ mid e change
 
--- so, or the next index does not decode: it is ended early, and nothing is touched or taken out
+-- so, or the next index does not decode or is not as it was opened: it is ended early, and nothing is touched or taken out
 abbrev pub PassesOrEnds : {D : Type 0} → Ghosts D → D → List Listed → Book → Book → Collector → Collector → ℕ → Change → Option Early → Type 0
 PassesOrEnds d disk catalogue before after_ c e moment change None =
     PassesOn d disk catalogue before after_ c e moment change
@@ -49,7 +51,7 @@ pub record LosesFirst {D : Type 0} (d : Ghosts D) (disk : D) (catalogue : List L
   pub going : is_over c.plan ≡ false
   pub passed : ℕ
   pub mid : Collector
-  pub finds : FindsAfter d disk catalogue passed c mid
+  pub finds : FindsAfter d disk catalogue passed c mid []
   pub none_left : next_mark mid.plan ≡ None
   pub drops : DropsFirst d disk book mid.plan change
 

@@ -64,7 +64,7 @@ MayOpen parts collector lane result = Gives (λ (may : Unit {0}). may) result (s
 pub record IsNewCollector {D : Type 0} (parts : Parts D) (lane moment : ℕ) (c : Collector) : Type 0 where
   pub lane_is : c.lane ≡ lane
   pub plan_is : c.plan ≡ begun moment (oldest_kept parts.sessions.items) (indexes_in parts.catalogue.listed)
-  pub none_read : c.entries.items ≡ []
+  pub none_open : c.pages ≡ None
   pub goes_on : c.ended ≡ None
 
 -- it opens where nothing refuses it

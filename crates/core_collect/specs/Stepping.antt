@@ -67,7 +67,7 @@ abbrev pub MayTouch : Change → Upkeep → Upkeep → ℕ → Outcome → Type 
 MayTouch change u v moment (Ok None) = PassTouches change (touches_kept u) (touches_kept v) moment
 MayTouch change u v moment result = v ≡ u
 
--- an index did not decode
+-- an index did not decode, or was not as it was opened
 abbrev pub IsIndex : Early → Type 0
 IsIndex (Unreadable path) = Unit {0}
 IsIndex early = ⊥
@@ -145,7 +145,7 @@ pub record CollectDoes {D : Type 0} (d : Ghosts D) (old new : Parts D) (u v : Up
   pub ends : MayEnd e result
   pub further : GoesDown c e result
   pub same : KeepsFixed c e result
-  -- an honest disk's index that is next does not decode, or there is none such
+  -- an honest disk's index that is next does not decode or is not as it was opened, or there is none such
   pub unread : result ≡ Ok None → d.honest old.disk → path_of_early e.ended ≡ next_unreadable (d.content old.disk) old.catalogue.listed c
   pub tells : (acts : ℕ) (s : Store) (w : Swept) → StandsBeside d old u acts (Some c) s w.touches w.sweep → IsSweepable s w
       → IsTheSweeps d new v acts e s w at.moment result × Spares s change
@@ -225,6 +225,7 @@ pub record StepTells {D E C : Type 0} (d : Ghosts D) (old new : Core D E C) (lan
       → IsSomeAnd old.collector (λ c. EndsWhole (old.upkeep).book c answer.reply)
   -- what such an end saved is a book
   pub fits : is_cut lane old.collector ≡ false → (answer.entry).kind ≡ STOP_KIND → NoneAfter (old.upkeep).book old.last → FitsBook (as_of (answer.entry).moment (old.upkeep).book)
-  -- An honest disk's index that does not decode ends it early as it comes to be marked, and nothing else does so in a mark or a visit.
+  -- An honest disk's index that does not decode ends it early as it comes to be marked, so does a page of its next entries that is not as it was
+  -- opened, and nothing else does so in a mark or a visit.
   pub unread : is_cut lane old.collector ≡ false → (answer.entry).kind ≡ PART_KIND → d.honest (old.parts).disk
       → IsSomeAnd old.collector (λ c. path_ended new.collector ≡ next_unreadable (d.content (old.parts).disk) (old.parts).catalogue.listed c)

@@ -1,26 +1,32 @@
 //! The marks of a collector.
 
-ghost use Rattle.std.specs.Prelude.{◌≡◌, ◌≤◌, IfErr, IfOk, IsErrOf, IsSome, length, option_map};
+ghost use Rattle.std.specs.Prelude.{◌≡◌, ◌<◌, ◌-◌, min, IfErr, IfOk, IsErrOf, IsSome, length, option_map};
 ghost use Rattle.disk_trait.specs.Effects.{OnlyReads};
-ghost use Rattle.gc_plan.specs.Plan.{entry_limit, next_mark};
+ghost use Rattle.store_stops.specs.declared.stop.Stop.TheVariants.{DiskFailed as StopFailed};
+ghost use Rattle.gc_plan.specs.Plan.{mark_limit, next_mark};
+ghost use Rattle.paged_indexes.specs.Index.{HasWidth, pages_by};
 ghost use Rattle.core_state.specs.Unchanged.{SameKept};
 ghost use Rattle.core_collect.specs.declared.marking.Unread.TheVariants.{DiskFailed, NoMemory, Unreadable};
-ghost use Rattle.core_collect.specs.Marking.{AreDigests, AtHand, FindsNext, IfUnreadable, MarksSome, PassesOver, ReadsDigests, SettlesNext, path_at};
+ghost use Rattle.core_collect.specs.Entries.{AreNext, IsBatch, ReadsPages, TakesKept, entry_digests};
+ghost use Rattle.core_collect.specs.Marking.{AtHand, FindsNext, IfUnreadable, MarksSome, OpensFirst, PassesOver, ReadsNext, SettlesNext, UnreadBy, path_at};
 
 use atime_book::Book;
 use core_state::{Catalogue, Collector, Parts, path_named, touch_each};
 use disk_trait::Disk;
-use gc_plan::{IndexAt, mark_size};
-use paged_indexes::{IndexEntry, IndexKind, TakesEntries};
-use snapshot_files::{FilePath, index_kind, open_index};
+use gc_plan::{IndexAt, MARK_LIMIT, mark_size};
+use paged_indexes::{IndexEntry, IndexKind, IndexPages, Page, TakesEntries};
+use snapshot_files::{FilePath, index_kind, open_index, read_page};
 use std::alloc::{AllocError, Global};
 use store_stops::Stop;
 use store_types::Digest32;
 
-/// Why the digests of an index are not had.
+// The entries of a page of an index.
+const PAGE_ENTRIES: u32 = 1024;
+
+/// Why the digests that are marked next are not had.
 #[derive(Debug, Drop)]
 pub enum Unread {
-    /// No index stands there, or the file does not decode.
+    /// No index stands there, the file does not decode, or a page is not as it was opened.
     Unreadable(FilePath),
     NoMemory,
     DiskFailed,
@@ -50,42 +56,133 @@ fn unreadable(alloc: Global, path: &FilePath) -> Result<Unread, AllocError>
     Ok(Unread::Unreadable(FilePath::from_string(text)))
 }
 
-/// The digests of an index's entries as they are read.
-#[derive(Drop)]
-struct Digests {
-    items: Vec<Digest32>,
+/// The index at the path is not read for this reason.
+fn why_unread(alloc: Global, path: &FilePath, stop: Stop) -> Unread
+    ensures { UnreadBy path.now stop result }
+{
+    match stop {
+        Stop::Refused(_) => match unreadable(alloc, path) {
+            Ok(unread) => unread,
+            Err(_) => Unread::NoMemory,
+        },
+        Stop::NoMemory => Unread::NoMemory,
+        Stop::DiskFailed => Unread::DiskFailed,
+    }
 }
 
-impl TakesEntries for Digests {
-    ghost taken = { λ d base entries. AreDigests entries d.items };
+/// The digests that are marked next, as entries of their index are read: some are passed over first.
+#[derive(Drop)]
+pub struct Batch {
+    /// So many entries are still to be passed over.
+    pub skip: u32,
+    /// 1,000 at most.
+    pub digests: Vec<Digest32>,
+}
+
+impl TakesEntries for Batch {
+    ghost taken = { λ b base entries. IsBatch b (entry_digests entries) };
 
     fn take(&mut self, _start: u64, entry: &IndexEntry) -> Result<(), AllocError> {
-        self.items.push(entry.digest)?;
+        if self.skip > 0 {
+            self.skip -= 1;
+            return Ok(());
+        }
+        if self.digests.len() < MARK_LIMIT as usize {
+            self.digests.push(entry.digest)?;
+        }
         Ok(())
     }
 }
 
-/// The digests of the entries of the index at the path. It is unreadable where no such index stands there.
-fn read_digests<D: Disk>(
+/// An index that was opened to be marked.
+#[derive(Drop)]
+pub struct Opened {
+    pub pages: IndexPages,
+    /// Those of its first entries, 1,000 at most.
+    pub digests: Vec<Digest32>,
+}
+
+/// Opens the index at the path. It is unreadable where no such index stands there.
+fn open_first<D: Disk>(
     disk: &mut D,
     alloc: Global,
     path: &FilePath,
     kind: IndexKind,
-) -> Result<Vec<Digest32>, Unread>
+) -> Result<Opened, Unread>
     ensures reads { OnlyReads D.Disk disk.old disk.new (IsErrOf result DiskFailed) }
-    ensures exact { ReadsDigests D.Disk disk.old path.now kind result }
-    ensures few { IfOk result (λ digests. length digests.items ≤ entry_limit) }
+    ensures exact { OpensFirst D.Disk disk.old path.now kind result }
     // on any disk
+    ensures many { IfOk result (λ opened. length opened.digests.items
+        ≡ min mark_limit (pages_by opened.pages).count) }
     ensures named { IfErr result (IfUnreadable (λ name. name ≡ path.now)) }
 {
-    let mut digests = Digests {
-        items: Vec::new(alloc),
+    let mut batch = Batch {
+        skip: 0,
+        digests: Vec::new(alloc),
     };
-    match open_index(disk, alloc, path.as_str(), kind, &mut digests) {
-        Ok(_) => Ok(digests.items),
-        Err(Stop::Refused(_)) => Err(unreadable(alloc, path)?),
-        Err(Stop::NoMemory) => Err(Unread::NoMemory),
-        Err(Stop::DiskFailed) => Err(Unread::DiskFailed),
+    match open_index(disk, alloc, path.as_str(), kind, &mut batch) {
+        Ok(pages) => Ok(Opened {
+            pages,
+            digests: batch.digests,
+        }),
+        Err(stop) => Err(why_unread(alloc, path, stop)),
+    }
+}
+
+/// Hands on the entries of the page of an entry, and those of the next page where the entries that are marked from that
+/// one on reach into it.
+fn read_pages<D: Disk>(
+    disk: &mut D,
+    alloc: Global,
+    path: &FilePath,
+    pages: &IndexPages,
+    first: u32,
+    batch: &mut Batch,
+) -> Result<(), Stop>
+    requires { first < (pages_by pages.now).count }
+    ensures reads { OnlyReads D.Disk disk.old disk.new (IsErrOf result StopFailed) }
+    ensures exact { ReadsPages D.Disk disk.old path.now pages.now first
+        batch.old batch.new result }
+    // on any disk
+    ensures kept { IfOk result (λ _. TakesKept pages.now first batch.old batch.new) }
+    ensures width { HasWidth pages.now }
+{
+    let end = pages.len().min(first + MARK_LIMIT);
+    let mut room = Page::new(alloc)?;
+    let name = path.as_str();
+    let i = first / PAGE_ENTRIES;
+    read_page(disk, alloc, name, pages, i, &mut room, batch)?;
+    if end <= (i + 1) * PAGE_ENTRIES {
+        return Ok(());
+    }
+    read_page(disk, alloc, name, pages, i + 1, &mut room, batch)
+}
+
+/// The digests that are marked of an index from one of its entries on: of 1,000 entries, or of all that are left. It is
+/// unreadable where one of their pages is not as it was opened.
+fn read_next<D: Disk>(
+    disk: &mut D,
+    alloc: Global,
+    path: &FilePath,
+    pages: &IndexPages,
+    first: u32,
+) -> Result<Vec<Digest32>, Unread>
+    requires { first < (pages_by pages.now).count }
+    ensures reads { OnlyReads D.Disk disk.old disk.new (IsErrOf result DiskFailed) }
+    ensures exact { ReadsNext D.Disk disk.old path.now pages.now first result }
+    // on any disk
+    ensures kept { IfOk result (λ digests. AreNext pages.now first digests.items) }
+    ensures many { IfOk result (λ digests. length digests.items
+        ≡ min mark_limit ((pages_by pages.now).count - first)) }
+    ensures named { IfErr result (IfUnreadable (λ name. name ≡ path.now)) }
+{
+    let mut batch = Batch {
+        skip: first % PAGE_ENTRIES,
+        digests: Vec::new(alloc),
+    };
+    match read_pages(disk, alloc, path, pages, first, &mut batch) {
+        Ok(()) => Ok(batch.digests),
+        Err(stop) => Err(why_unread(alloc, path, stop)),
     }
 }
 
@@ -95,77 +192,80 @@ fn pass_over(collector: &mut Collector)
     ensures { PassesOver collector.old collector.new }
 {
     collector.plan.marked(0, 0);
-    collector.entries.clear();
+    collector.pages = None;
 }
 
-/// Reads the index that is next, where its digests are not at hand. Whether it is to be marked: one that was forgotten or
-/// has no entries is passed over.
+/// Reads the next entries of the index that is next, which is opened where its pages are not at hand. None are to be marked
+/// where it is passed over: it was forgotten or has no entries.
 fn settle_next<D: Disk>(
     parts: &mut Parts<D>,
     alloc: Global,
     collector: &mut Collector,
-) -> Result<bool, Unread>
+) -> Result<Option<Vec<Digest32>>, Unread>
     ensures reads { OnlyReads D.Disk parts.old.disk parts.new.disk (IsErrOf result DiskFailed) }
     ensures kept { SameKept parts.old parts.new }
     ensures next { SettlesNext D.Disk parts.old collector.old collector.new result }
 {
+    let Some((_, first)) = collector.plan.mark_next() else {
+        return Ok(None);
+    };
     let Some(index) = collector.plan.index_next() else {
-        return Ok(false);
+        return Ok(None);
     };
     let kind = index_kind(&index.name);
     let Some(path) = path_of(&parts.catalogue, index) else {
         pass_over(collector);
-        return Ok(false);
+        return Ok(None);
     };
-    if !collector.entries.is_empty() {
-        return Ok(true);
+    if let Some(pages) = &collector.pages {
+        let digests = read_next(&mut parts.disk, alloc, path, pages, first)?;
+        return Ok(Some(digests));
     }
-    collector.entries = read_digests(&mut parts.disk, alloc, path, kind)?;
-    if collector.entries.is_empty() {
+    let opened = open_first(&mut parts.disk, alloc, path, kind)?;
+    if opened.pages.len() == 0 {
         pass_over(collector);
-        return Ok(false);
+        return Ok(None);
     }
-    Ok(true)
+    collector.pages = Some(opened.pages);
+    Ok(Some(opened.digests))
 }
 
-/// Passes over indexes that were forgotten or have no entries. Whether one is to be marked then, of which the digests are
-/// at hand. The next one may not decode.
+/// Passes over indexes that were forgotten or have no entries. The digests that are marked next, if an index is left: its
+/// pages are at hand then. The next one may not decode, or not be as it was opened.
 pub fn find_next<D: Disk>(
     parts: &mut Parts<D>,
     alloc: Global,
     collector: &mut Collector,
-) -> Result<bool, Unread>
+) -> Result<Option<Vec<Digest32>>, Unread>
     ensures reads { OnlyReads D.Disk parts.old.disk parts.new.disk (IsErrOf result DiskFailed) }
     ensures kept { SameKept parts.old parts.new }
     ensures next { FindsNext D.Disk parts.old collector.old collector.new result }
 {
     while collector.plan.mark_next().is_some() {
-        if settle_next(parts, alloc, collector)? {
-            return Ok(true);
+        if let Some(digests) = settle_next(parts, alloc, collector)? {
+            return Ok(Some(digests));
         }
     }
-    Ok(false)
+    Ok(None)
 }
 
-/// Marks the next entries of the index that is next, 1,000 at most: touches those of their chunks that are there. It takes
-/// no memory.
-pub fn mark(book: &mut Book, collector: &mut Collector, moment: u64)
-    requires { AtHand collector.old }
-    ensures { MarksSome book.old book.new collector.old collector.new moment }
+/// Marks the next entries of the index that is next, which have these digests: touches those of their chunks that are
+/// there. It takes no memory.
+pub fn mark(book: &mut Book, collector: &mut Collector, digests: &[Digest32], moment: u64)
+    requires { AtHand collector.old digests.now }
+    ensures { MarksSome book.old book.new collector.old collector.new digests.now moment }
 {
     let Some((_, first)) = collector.plan.mark_next() else {
         return;
     };
-    let from = first as usize;
-    let left = (collector.entries.len() - from) as u32;
+    let Some(pages) = &collector.pages else {
+        return;
+    };
+    let left = pages.len() - first;
     let count = mark_size(left);
-    touch_each(
-        book,
-        &collector.entries[from..from + count as usize],
-        moment,
-    );
+    touch_each(book, digests, moment);
     collector.plan.marked(count, left - count);
     if count == left {
-        collector.entries.clear();
+        collector.pages = None;
     }
 }

@@ -110,7 +110,7 @@ fn new_collector<D>(parts: &Parts<D>, alloc: Global, at: Place) -> Result<Collec
     Ok(Collector {
         lane: at.lane,
         plan: gc_plan::start(at.moment, oldest_in(&parts.sessions), indexes),
-        entries: Vec::new(alloc),
+        pages: None,
         ended: None,
     })
 }

@@ -24,8 +24,8 @@ use std::alloc::Global;
 use store_stops::Stop;
 use store_types::{FAULT_KIND, PART_KIND, Refusal, STOP_KIND};
 
-/// The next mark or visit of a collector, or its end, which gives the report. An index that does not decode is not marked: the
-/// collector's next act is its end.
+/// The next mark or visit of a collector, or its end, which gives the report. An index that does not decode, or is not as it
+/// was opened, is not marked: the collector's next act is its end.
 fn collect<D: Disk>(
     parts: &mut Parts<D>,
     upkeep: &mut Upkeep,
@@ -48,11 +48,11 @@ fn collect<D: Disk>(
         return Ok(Some(report));
     }
     match find_next(parts, alloc, collector) {
-        Ok(true) => {
-            mark(&mut upkeep.book, collector, at.moment);
+        Ok(Some(digests)) => {
+            mark(&mut upkeep.book, collector, &digests, at.moment);
             Ok(None)
         }
-        Ok(false) => {
+        Ok(None) => {
             visit_next(
                 &mut parts.disk,
                 alloc,
@@ -160,8 +160,9 @@ fn close_at_fault(collector: &mut Option<Collector>, lane: u32, kind: u8)
 /// report and has saved the book.
 ///
 /// It is refused where the lane's collector is not open. Want of memory changes nothing but that the next act is the end. An
-/// index that does not decode is not marked, and the next act is the end too. Such an end replies what ended the collector,
-/// takes no memory and makes no call of the disk. Where the disk fails the collector is closed.
+/// index that does not decode is not marked, nor is one of which a page to be read is not as it was opened, and the next act is
+/// the end too. Such an end replies what ended the collector, takes no memory and makes no call of the disk. Where the disk
+/// fails the collector is closed.
 pub fn step<D: Disk, E, C: Clock>(core: &mut Core<D, E, C>, alloc: Global, lane: u32) -> Answer
     requires lane { lane < 64 }
     requires room { HasRoom core.old lane }

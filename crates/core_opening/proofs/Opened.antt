@@ -19,7 +19,10 @@ use Rattle.store_history.specs.History.{after_all}
 use Rattle.opening_files.specs.Leaving.{IsLeaving, MayClean}
 use Rattle.opening_files.proofs.Leavers.{stands_cleaned}
 use Rattle.core_state.specs.declared.state.Core.{Core}
+use Rattle.core_state.specs.declared.indexes.Indexes.{Indexes}
+use Rattle.core_state.specs.declared.indexes.Indexes.TheVariants.{Unread}
 use Rattle.core_state.specs.declared.kept.Session.TheVariants.{Idle}
+use Rattle.core_state.specs.Indexed.{FitsRow, row_in}
 use Rattle.core_state.specs.Chunks.{HoldsOnly}
 use Rattle.core_state.specs.Collectors.{open_in}
 use Rattle.core_state.specs.Shown.{shown_session}
@@ -62,6 +65,15 @@ idle_is_sound m L s = record {
   readers = λ lane r e. absurd (no_reader L lane r e);
   apart = λ i j v w e f same. absurd (no_writer L i v e);
 }
+
+unread_one : (lane : ℕ) → row_in (replicate 64 Unread) lane ≡ Unread
+unread_one lane = elim (cases_lt lane 64) [
+  | inl lt ↦ get_or-replicate 64 lane Unread Unread lt
+  | inr le ↦ get_or_past (replicate 64 Unread) lane Unread (subst (λ n. n ≤ lane) (sym (length-replicate 64 Unread)) le)
+]
+
+unread_row : (rows : List Indexes) (lane : ℕ) → rows ≡ replicate 64 Unread → row_in rows lane ≡ Unread
+unread_row rows lane is = ap (λ rs. row_in rs lane) is ∙ unread_one lane
 
 map_replicate : (L : List Snapshot) (n : ℕ) → map (shown_session L) (replicate n none) ≡ replicate n Idle
 map_replicate L zero = refl
@@ -107,6 +119,7 @@ module _ {D E C : Type 0} (d : Ghosts D) (readings : C → Option Readings) (old
           catalogue = kept_shown c L catalogue.found after catalogue.lists first_number (core.parts).catalogue.listed catalogue.listed;
           sessions = begun.sessions ∙ sym (map_replicate L 64);
           locks = subst (λ l. Locked l (store_of L)) (sym begun.locks) (locked_none (store_of L) (no_session L));
+          indexes = λ lane. subst (FitsRow L (session (store_of L) lane)) (sym (unread_row (core.parts).indexes.items lane begun.indexes)) tt;
           sound = idle_is_sound c L after;
         };
         collecting = ap open_in begun.collector;

@@ -29,6 +29,7 @@ use Rattle.store_history.specs.History.{Opening}
 use Rattle.store_history.specs.Saved.{saved_book}
 use Rattle.core_state.specs.declared.kept.Kept.{Kept}
 use Rattle.core_state.specs.declared.kept.Listed.{Listed}
+use Rattle.core_state.specs.declared.indexes.Indexes.TheVariants.{Unread}
 use Rattle.core_state.specs.declared.kept.Session.TheVariants.{Idle}
 use Rattle.core_state.specs.declared.kept.StoredFile.{StoredFile}
 use Rattle.core_opening.specs.declared.opening.NotOpened.{NotOpened}
@@ -138,19 +139,20 @@ opening_of d old new snapshots = record {
   chunks = chunk_pieces (d.content old);
 }
 
--- no act is in the order, each reserve is whole, and no lane has a session
+-- no act is in the order, each reserve is whole, and no lane has a session or keeps anything of indexes
 pub record IsNew (x : Opened) : Type 0 where
   pub entries : (x.journal).entries.items ≡ []
   pub calls : (x.journal).calls.items ≡ []
   pub held : AllHeld x.journal
   pub sessions : x.sessions.items ≡ replicate 64 Idle
+  pub indexes : x.indexes.items ≡ replicate 64 Unread
   -- whatever acts are to come
   pub numbers : NumbersAll x.catalogue.listed
   -- no chunk was touched after the book's moment
   pub early : IsEarly (x.upkeep).book
   pub in_time : (x.upkeep).book.moment ≤ last_moment
 
--- nothing has happened yet, and no lane has a session
+-- nothing has happened yet, and no lane has a session or keeps anything of indexes
 pub record HasBegun {D E C : Type 0} (core : Core D E C) : Type 0 where
   pub fault : core.fault ≡ None
   pub collector : core.collector ≡ None
@@ -159,6 +161,7 @@ pub record HasBegun {D E C : Type 0} (core : Core D E C) : Type 0 where
   pub entries : (core.journal).entries.items ≡ []
   pub calls : (core.journal).calls.items ≡ []
   pub sessions : (core.parts).sessions.items ≡ replicate 64 Idle
+  pub indexes : (core.parts).indexes.items ≡ replicate 64 Unread
   pub locks : (core.parts).locks ≡ no_locks
 
 -- Where an honest disk stands for a list of snapshots, the core stands for the history without events that was opened with it, whatever the

@@ -3,6 +3,7 @@
 ghost use Rattle.std.specs.Prelude.{◌≡◌, [], replicate, IfOk, IfErr, IsErrOf};
 ghost use Rattle.disk_trait.specs.Disk.{Serves};
 ghost use Rattle.core_state.specs.Entering.{AllHeld};
+ghost use Rattle.core_state.specs.declared.indexes.Indexes.TheVariants.{Unread};
 ghost use Rattle.core_state.specs.declared.kept.Session.TheVariants.{Idle};
 ghost use Rattle.opening_files.specs.Opened.{CleansDisk, WantsMemory};
 ghost use Rattle.opening_files.specs.Removed.{StepsClean};
@@ -10,7 +11,7 @@ ghost use Rattle.core_opening.specs.Opening.{BooksDisk, CataloguesDisk, CleansOp
 
 use crate::booking::upkeep_of;
 use crate::cataloguing::catalogue_of;
-use core_state::{Catalogue, Core, Journal, Parts, Session, Upkeep};
+use core_state::{Catalogue, Core, Indexes, Journal, Parts, Session, Upkeep};
 use disk_trait::{Disk, DiskError};
 use lock_book::LockBook;
 use opening_files::open_files;
@@ -64,16 +65,29 @@ fn idle_sessions(alloc: Global) -> Result<Vec<Session>, AllocError>
     Ok(sessions)
 }
 
+/// No lane keeps anything of indexes.
+fn unread_indexes(alloc: Global) -> Result<Vec<Indexes>, AllocError>
+    ensures { IfOk result (λ v. v.items ≡ replicate 64 Unread) }
+{
+    let mut indexes = Vec::with_capacity(alloc, LANES)?;
+    while indexes.len() < LANES {
+        indexes.push(Indexes::Unread)?;
+    }
+    Ok(indexes)
+}
+
 /// What memory an opening takes beside the catalogue.
-fn state_of(alloc: Global) -> Result<(Journal, Vec<Session>), AllocError>
+fn state_of(alloc: Global) -> Result<(Journal, Vec<Session>, Vec<Indexes>), AllocError>
     ensures entries { IfOk result (λ x. x.0.entries.items ≡ []) }
     ensures calls { IfOk result (λ x. x.0.calls.items ≡ []) }
     ensures held { IfOk result (λ x. AllHeld x.0) }
     ensures sessions { IfOk result (λ x. x.1.items ≡ replicate 64 Idle) }
+    ensures indexes { IfOk result (λ x. x.2.items ≡ replicate 64 Unread) }
 {
     let journal = Journal::new(alloc)?;
     let sessions = idle_sessions(alloc)?;
-    Ok((journal, sessions))
+    let indexes = unread_indexes(alloc)?;
+    Ok((journal, sessions, indexes))
 }
 
 /// What a core begins with: its memory, and what was read of the folder.
@@ -81,6 +95,7 @@ fn state_of(alloc: Global) -> Result<(Journal, Vec<Session>), AllocError>
 struct Opened {
     journal: Journal,
     sessions: Vec<Session>,
+    indexes: Vec<Indexes>,
     catalogue: Catalogue,
     upkeep: Upkeep,
 }
@@ -95,13 +110,14 @@ fn opened_of<D: Disk>(disk: &mut D, alloc: Global) -> Result<Opened, DiskError>
     ensures book { BooksDisk D.Disk disk.old disk.new result }
     ensures begins { IfOk result IsNew }
 {
-    let (journal, sessions) = state_of(alloc)?;
+    let (journal, sessions, indexes) = state_of(alloc)?;
     let inventory = open_files(disk, alloc)?;
     let upkeep = upkeep_of(disk, alloc, &inventory.chunks)?;
     let catalogue = catalogue_of(alloc, inventory.snapshots)?;
     Ok(Opened {
         journal,
         sessions,
+        indexes,
         catalogue,
         upkeep,
     })
@@ -160,6 +176,7 @@ pub fn open_on<D: Disk, E, C: Clock>(
                 catalogue: opened.catalogue,
                 sessions: opened.sessions,
                 locks: LockBook::new(alloc),
+                indexes: opened.indexes,
             },
             remote,
             clock,

@@ -46,11 +46,13 @@ use Rattle.core_state.proofs.Commanding.{reader_shown, reader_wanted, refused_by
 use Rattle.core_state.proofs.Texts.{bad_name_has_text, no_file_has_text, wrong_state_has_text}
 use Rattle.core_state.proofs.LockLemmas.{locked_reads_on}
 use Rattle.core_state.proofs.Sessions.{at_lane}
+use Rattle.core_state.specs.Indexed.{FitsRows}
+use Rattle.core_state.proofs.Rows.{rows_reading}
 use Rattle.core_state.proofs.Soundness.{shows_changed}
 use Rattle.core_state.proofs.Finding.{is_some}
 use Rattle.core_state.proofs.Found.{IsThere, is_there, not_there, there_named, there_text, there_kind, there_fits}
 use Rattle.core_reader.specs.Asked.{asked_at, file_asked, whole_for}
-use Rattle.core_reader.proofs.Kept.{kept_is, opens_as}
+use Rattle.core_state.proofs.KeptPages.{kept_is, opens_as}
 use Rattle.core_reader.proofs.Noted.{note_key, note_none, whole_archive}
 use Rattle.core_reader.proofs.OpenSteps.{sound_reader, disk_reader}
 
@@ -296,9 +298,9 @@ module _ {D : Type 0} (d : Ghosts D) (old : Parts D) (s : Store) (lane m : ℕ) 
       → index_opened (d.content old.disk) path of_kind ≡ Ok kept
       → ((a : Archive) → content_at (files_named v.key s.snapshots) name ≡ Some (archive a) → x.entries ≡ ends_from 0 a.pieces → kept ≡ pages_of name (file_path v.key name) (file_text (archive a))
       → noted ≡ shown_session s.snapshots (reader (note name (archive a) v)))
-      → (d.honest old.disk → d.content new.disk ≡ d.content old.disk) → new.catalogue.listed ≡ old.catalogue.listed → new.sessions.items ≡ set old.sessions.items lane noted → new.locks ≡ old.locks
+      → (d.honest old.disk → d.content new.disk ≡ d.content old.disk) → new.catalogue.listed ≡ old.catalogue.listed → new.sessions.items ≡ set old.sessions.items lane noted → new.locks ≡ old.locks → new.indexes.items ≡ old.indexes.items
       → (after_it : Store) × (outcome s lane m (Download name offset) ≡ Ok (after_it, x.part)) × Shows new after_it × IsOnDisk (d.content new.disk) after_it
-  index_given new x of_kind kept noted lt whole tells opens notes same c l k =
+  index_given new x of_kind kept noted lt whole tells opens notes same c l k rows =
       let sound = (h.shows).sound in
       let i = index_there of_kind whole in
       let a = i.one in
@@ -316,7 +318,9 @@ module _ {D : Type 0} (d : Ghosts D) (old : Parts D) (s : Store) (lane m : ℕ) 
         with_session s lane (reader w),
         step_there ∙ ap (λ y. with_part s lane (note name y v) (part_from (file_text stored) offset)) i.is_one_of ∙ ap (with_part s lane w) told.0,
         shows_changed old new s lane (reader w) noted c l (notes a at_name told.1 pages)
-            (locked_reads_on old.locks new.locks s lane v w within k at (note_key name (archive a) v) (h.shows).locks) (sound_reader s lane w lt reads sound) h.shows,
+            (locked_reads_on old.locks new.locks s lane v w within k at (note_key name (archive a) v) (h.shows).locks)
+            (subst (FitsRows (with_session s lane (reader w))) (sym rows) (rows_reading s lane old.indexes.items within (h.shows).indexes v w at (note_key name (archive a) v)))
+            (sound_reader s lane w lt reads sound) h.shows,
         disk_reader (d.content new.disk) s lane w within (subst (λ f. IsOnDisk f s) (sym (same h.honest)) h.files),
       )
 
@@ -350,9 +354,9 @@ module _ {D : Type 0} (d : Ghosts D) (old : Parts D) (s : Store) (lane m : ℕ) 
       → before ≡ get_or old.sessions.items lane before
       → ((snapshots : List Snapshot) (r : model.Reader) (a : Archive) → before ≡ shown_session snapshots (reader r) → content_at (files_named r.key snapshots) name ≡ Some (archive a) → x.entries ≡ ends_from 0 a.pieces
       → kept ≡ pages_of name (file_path r.key name) (file_text (archive a)) → noted ≡ shown_session snapshots (reader (note name (archive a) r)))
-      → (d.honest old.disk → d.content new.disk ≡ d.content old.disk) → new.catalogue.listed ≡ old.catalogue.listed → new.sessions.items ≡ set old.sessions.items lane noted → new.locks ≡ old.locks
+      → (d.honest old.disk → d.content new.disk ≡ d.content old.disk) → new.catalogue.listed ≡ old.catalogue.listed → new.sessions.items ≡ set old.sessions.items lane noted → new.locks ≡ old.locks → new.indexes.items ≡ old.indexes.items
       → (after_it : Store) × (outcome s lane m (Download file offset) ≡ Ok (after_it, x.part)) × Shows new after_it × IsOnDisk (d.content new.disk) after_it
-  asked_index_given new x of_kind q name kept before noted same named some gives opens here notes content c l k =
+  asked_index_given new x of_kind q name kept before noted same named some gives opens here notes content c l k rows =
       let (v, at, is) = reader_shown old s lane asked.reading h.shows lt asked.reads in
       let shown = at_lane old.sessions.items s lane before (h.shows).sessions ((h.shows).sound).lanes lt here in
       index_given d old s lane m file path offset v asked.reading at is asked.named h asked.found new x of_kind kept noted lt (asked.whole_is ∙ some)
@@ -360,7 +364,7 @@ module _ {D : Type 0} (d : Ghosts D) (old : Parts D) (s : Store) (lane m : ℕ) 
       (λ a there ends pages. subst (λ n. noted ≡ shown_session s.snapshots (reader (note n (archive a) v))) named
       (notes s.snapshots v a (shown ∙ ap (shown_session s.snapshots) at) (subst (λ n. content_at (files_named v.key s.snapshots) n ≡ Some (archive a)) (sym named) there) ends
       (subst (λ n. kept ≡ pages_of n (file_path v.key n) (file_text (archive a))) (sym named) pages)))
-      content c l k
+      content c l k rows
 
 -- where nothing was noted the sessions are as before
 pub sessions_stay : (items : List Session) (lane : ℕ) (before after : Session) → after ≡ before → before ≡ get_or items lane before → set items lane after ≡ items

@@ -7,13 +7,15 @@ pub mod Getting
 pub mod Loads
 pub mod Pieces
 pub mod PageRanges
-pub mod Kept
 pub mod PageReads
 pub mod Downloads
 pub mod Damaging
 pub mod Telling
 pub mod ReadPart
+pub mod EntryTold
+pub mod EntryFound
 pub mod ReadEntry
 pub mod ReadTold
+pub mod Rowed
 pub mod Ranging
 pub mod RangeTold

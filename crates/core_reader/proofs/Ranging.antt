@@ -45,7 +45,7 @@ use Rattle.core_state.proofs.Commanding.{reader_shown, reader_wanted}
 use Rattle.core_state.proofs.Found.{IsThere, is_there, not_there, there_fits, there_kind, there_named, there_text}
 use Rattle.core_reader.specs.Ranges.{Ranged, StandsWhole, range_asked, range_at, range_place, ranged}
 use Rattle.core_reader.proofs.Held.{reader_held}
-use Rattle.core_reader.proofs.Kept.{index_is_kept}
+use Rattle.core_state.proofs.KeptPages.{index_is_kept}
 use Rattle.core_reader.proofs.PageRanges.{range_bytes_are}
 use Rattle.core_reader.proofs.ReadEntry.{index_archive}
 

@@ -1,8 +1,9 @@
 -- A VERIFY's read of a chunk is the store's.
 use Rattle.disk_trait.specs.declared.disk.Disk.{Ghosts}
-use Rattle.std.proofs.Common.{◌≡◌, ◌<◌, ◌≤◌, ℕ, zero, suc, ◌+◌, Bool, true, false, nat_lt, if◌then◌else◌, List, [], ◌∷◌, length, slice_get, Option, Some, None, Result, Ok, Err, IsErrAnd, IsTrue, refl, sym, ap, subst, ◌∙◌, arith}
-use Rattle.std.proofs.lemmas.Bool.{le-ltb, or_from}
-use Rattle.std.proofs.lemmas.List.Elements.{All-head, All-tail}
+use Rattle.std.proofs.Common.{◌≡◌, ◌<◌, ◌≤◌, ℕ, zero, suc, ◌+◌, ◌*◌, take, drop, ap₂, Bool, true, false, nat_lt, if◌then◌else◌, List, [], ◌∷◌, length, slice_get, Option, Some, None, Result, Ok, Err, IsErrAnd, IsTrue, refl, sym, ap, subst, ◌∙◌, arith}
+use Rattle.std.proofs.lemmas.Bool.{eqb-true, le-ltb, or_from}
+use Rattle.std.proofs.lemmas.List.Elements.{All-cons, All-head, All-nil, All-tail}
+use Rattle.std.specs.Prelude.{◌/◌, ◌==◌}
 use Rattle.std.specs.FinMap.{get}
 use Rattle.std.specs.List.{All}
 use Rattle.std.specs.Option.{option_map}
@@ -10,6 +11,7 @@ use Rattle.std.specs.Result.{result_ok}
 use Rattle.disk_trait.specs.Files.{Files}
 use Rattle.disk_trait.specs.declared.disk.DiskError.TheVariants as disks
 use Rattle.store_types.specs.declared.names.Digest32.{Digest32}
+use Rattle.store_types.specs.declared.names.SnapshotKey.{SnapshotKey}
 use Rattle.store_types.specs.declared.refusal.ChunkFault.{ChunkFault}
 use Rattle.store_types.specs.declared.refusal.ChunkFault.TheVariants.{NotABlob, Nothing}
 use Rattle.store_types.specs.declared.refusal.Refusal.{Refusal}
@@ -17,31 +19,40 @@ use Rattle.store_types.specs.declared.refusal.Refusal.TheVariants.{BadRange, Dam
 use Rattle.store_types.specs.Chain.Refusing.{◌>>=◌, or_else}
 use Rattle.store_types.specs.FileNames.{is_dynamic_name, is_fixed_name, is_index_name}
 use Rattle.blob_codec.specs.Blob.{blob as blob_of, blob_limit}
-use Rattle.store_files.specs.Archive.{Archive, Content, File, archive, blob, archive_text, digest_of, ends_from, file_named, file_text, pieces_of}
-use Rattle.store_files.specs.Folder.{chunk_name}
+use Rattle.store_files.specs.Archive.{Archive, Content, File, Snapshot, archive, blob, digest_of, ends_from, file_named, file_text, pieces_of}
+use Rattle.store_files.specs.Folder.{chunk_name, file_path}
 use Rattle.wire_frames.specs.Frames.{body_limit}
 use Rattle.wire_commands.specs.declared.reply.Reply.{Reply}
 use Rattle.wire_commands.specs.declared.reply.Reply.TheVariants as replies
 use Rattle.wire_commands.specs.declared.reply.Reply.TheVariants.{Data, Done}
 use Rattle.store_model.specs.Store as model
 use Rattle.store_model.specs.Store.{Store, Outcome, reader, session, want_reader}
-use Rattle.store_model.specs.ReaderSteps.{read_chunk, reader_files}
+use Rattle.store_model.specs.ReaderSteps.{content_at, read_chunk, reader_files}
 use Rattle.store_model.specs.Stands.{FitsContent, HoldsPieces, IsSnapshot, names_content}
 use Rattle.restore_reader.specs.Session.{Reading}
-use Rattle.paged_indexes.specs.declared.kinds.IndexKind.{IndexKind}
-use Rattle.snapshot_files.specs.Entry.{entry_at, entry_in}
-use Rattle.snapshot_files.specs.Indexes.{kind_of_index, layout_kind}
+use Rattle.paged_indexes.specs.declared.index.IndexPages.{IndexPages}
+use Rattle.paged_indexes.specs.Laws.{IsIndex}
+use Rattle.restore_reader.specs.Shown.{pages_of}
+use Rattle.index_pages.specs.Paged.{page_count}
+use Rattle.snapshot_files.specs.Indexes.{index_opened, kind_of_index, layout_kind, page_entries}
+use Rattle.restore_reader.specs.Plan.{ends_of}
 use Rattle.snapshot_files.specs.Parts.{RefusesPart}
 use Rattle.store_stops.specs.declared.stop.Stop.{Stop}
-use Rattle.snapshot_files.proofs.Archives.{archive_read, blob_no_dynamic, blob_no_fixed, layout_index}
-use Rattle.snapshot_files.proofs.EntryLemmas.{digest_among, entry_told_of}
+use Rattle.snapshot_files.proofs.Archives.{blob_no_dynamic, blob_no_fixed, layout_index}
 use Rattle.chunk_store.specs.Pieces.{IsHeld}
+use Rattle.core_state.specs.declared.indexes.Indexes.{Indexes}
+use Rattle.core_state.specs.declared.indexes.Indexes.TheVariants.{Unread, Pooled, Opened}
+use Rattle.core_state.specs.declared.indexes.OpenIndex.{OpenIndex}
+use Rattle.core_state.specs.declared.indexes.OpenPage.{OpenPage}
+use Rattle.store_files.specs.DynamicIndex.{Ended}
 use Rattle.core_state.specs.declared.kept.Listed.{Listed}
 use Rattle.core_state.specs.declared.kept.Session.{Session}
 use Rattle.core_state.specs.declared.parts.Parts.{Parts}
 use Rattle.store_stops.specs.declared.stop.Stop.TheVariants.{Refused, NoMemory, DiskFailed}
 use Rattle.core_state.specs.Found.{path_in}
 use Rattle.core_state.specs.Holds.{Holds, Shows}
+use Rattle.core_state.specs.Indexed.{AreOpened, FitsRow, IsOpened, IsPageOf, open_of, opened_of, page_of, row_at}
+use Rattle.core_state.specs.Shown.{files_named}
 use Rattle.core_state.specs.Replies.{refuses_entry}
 use Rattle.store_stops.specs.Stops.{Gives, IfRefused}
 use Rattle.core_state.specs.Unreadables.{Asked, TellsUnreadable, part_read}
@@ -49,10 +60,16 @@ use Rattle.core_state.specs.Wanted.{reader_in, session_at}
 use Rattle.core_state.proofs.Commanding.{none_refused, reader_shown, reader_wanted, refused_by_state}
 use Rattle.core_state.proofs.Finding.{found_in}
 use Rattle.core_state.proofs.Found.{IsThere, is_there, not_there, there_fits, there_kind, there_named, there_text}
+use Rattle.core_state.proofs.Rows.{open_is, page_is}
 use Rattle.core_state.proofs.Unreadables.{tells_failed}
 use Rattle.core_reader.specs.Asked.{as_entry, asked_entry, index_of, place_of}
 use Rattle.core_reader.specs.Chunks.{StopsAt, bytes_at, bytes_in}
-use Rattle.core_reader.specs.Damages.{asked_damage, bytes_damage}
+use Rattle.core_reader.specs.Damages.{asked_damage, bytes_damage, entry_damage}
+use Rattle.core_reader.specs.declared.entries.Turn.{Turn}
+use Rattle.core_reader.specs.declared.entries.Turn.TheVariants.{Stay, ToPage, ToIndex}
+use Rattle.core_reader.specs.Entries.{IsPageFor, IsTurn, IsTurnOf, ReadsPage, ReadsTurn, ReadsTurnOf, at_hand, count_of, digest_among, entry_by, entry_of, page_with, turned, turned_to}
+use Rattle.core_reader.proofs.EntryTold.{IsPageAt, entry_first, entry_later, page_there}
+use Rattle.core_state.proofs.KeptPages.{index_is_kept, index_opens}
 use Rattle.core_reader.proofs.Held.{pieces_held}
 use Rattle.core_reader.proofs.ReadPart.{IsPlaced, place_refused, place_untold}
 use Rattle.core_reader.proofs.Telling.{Tells, tells_by}
@@ -122,15 +139,120 @@ length-pieces : (start : ℕ) (ps : List (List ℕ)) → length (ends_from start
 length-pieces start [] = refl
 length-pieces start (p ∷ ps) = ap suc (length-pieces (start + length p) ps)
 
--- what is read of an archive's file is the digest of its piece there, or there is none
-archive_entry : (content : Files) (path : List ℕ) (a : Archive) (place : ℕ) → FitsContent (archive a) → get content path ≡ Some (archive_text a)
-    → entry_at content path (layout_kind a.layout) place ≡ or_else (BadRange (length a.pieces)) (option_map digest_of (slice_get a.pieces place))
-unfolding entry_at
-archive_entry content path a place fits is =
-    ap (λ (o : Option (List ℕ)). or_else (Unreadable path) o >>= λ text. entry_in path (layout_kind a.layout) text place) is
-    ∙ entry_told_of path (layout_kind a.layout) (archive_text a) (ends_from 0 a.pieces) place (archive_read a fits)
-    ∙ ap (λ n. or_else (BadRange n) (digest_among (ends_from 0 a.pieces) place)) (length-pieces 0 a.pieces)
+-- what is told of an entry of an archive's index is the digest of its piece there, or there is none
+piece_told : (a : Archive) (place : ℕ) → or_else (BadRange (length (ends_from 0 a.pieces))) (digest_among (ends_from 0 a.pieces) place) ≡ or_else (BadRange (length a.pieces)) (option_map digest_of (slice_get a.pieces place))
+piece_told a place =
+    ap (λ n. or_else (BadRange n) (digest_among (ends_from 0 a.pieces) place)) (length-pieces 0 a.pieces)
     ∙ ap (or_else (BadRange (length a.pieces))) (pieces_named 0 a.pieces place)
+
+-- the index of the archive that stands there, opened now or before
+module _ (m : Files) (snapshots : List Snapshot) (key : SnapshotKey) (name path : List ℕ) (t : IsThere snapshots key name path) (a : Archive) (one : (t.file).content ≡ archive a)
+    (there : get m path ≡ Some (file_text (archive a))) (fits : FitsContent (archive a)) (kind : names_content (archive a) name ≡ true) where
+  abbrev kept_pages : IndexPages
+  kept_pages = pages_of name (file_path key name) (file_text (archive a))
+
+  archive_index : IsIndex m kept_pages (ends_from 0 a.pieces)
+  archive_index = index_is_kept m snapshots key name path t a there fits kind
+
+  content_is : content_at (files_named key snapshots) name ≡ Some (archive a)
+  content_is = ap (option_map (λ (f : File). f.content)) (there_named snapshots key name path t) ∙ ap Some one
+
+  same_archive : (b : Archive) → content_at (files_named key snapshots) name ≡ Some (archive b) → b ≡ a
+  same_archive b at = archives (sym at ∙ content_is)
+    where
+      archives : Some (archive b) ≡ Some (archive a) → b ≡ a
+      archives e = cc
+
+  oks : {A : Type 0} (x y : A) → ◌≡◌ {A = Result A Refusal} (Ok x) (Ok y) → x ≡ y
+  oks x y e = cc
+
+  module _ (row : Indexes) (r : model.Reader) (keyed : r.key ≡ key) (fit : FitsRow snapshots (reader r) row) where
+    each_open : (x : Indexes) → FitsRow snapshots (reader r) x → All (IsOpened key (files_named key snapshots)) (opened_of x)
+    each_open Unread fit = All-nil (IsOpened key (files_named key snapshots))
+    each_open (Pooled names) fit = absurd fit
+    each_open (Opened o) fit = subst (λ k. All (IsOpened k (files_named k snapshots)) o.opened) keyed fit.each
+
+    -- one that is open has its pages
+    kept_open : (o : OpenIndex) → open_of name row ≡ Some o → o.pages ≡ kept_pages
+    kept_open o e =
+        let (opened, named) = open_is name (IsOpened key (files_named key snapshots)) row o (each_open row fit) e in
+        let same : opened.one ≡ a = same_archive opened.one (ap (content_at (files_named key snapshots)) (sym named) ∙ opened.named) in
+        opened.pages ∙ ap₂ (λ n (b : Archive). pages_of n (file_path key n) (file_text (archive b))) named same
+
+    -- and a page at hand its entries
+    abbrev piece_ends : List Ended
+    piece_ends = ends_from 0 a.pieces
+
+    page_fits : (p : OpenPage) → page_of name row ≡ Some p → ends_of p.entries.items ≡ take 1024 (drop (p.number * 1024) piece_ends)
+    page_fits p e =
+        let (o, is, page, named) = page_is name row p e in
+        let found : AreOpened r.key (files_named r.key snapshots) o = subst (FitsRow snapshots (reader r)) is fit in
+        let opened : IsPageOf (files_named key snapshots) o.page = subst (λ k. IsPageOf (files_named k snapshots) o.page) keyed found.page in
+        let here : IsPageOf (files_named key snapshots) p = subst (IsPageOf (files_named key snapshots)) page opened in
+        let same : here.one ≡ a = same_archive here.one (ap (content_at (files_named key snapshots)) (sym named) ∙ here.named) in
+        here.entries ∙ ap (λ (b : Archive). take 1024 (drop (p.number * 1024) (ends_from 0 b.pieces))) same
+
+    hand_fits : (place : ℕ) (o : Option OpenPage) → page_of name row ≡ o → IsPageAt m path kept_pages piece_ends archive_index place (page_with place o)
+    hand_fits place None e = tt
+    hand_fits place (Some p) e = by_number (p.number == place / 1024) refl
+      where
+        by_number : (b : Bool) → (p.number == place / 1024) ≡ b → IsPageAt m path kept_pages piece_ends archive_index place (if b then Some p else None)
+        by_number true at = (eqb-true p.number (place / 1024) at, page_fits p e)
+        by_number false at = tt
+
+    -- a page that was read for an entry is of the archive
+    page_read : (pages : IndexPages) (place : ℕ) (p : OpenPage) → pages ≡ kept_pages → IsPageFor pages name place p → ReadsPage m path pages p → IsPageOf (files_named key snapshots) p
+    page_read pages place p same for_it reads =
+        let below : place < length piece_ends = subst (λ n. place < n) (ap count_of same ∙ archive_index.count) for_it.below in
+        let number : p.number < page_count (length piece_ends) = subst (λ n. n < page_count (length piece_ends)) (sym for_it.number) (omega (arith, below)) in
+        record {
+          one = a;
+          named = ap (content_at (files_named key snapshots)) for_it.named ∙ content_is;
+          entries = oks _ _ (sym reads ∙ ap (λ q. page_entries m path q p.number) same ∙ page_there m path kept_pages piece_ends archive_index p.number number);
+        }
+
+    opens_kept : (o : OpenIndex) → index_opened m path (kind_of_index name) ≡ Ok o.pages → o.pages ≡ kept_pages
+    opens_kept o opens = oks _ _ (sym opens ∙ index_opens m snapshots key name path t a there fits kind)
+
+    paged : (p : OpenPage) (x : Indexes) → FitsRow snapshots (reader r) x → IsPageOf (files_named key snapshots) p → FitsRow snapshots (reader r) (turned_to p x)
+    paged p Unread fit is = tt
+    paged p (Pooled names) fit is = absurd fit
+    paged p (Opened o) fit is = record { each = fit.each; page = subst (λ k. IsPageOf (files_named k snapshots) p) (sym keyed) is }
+
+    opened_first : (o : OpenIndex) (p : OpenPage) → o.name ≡ name → o.pages ≡ kept_pages → IsPageOf (files_named key snapshots) p → FitsRow snapshots (reader r) (turned (ToIndex o p) row)
+    opened_first o p named pages is =
+        let now : IsOpened key (files_named key snapshots) o = record {
+          one = a;
+          named = ap (content_at (files_named key snapshots)) named ∙ content_is;
+          pages = pages ∙ ap (λ n. pages_of n (file_path key n) (file_text (archive a))) (sym named);
+        } in
+        let all : AreOpened key (files_named key snapshots) (record { opened = o ∷ opened_of row; page = p }) = record {
+          each = All-cons (IsOpened key (files_named key snapshots)) o (opened_of row) now (each_open row fit);
+          page = is;
+        } in
+        subst (λ k. AreOpened k (files_named k snapshots) (record { opened = o ∷ opened_of row; page = p })) (sym keyed) all
+
+    -- what the lane turned to is of its reader
+    pub turned_row : (place : ℕ) (turn : Turn) → IsTurn row name place turn → ReadsTurn row m path name turn → FitsRow snapshots (reader r) (turned turn row)
+    turned_row place turn only reads = by_open (open_of name row) refl turn only reads
+      where
+        by_open : (x : Option OpenIndex) → open_of name row ≡ x → (turn : Turn) → IsTurnOf x (at_hand row name place) name place turn → ReadsTurnOf x m path name turn → FitsRow snapshots (reader r) (turned turn row)
+        by_open None e Stay only reads = absurd only
+        by_open None e (ToPage p) only reads = absurd only
+        by_open None e (ToIndex o p) only reads =
+            let pages = opens_kept o reads.0 in
+            opened_first o p only.0 pages (page_read o.pages place p pages only.1 reads.1)
+        by_open (Some o) e Stay only reads = fit
+        by_open (Some o) e (ToPage p) only reads = paged p row fit (page_read o.pages place p (kept_open o e) only.1 reads)
+        by_open (Some o) e (ToIndex x p) only reads = absurd only
+
+    -- of the lane's row
+    pub archive_entry : (place : ℕ) → entry_by row name place m path ≡ or_else (BadRange (length a.pieces)) (option_map digest_of (slice_get a.pieces place))
+    archive_entry place = by_open (open_of name row) refl ∙ piece_told a place
+      where
+        by_open : (o : Option OpenIndex) → open_of name row ≡ o → entry_of o (at_hand row name place) (kind_of_index name) place m path ≡ or_else (BadRange (length piece_ends)) (digest_among piece_ends place)
+        by_open None e = entry_first m path kept_pages piece_ends archive_index (kind_of_index name) place (index_opens m snapshots key name path t a there fits kind)
+        by_open (Some o) e = entry_later m path kept_pages piece_ends archive_index o.pages (at_hand row name place) place (kept_open o e) (hand_fits place (page_of name row) refl)
 
 at_place : {A : Type 0} (P : A → Type 0) (xs : List A) (i : ℕ) (x : A) → All P xs → slice_get xs i ≡ Some x → P x
 at_place P [] i x all e = absurd (none_some e)
@@ -165,9 +287,9 @@ told_piece count (Some p) digest e = (p, refl, sym (same e))
     same e = cc
 
 -- the file of the reader's snapshot is an archive, whose pieces stand on the disk
-record HasIndex (m : Files) (s : Store) (lane : ℕ) (name path : List ℕ) (place : ℕ) : Type 0 where
+record HasIndex (m : Files) (s : Store) (lane : ℕ) (row : Indexes) (name path : List ℕ) (place : ℕ) : Type 0 where
   pub one : Archive
-  pub entry_is : entry_at m path (kind_of_index name) place ≡ or_else (BadRange (length one.pieces)) (option_map digest_of (slice_get one.pieces place))
+  pub entry_is : entry_by row name place m path ≡ or_else (BadRange (length one.pieces)) (option_map digest_of (slice_get one.pieces place))
   pub step_is : read_chunk s lane name place ≡ piece_then s (length one.pieces) (slice_get one.pieces place)
   pub held : All (IsHeld m) one.pieces
 
@@ -176,38 +298,53 @@ module _ {D : Type 0} (d : Ghosts D) (old : Parts D) (s : Store) (lane : ℕ) (n
   abbrev content : Files
   content = d.content old.disk
 
-  has_index : HasIndex content s lane name path place
-  unfolding file_text
+  has_index : HasIndex content s lane (row_at old lane) name path place
   has_index =
       let (v, at, is) = reader_shown old s lane placed.reading h.shows lt placed.reads in
       let t : IsThere s.snapshots v.key name path = is_there name old.catalogue.listed s.snapshots v.key path (h.shows).catalogue (ap (λ (x : Reading). path_in x.key name old.catalogue.listed) is ∙ placed.found) in
       let stored = (t.file).content in
       let (a, archived, kind) = index_archive stored name (there_kind s.snapshots v.key name path t ((h.shows).sound).each) good in
       let fits : FitsContent (archive a) = subst FitsContent archived (there_fits s.snapshots v.key name path t ((h.shows).sound).each) in
-      let text : get content path ≡ Some (archive_text a) = there_text content s.snapshots v.key name path t ((h.files).snapshots).files ∙ ap (λ c. Some (file_text c)) archived in
+      let text : get content path ≡ Some (file_text (archive a)) = there_text content s.snapshots v.key name path t ((h.files).snapshots).files ∙ ap (λ c. Some (file_text c)) archived in
       let holds : HoldsPieces content t.snapshot = found_in (HoldsPieces content) _ s.snapshots t.snapshot ((h.files).snapshots).pieces t.kept in
       let one : IsSnapshot t.snapshot = found_in IsSnapshot _ s.snapshots t.snapshot ((h.files).snapshots).each t.kept in
       let pieces : All (IsHeld content) (pieces_of stored) =
       subst (λ (o : Option File). All (IsHeld content) (elim (option_map (λ (f : File). f.content) o) [ None ↦ [] | Some c ↦ pieces_of c ])) t.named (pieces_held content t.snapshot name holds one) in
       record {
         one = a;
-        entry_is = ap (λ b. entry_at content path b place) kind ∙ archive_entry content path a place fits text;
+        entry_is =
+            archive_entry content s.snapshots v.key name path t a archived text fits (ap (λ c. names_content c name) (sym archived) ∙ there_kind s.snapshots v.key name path t ((h.shows).sound).each)
+            (row_at old lane) v refl (subst (λ x. FitsRow s.snapshots x (row_at old lane)) at ((h.shows).indexes lane)) place;
         step_is = found_file s lane name place v t.file at good (there_named s.snapshots v.key name path t) ∙ ap (of_content s place) archived;
         held = subst (λ c. All (IsHeld content) (pieces_of c)) archived pieces;
       }
 
-  module _ (q : List ℕ) (of_kind : IndexKind) (here : q ≡ path) (kind : of_kind ≡ kind_of_index name) where
-    entry_same : entry_at content path (kind_of_index name) place ≡ entry_at content q of_kind place
-    entry_same = ap (λ p. entry_at content p (kind_of_index name) place) (sym here) ∙ ap (λ b. entry_at content q b place) (sym kind)
+  -- what the lane keeps then is of its reader
+  pub turned_fits : (turn : Turn) → IsTurn (row_at old lane) name place turn → ReadsTurn (row_at old lane) content path name turn → FitsRow s.snapshots (session s lane) (turned turn (row_at old lane))
+  turned_fits turn only reads =
+      let (v, at, is) = reader_shown old s lane placed.reading h.shows lt placed.reads in
+      let t : IsThere s.snapshots v.key name path = is_there name old.catalogue.listed s.snapshots v.key path (h.shows).catalogue (ap (λ (x : Reading). path_in x.key name old.catalogue.listed) is ∙ placed.found) in
+      let stored = (t.file).content in
+      let kind = there_kind s.snapshots v.key name path t ((h.shows).sound).each in
+      let (a, archived, layout) = index_archive stored name kind good in
+      let fits : FitsContent (archive a) = subst FitsContent archived (there_fits s.snapshots v.key name path t ((h.shows).sound).each) in
+      let text : get content path ≡ Some (file_text (archive a)) = there_text content s.snapshots v.key name path t ((h.files).snapshots).files ∙ ap (λ c. Some (file_text c)) archived in
+      let row : FitsRow s.snapshots (reader v) (row_at old lane) = subst (λ x. FitsRow s.snapshots x (row_at old lane)) at ((h.shows).indexes lane) in
+      let now = turned_row content s.snapshots v.key name path t a archived text fits (ap (λ c. names_content c name) (sym archived) ∙ kind) (row_at old lane) v refl row place turn only reads in
+      subst (λ x. FitsRow s.snapshots x (turned turn (row_at old lane))) (sym at) now
+
+  module _ (q : List ℕ) (here : q ≡ path) where
+    entry_same : entry_by (row_at old lane) name place content path ≡ entry_by (row_at old lane) name place content q
+    entry_same = ap (entry_by (row_at old lane) name place content) (sym here)
 
     -- there is no such entry
-    pub entry_refused : (refusal : Refusal) → entry_at content q of_kind place ≡ Err refusal → read_chunk s lane name place ≡ Err refusal
+    pub entry_refused : (refusal : Refusal) → entry_by (row_at old lane) name place content q ≡ Err refusal → read_chunk s lane name place ≡ Err refusal
     entry_refused refusal tells =
         let i = has_index in
         i.step_is ∙ told_refused s (length (i.one).pieces) (slice_get (i.one).pieces place) refusal (sym i.entry_is ∙ entry_same ∙ tells)
 
     -- the blob of its piece is given, which stands there
-    pub entry_given : (digest : Digest32) → entry_at content q of_kind place ≡ Ok digest
+    pub entry_given : (digest : Digest32) → entry_by (row_at old lane) name place content q ≡ Ok digest
         → (p : List ℕ) × IsHeld content p × (digest ≡ digest_of p) × (read_chunk s lane name place ≡ Ok (s, Data (blob_of p)))
     entry_given digest tells =
         let i = has_index in
@@ -251,9 +388,9 @@ bytes_short bytes le = omega (arith, le)
 
 -- ---- what is asked for
 
-module _ (name : List ℕ) (place : ℕ) (session : Session) (catalogue : List Listed) where
+module _ (row : Indexes) (name : List ℕ) (place : ℕ) (session : Session) (catalogue : List Listed) where
   abbrev asked_by : Result (List ℕ) Refusal → Option Asked
-  asked_by o = option_map (as_entry name place) (result_ok o)
+  asked_by o = option_map (as_entry row name place) (result_ok o)
 
   index_unread : (refusal : Refusal) → reader_in session ≡ Err refusal → index_of name session catalogue ≡ Err refusal
   unfolding index_of
@@ -281,27 +418,30 @@ module _ (name : List ℕ) (place : ℕ) (session : Session) (catalogue : List L
           by_name true good = index_absent r at good missing
           by_name false bad = index_unnamed r at bad
 
-  unplaced_none : (refusal : Refusal) → place_of name session catalogue ≡ Err refusal → asked_entry name place session catalogue ≡ None
+  unplaced_none : (refusal : Refusal) → place_of name session catalogue ≡ Err refusal → asked_entry row name place session catalogue ≡ None
   unplaced_none refusal e = ap asked_by (index_unplaced refusal e)
 
-  pub entry_unplaced : (refusal : Refusal) → place_of name session catalogue ≡ Err refusal → (asked_entry name place session catalogue ≡ None) × ((n : List ℕ) → refusal ≡ Unreadable n → ⊥)
+  pub entry_unplaced : (refusal : Refusal) → place_of name session catalogue ≡ Err refusal → (asked_entry row name place session catalogue ≡ None) × ((n : List ℕ) → refusal ≡ Unreadable n → ⊥)
   entry_unplaced refusal e = (unplaced_none refusal e, place_untold name session catalogue refusal e)
 
-  pub entry_unnamed : (path : List ℕ) → IsPlaced name session catalogue path → is_index_name name ≡ false → asked_entry name place session catalogue ≡ None
+  pub entry_unnamed : (path : List ℕ) → IsPlaced name session catalogue path → is_index_name name ≡ false → asked_entry row name place session catalogue ≡ None
   entry_unnamed path there bad = ap asked_by (index_unnamed there.reading there.reads bad)
 
-  pub entry_asked : (path : List ℕ) → IsPlaced name session catalogue path → is_index_name name ≡ true → asked_entry name place session catalogue ≡ Some (as_entry name place path)
+  pub entry_asked : (path : List ℕ) → IsPlaced name session catalogue path → is_index_name name ≡ true → asked_entry row name place session catalogue ≡ Some (as_entry row name place path)
   entry_asked path there good = ap asked_by (index_there there.reading path there.reads good there.found)
 
   -- nor does its refusal tell of damage
   pub entry_undamaged : (H : Type 0) (m : Files) (refusal : Refusal) → place_of name session catalogue ≡ Err refusal
-      → (H → asked_damage m (asked_entry name place session catalogue) ≡ None) × ((digest : Digest32) (found : ChunkFault) → refusal ≡ Damaged digest found → ⊥)
+      → (H → asked_damage m (asked_entry row name place session catalogue) ≡ None) × ((digest : Digest32) (found : ChunkFault) → refusal ≡ Damaged digest found → ⊥)
   entry_undamaged H m refusal e = (
     λ h. ap (asked_damage m) (unplaced_none refusal e),
     place_refused name session catalogue (λ r. (digest : Digest32) (found : ChunkFault) → r ≡ Damaged digest found → ⊥)
         (λ r u. refused_by_state session r (λ q. (digest : Digest32) (found : ChunkFault) → q ≡ Damaged digest found → ⊥) (λ state digest found is. cc) u)
         (λ r at missing digest found is. cc) refusal e,
   )
+
+  pub place_no_damage : (refusal : Refusal) → place_of name session catalogue ≡ Err refusal → (digest : Digest32) (found : ChunkFault) → refusal ≡ Damaged digest found → ⊥
+  place_no_damage refusal e = (entry_undamaged (Unit {0}) (Rattle.std.specs.FinMap.empty) refusal e).1
 
   pub entry_refused_by : (refusal : Refusal) → place_of name session catalogue ≡ Err refusal → refuses_entry refusal ≡ true
   entry_refused_by = place_refused name session catalogue (λ r. refuses_entry r ≡ true) (λ r e. refused_by_state session r (λ q. refuses_entry q ≡ true) (λ state. refl) e) (λ r at missing. refl)
@@ -343,18 +483,18 @@ module _ {D : Type 0} (d : Ghosts D) (disk : D) (asked : Option Asked) (a : Aske
       by_stop NoMemory h = tells_failed d disk asked disks.NoMemory
       by_stop DiskFailed h = tells_failed d disk asked disks.Failed
 
-module _ (m : Files) (path q name : List ℕ) (place : ℕ) (of_kind : IndexKind) (here : q ≡ path) (kind : of_kind ≡ kind_of_index name) where
+module _ (m : Files) (path q : List ℕ) (row : Indexes) (name : List ℕ) (place : ℕ) (here : q ≡ path) where
   abbrev asked_of : Result Digest32 Refusal → Result Reply Refusal
   asked_of o = o >>= λ digest. Ok Done
 
-  pub entry_here : entry_at m q of_kind place ≡ entry_at m path (kind_of_index name) place
-  entry_here = ap (λ p. entry_at m p of_kind place) here ∙ ap (λ b. entry_at m path b place) kind
+  pub entry_here : entry_by row name place m q ≡ entry_by row name place m path
+  entry_here = ap (entry_by row name place m) here
 
-  pub entry_got : (digest : Digest32) → entry_at m q of_kind place ≡ Ok digest → part_read m (as_entry name place path) ≡ Ok Done
+  pub entry_got : (digest : Digest32) → entry_by row name place m q ≡ Ok digest → part_read m (as_entry row name place path) ≡ Ok Done
   entry_got digest gives = ap asked_of (sym entry_here ∙ gives)
 
-  pub entry_stop : (e : Stop) → Gives {A = Digest32} (λ digest. digest) (Err e) (entry_at m q of_kind place)
-      → Gives {A = Reply} (λ part. part) (Err e) (part_read m (as_entry name place path))
+  pub entry_stop : (e : Stop) → Gives {A = Digest32} (λ digest. digest) (Err e) (entry_by row name place m q)
+      → Gives {A = Reply} (λ part. part) (Err e) (part_read m (as_entry row name place path))
   entry_stop (Refused refusal) gives = ap asked_of (sym entry_here ∙ gives)
   entry_stop NoMemory gives = tt
   entry_stop DiskFailed gives = tt
@@ -362,17 +502,17 @@ module _ (m : Files) (path q name : List ℕ) (place : ℕ) (of_kind : IndexKind
   -- ---- what is damaged
 
   abbrev damage_in : Result Digest32 Refusal → Option (Digest32 × ChunkFault)
-  damage_in o = elim o [ Ok digest ↦ bytes_damage digest (get m (chunk_name digest.0)) | Err refusal ↦ None ]
+  damage_in o = entry_damage m o
 
-  pub damage_unread : (asked : Option Asked) (refusal : Refusal) → asked ≡ Some (as_entry name place path) → entry_at m q of_kind place ≡ Err refusal → asked_damage m asked ≡ None
+  pub damage_unread : (asked : Option Asked) (refusal : Refusal) → asked ≡ Some (as_entry row name place path) → entry_by row name place m q ≡ Err refusal → asked_damage m asked ≡ None
   damage_unread asked refusal is gives = ap (asked_damage m) is ∙ ap damage_in (sym entry_here ∙ gives)
 
-  damage_read : (asked : Option Asked) (digest : Digest32) → asked ≡ Some (as_entry name place path) → entry_at m q of_kind place ≡ Ok digest
+  damage_read : (asked : Option Asked) (digest : Digest32) → asked ≡ Some (as_entry row name place path) → entry_by row name place m q ≡ Ok digest
       → asked_damage m asked ≡ bytes_damage digest (get m (chunk_name digest.0))
   damage_read asked digest is gives = ap (asked_damage m) is ∙ ap damage_in (sym entry_here ∙ gives)
 
   -- what is told of the bytes is what they are
-  pub damage_told : (asked : Option Asked) (digest : Digest32) (found : ChunkFault) (n : Files) → asked ≡ Some (as_entry name place path) → entry_at m q of_kind place ≡ Ok digest → n ≡ m
+  pub damage_told : (asked : Option Asked) (digest : Digest32) (found : ChunkFault) (n : Files) → asked ≡ Some (as_entry row name place path) → entry_by row name place m q ≡ Ok digest → n ≡ m
       → bytes_at n digest ≡ Err (Damaged digest found) → asked_damage m asked ≡ Some (digest, found)
   damage_told asked digest found n is gives same tells =
       damage_read asked digest is gives ∙ by_bytes (get m (chunk_name digest.0)) (ap (λ f. bytes_at f digest) (sym same) ∙ tells)
@@ -393,7 +533,7 @@ module _ (m : Files) (path q name : List ℕ) (place : ℕ) (of_kind : IndexKind
       by_bytes (Some bytes) e = by_test bytes (nat_lt blob_limit (length bytes)) e
 
   -- and bytes that are given are not damaged
-  pub damage_none : (asked : Option Asked) (digest : Digest32) (given : List ℕ) (n : Files) → asked ≡ Some (as_entry name place path) → entry_at m q of_kind place ≡ Ok digest → n ≡ m
+  pub damage_none : (asked : Option Asked) (digest : Digest32) (given : List ℕ) (n : Files) → asked ≡ Some (as_entry row name place path) → entry_by row name place m q ≡ Ok digest → n ≡ m
       → bytes_at n digest ≡ Ok given → asked_damage m asked ≡ None
   damage_none asked digest given n is gives same tells =
       damage_read asked digest is gives ∙ by_bytes (get m (chunk_name digest.0)) (ap (λ f. bytes_at f digest) (sym same) ∙ tells)
@@ -420,6 +560,11 @@ no_chunk : (path : List ℕ) (r : Refusal) → RefusesPart path r → (digest : 
 no_chunk path (BadRange size) h digest found e = cc
 no_chunk path (Unreadable name) h digest found e = cc
 no_chunk path _ h digest found e = absurd h
+
+pub part_no_damage : (path : List ℕ) (e : Stop) → IfRefused (RefusesPart path) e → IfRefused (λ refusal. (digest : Digest32) (found : ChunkFault) → refusal ≡ Damaged digest found → ⊥) e
+part_no_damage path (Refused refusal) kind = no_chunk path refusal kind
+part_no_damage path NoMemory kind = tt
+part_no_damage path DiskFailed kind = tt
 
 pub unread_undamaged : (path : List ℕ) (e : Stop) (H P : Type 0) (wanted : Result Digest32 Refusal) → IfRefused (RefusesPart path) e → (H → Gives {A = Digest32} (λ digest. digest) (Err e) wanted)
     → ((refusal : Refusal) → H → wanted ≡ Err refusal → P) → IfRefused (λ refusal. (H → P) × ((digest : Digest32) (found : ChunkFault) → refusal ≡ Damaged digest found → ⊥)) e

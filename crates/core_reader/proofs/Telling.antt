@@ -26,6 +26,7 @@ use Rattle.core_state.specs.Holds.{Holds}
 use Rattle.core_state.specs.Wanted.{session_at}
 use Rattle.core_state.specs.declared.entering.Place.{Place}
 use Rattle.core_state.specs.declared.parts.Parts.{Parts}
+use Rattle.core_state.proofs.Rows.{rows_same}
 use Rattle.core_state.proofs.Commanding.{act_does, reads_disk, stopped_does, stopped_leaves, writes_leaves}
 use Rattle.core_state.specs.Replies.{answers_download, may_answer, refuses_download}
 use Rattle.core_state.specs.Settles.{kind_by, reply_by}
@@ -115,9 +116,10 @@ module _ {D : Type 0} (d : Ghosts D) (old new : Parts D) (at : Place) (act : Act
 
 -- done, where the lane's session alone has changed
 pub noted_leaves : {D : Type 0} (d : Ghosts D) (old new : Parts D) (at : Place) (file : List ℕ) (offset : ℕ) (reply : Reply) (F : Type 0) → IsNoRefusal reply → OnlyReads d old.disk new.disk F
-    → new.catalogue.listed ≡ old.catalogue.listed → ActLeaves d old new at (Plain (Download file offset)) (Ok reply)
-noted_leaves d old new at file offset reply F plain reads same =
+    → new.catalogue.listed ≡ old.catalogue.listed → new.indexes.items ≡ old.indexes.items → ActLeaves d old new at (Plain (Download file offset)) (Ok reply)
+noted_leaves d old new at file offset reply F plain reads same rows =
     writes_leaves d old new at (Plain (Download file offset)) reply plain refl reads.same reads.crash tt same (λ e. cc) (adds_same d old new (Plain (Download file offset)) (Ok reply) reads.same) (λ e. cc) (λ e. cc)
+    (rows_same old new.indexes.items at.lane (Plain (Download file offset)) rows)
 
 -- ---- what is told
 

@@ -12,8 +12,6 @@ use Rattle.wire_commands.specs.declared.reply.Reply.TheVariants.{Data, Done}
 use Rattle.store_history.specs.declared.act.Act.{Act}
 use Rattle.store_history.specs.declared.act.Act.TheVariants.{Plain, ReadFile, ReadChunk}
 use Rattle.store_history.specs.declared.act.Answer.{Answer}
-use Rattle.snapshot_files.specs.Entry.{entry_at}
-use Rattle.snapshot_files.specs.Indexes.{kind_of_index}
 use Rattle.snapshot_files.specs.Parts.{part_at}
 use Rattle.core_state.specs.declared.entering.Place.{Place}
 use Rattle.core_state.specs.declared.kept.Kept.{Kept}
@@ -26,7 +24,10 @@ use Rattle.core_state.specs.FromState.{ActTells, FromState, CoreTells}
 use Rattle.core_state.specs.Closing.{is_reader}
 use Rattle.core_state.specs.Wanted.{session_at}
 use Rattle.core_reader.specs.Asked.{index_of, place_of, to_read}
+use Rattle.core_state.specs.declared.indexes.Indexes.{Indexes}
+use Rattle.core_state.specs.Indexed.{row_at}
 use Rattle.core_reader.specs.Chunks.{bytes_at}
+use Rattle.core_reader.specs.Entries.{entry_by}
 use Rattle.core_reader.specs.ReaderActs.{CoreOpens}
 
 -- where no file is known to make it damaged
@@ -41,11 +42,11 @@ reader_told text lane session catalogue locks = to_read text session catalogue >
 abbrev pub part_told : List ℕ → ℕ → Files → ℕ → Session → List Listed → Locks → Result Reply Refusal
 part_told name offset files lane session catalogue locks = place_of name session catalogue >>= λ path. part_at files path offset
 
--- the bytes of the chunk at an entry of one of its indexes, as they stand there, or the refusal
-abbrev pub chunk_told : List ℕ → ℕ → Files → ℕ → Session → List Listed → Locks → Result Reply Refusal
-chunk_told name place files lane session catalogue locks = do
+-- the bytes of the chunk at an entry of one of its indexes, beside what the lane keeps of indexes, as they stand there, or the refusal
+abbrev pub chunk_told : Indexes → List ℕ → ℕ → Files → ℕ → Session → List Listed → Locks → Result Reply Refusal
+chunk_told row name place files lane session catalogue locks = do
   path ← index_of name session catalogue
-  digest ← entry_at files path (kind_of_index name) place
+  digest ← entry_by row name place files path
   bytes ← bytes_at files digest
   Ok (Data bytes)
 
@@ -62,7 +63,7 @@ ActReads d wanted old at result = d.honest old.disk → ActTells (wanted (d.cont
 abbrev pub ActAnswersBy : {D : Type 0} → Ghosts D → Parts D → Parts D → Place → Act → Result Reply Stop → Type 0
 ActAnswersBy d old new at (Plain (OpenReader snapshot)) result = ActOpens snapshot old new at result
 ActAnswersBy d old new at (ReadFile name offset) result = ActReads d (part_told name offset) old at result
-ActAnswersBy d old new at (ReadChunk name entry) result = ActReads d (chunk_told name entry) old at result
+ActAnswersBy d old new at (ReadChunk name entry) result = ActReads d (chunk_told (row_at old at.lane) name entry) old at result
 ActAnswersBy d old new at act result = Unit {0}
 
 -- and the core's answers
@@ -76,5 +77,5 @@ CoreReads d wanted old lane answer = d.honest (old.parts).disk → CoreTells (wa
 abbrev pub CoreAnswersBy : {D E C : Type 0} → Ghosts D → Core D E C → Core D E C → ℕ → Act → Answer → Type 0
 CoreAnswersBy d old new lane (Plain (OpenReader snapshot)) answer = CoreOpensBy snapshot old new lane answer
 CoreAnswersBy d old new lane (ReadFile name offset) answer = CoreReads d (part_told name offset) old lane answer
-CoreAnswersBy d old new lane (ReadChunk name entry) answer = CoreReads d (chunk_told name entry) old lane answer
+CoreAnswersBy d old new lane (ReadChunk name entry) answer = CoreReads d (chunk_told (row_at old.parts lane) name entry) old lane answer
 CoreAnswersBy d old new lane act answer = Unit {0}

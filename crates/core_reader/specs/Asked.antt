@@ -17,7 +17,7 @@ use Rattle.store_model.specs.ReaderSteps.{content_at, note as noted}
 use Rattle.disk_trait.specs.Files.{Files}
 use Rattle.paged_indexes.specs.declared.index.IndexPages.{IndexPages}
 use Rattle.paged_indexes.specs.declared.kinds.IndexKind.{IndexKind}
-use Rattle.snapshot_files.specs.Indexes.{index_at, index_opened, kind_named, kind_of_index}
+use Rattle.snapshot_files.specs.Indexes.{index_at, index_opened, kind_named}
 use Rattle.snapshot_files.specs.Parts.{part_reply}
 use Rattle.disk_trait.specs.declared.disk.Disk.{Ghosts}
 use Rattle.restore_reader.specs.declared.index.Table.{Table}
@@ -39,6 +39,8 @@ use Rattle.core_state.specs.Unreadables.{Asked, at_entry, from_offset, known, re
 use Rattle.core_state.specs.Wanted.{reader_in, session_at, want_idle}
 use Rattle.core_reader.specs.declared.downloading.AskedFile.{AskedFile}
 use Rattle.core_reader.specs.declared.downloading.Given.{Given}
+use Rattle.core_state.specs.declared.indexes.Indexes.{Indexes}
+use Rattle.core_reader.specs.Entries.{entry_by}
 use Rattle.core_reader.specs.Ranges.{Ranged, range_asked, range_at}
 
 -- ---- the snapshot
@@ -106,11 +108,12 @@ index_of name session catalogue = do
   _ ← unless NoFile (is_index_name name)
   or_else NoFile (path_in r.key name catalogue)
 
-abbrev pub as_entry : List ℕ → ℕ → List ℕ → Asked
-as_entry name place path = record { path = path; way = at_entry (kind_of_index name) place }
+-- an entry of it, beside what the lane keeps of indexes
+abbrev pub as_entry : Indexes → List ℕ → ℕ → List ℕ → Asked
+as_entry row name place path = record { path = path; way = at_entry (entry_by row name place) }
 
-abbrev pub asked_entry : List ℕ → ℕ → Session → List Listed → Option Asked
-asked_entry name place session catalogue = option_map (as_entry name place) (result_ok (index_of name session catalogue))
+abbrev pub asked_entry : Indexes → List ℕ → ℕ → Session → List Listed → Option Asked
+asked_entry row name place session catalogue = option_map (as_entry row name place) (result_ok (index_of name session catalogue))
 
 -- ---- a range
 
@@ -123,14 +126,14 @@ asked_range file offset len session catalogue = option_map (as_range offset (off
 
 -- ---- by the act
 
--- the file that an act asks for
-abbrev pub asked_file : Act → Session → List Listed → Option Asked
-asked_file (Plain (OpenReader snapshot)) session catalogue = asked_open snapshot session catalogue
-asked_file (Plain (Download file offset)) session catalogue = asked_download file offset session catalogue
-asked_file (Plain (Range file offset len)) session catalogue = asked_range file offset len session catalogue
-asked_file (ReadFile name offset) session catalogue = asked_part name offset session catalogue
-asked_file (ReadChunk name entry) session catalogue = asked_entry name entry session catalogue
-asked_file act session catalogue = None
+-- the file that an act asks for, beside what the lane keeps of indexes
+abbrev pub asked_file : Indexes → Act → Session → List Listed → Option Asked
+asked_file row (Plain (OpenReader snapshot)) session catalogue = asked_open snapshot session catalogue
+asked_file row (Plain (Download file offset)) session catalogue = asked_download file offset session catalogue
+asked_file row (Plain (Range file offset len)) session catalogue = asked_range file offset len session catalogue
+asked_file row (ReadFile name offset) session catalogue = asked_part name offset session catalogue
+asked_file row (ReadChunk name entry) session catalogue = asked_entry row name entry session catalogue
+asked_file row act session catalogue = None
 
 -- a file that was found, read as a part from an offset
 abbrev pub asked_from : ℕ → AskedFile → Asked

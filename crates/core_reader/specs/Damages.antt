@@ -8,8 +8,8 @@ use Rattle.store_types.specs.declared.names.Digest32.{Digest32}
 use Rattle.store_types.specs.declared.refusal.ChunkFault.{ChunkFault}
 use Rattle.store_types.specs.declared.refusal.ChunkFault.TheVariants.{Nothing, NotABlob}
 use Rattle.store_files.specs.Folder.{chunk_name}
-use Rattle.paged_indexes.specs.declared.kinds.IndexKind.{IndexKind}
-use Rattle.snapshot_files.specs.Entry.{entry_at}
+use Rattle.core_state.specs.declared.indexes.Indexes.{Indexes}
+use Rattle.core_state.specs.Indexed.{row_at}
 use Rattle.store_types.specs.declared.refusal.Refusal.{Refusal}
 use Rattle.store_types.specs.declared.refusal.Refusal.TheVariants.{Damaged}
 use Rattle.store_types.specs.declared.order.TheConstants.{COMMAND_KIND}
@@ -45,18 +45,18 @@ chunk_needed digest session = []
 
 -- ---- what is told
 
--- A VERIFY's read needs the chunk of an entry, of which the disk tells the digest. Its bytes are not tested: nothing stands there, or
+-- A VERIFY's read needs the chunk of an entry, of which the index tells the digest. Its bytes are not tested: nothing stands there, or
 -- more than a blob may have.
 abbrev pub bytes_damage : Digest32 → Option (List ℕ) → Option (Digest32 × ChunkFault)
 bytes_damage digest None = Some (digest, Nothing)
 bytes_damage digest (Some bytes) = if nat_lt blob_limit (length bytes) then Some (digest, NotABlob) else None
 
-abbrev pub entry_damage : Files → List ℕ → IndexKind → ℕ → Option (Digest32 × ChunkFault)
-entry_damage files path of_kind place =
-    elim (entry_at files path of_kind place) [ Ok digest ↦ bytes_damage digest (get files (chunk_name digest.0)) | Err refusal ↦ None ]
+abbrev pub entry_damage : Files → Result Digest32 Refusal → Option (Digest32 × ChunkFault)
+entry_damage files (Ok digest) = bytes_damage digest (get files (chunk_name digest.0))
+entry_damage files (Err refusal) = None
 
 abbrev pub damage_so : Way → Files → List ℕ → Option (Digest32 × ChunkFault)
-damage_so (at_entry of_kind place) files path = entry_damage files path of_kind place
+damage_so (at_entry telling) files path = entry_damage files (telling files path)
 damage_so way files path = None
 
 -- of a read that was refused
@@ -73,12 +73,12 @@ abbrev pub first_damage : Files → List Digest32 → Option (Digest32 × ChunkF
 first_damage files [] = None
 first_damage files (d ∷ ds) = elim (found_at files d.0) [ Ok piece ↦ first_damage files ds | Err found ↦ Some (d, found) ]
 
--- what an act's chunks are found to be
-abbrev pub damage_by : Act → Session → List Listed → Files → Option (Digest32 × ChunkFault)
-damage_by (Plain (GetChunk digest)) session catalogue files = first_damage files (chunk_needed digest session)
-damage_by (Plain (Range file offset len)) session catalogue files = damage_in (range_told file offset len files session catalogue)
-damage_by (ReadChunk name entry) session catalogue files = asked_damage files (asked_entry name entry session catalogue)
-damage_by act session catalogue files = None
+-- what an act's chunks are found to be, beside what the lane keeps of indexes
+abbrev pub damage_by : Indexes → Act → Session → List Listed → Files → Option (Digest32 × ChunkFault)
+damage_by row (Plain (GetChunk digest)) session catalogue files = first_damage files (chunk_needed digest session)
+damage_by row (Plain (Range file offset len)) session catalogue files = damage_in (range_told file offset len files session catalogue)
+damage_by row (ReadChunk name entry) session catalogue files = asked_damage files (asked_entry row name entry session catalogue)
+damage_by row act session catalogue files = None
 
 -- of a range that is read
 abbrev pub MayNeed : Result Ranged Refusal → ℕ → ℕ → Digest32 → Type 0
@@ -104,9 +104,9 @@ pub record TellsDamaged {D : Type 0} (d : Ghosts D) (disk : D) (may_name : Diges
 -- the same of an act, by how its command ended
 abbrev pub ActDamaged : {D : Type 0} → Ghosts D → Parts D → Place → Act → Result Reply Stop → Type 0
 ActDamaged d old at act result =
-    TellsDamaged d old.disk (MayName act (session_at old at.lane) old.catalogue.listed) (damage_by act (session_at old at.lane) old.catalogue.listed) (kind_by (told result)) (Some (reply_by (told result)))
+    TellsDamaged d old.disk (MayName act (session_at old at.lane) old.catalogue.listed) (damage_by (row_at old at.lane) act (session_at old at.lane) old.catalogue.listed) (kind_by (told result)) (Some (reply_by (told result)))
 
 -- and by the core's answer
 abbrev pub CoreDamaged : {D E C : Type 0} → Ghosts D → Core D E C → ℕ → Act → Answer → Type 0
 CoreDamaged d old lane act answer =
-    TellsDamaged d (old.parts).disk (MayName act (session_at old.parts lane) (old.parts).catalogue.listed) (damage_by act (session_at old.parts lane) (old.parts).catalogue.listed) (answer.entry).kind answer.reply
+    TellsDamaged d (old.parts).disk (MayName act (session_at old.parts lane) (old.parts).catalogue.listed) (damage_by (row_at old.parts lane) act (session_at old.parts lane) (old.parts).catalogue.listed) (answer.entry).kind answer.reply

@@ -1,6 +1,9 @@
 pub mod ReaderActs
 pub mod Chunks
 pub mod Ranges
+pub mod Entries
+pub mod EntryReads
 pub mod Asked
+pub mod NotesEntry
 pub mod AnsweredBy
 pub mod Damages

@@ -4,6 +4,7 @@ ghost use Rattle.std.specs.Prelude.{◌≡◌, ◌<◌};
 ghost use Rattle.store_history.specs.Acts.{family_of};
 ghost use Rattle.core_state.specs.Applies.{ActApplies, ActKeeps};
 ghost use Rattle.core_state.specs.Commands.{ActDoes, ActLeaves};
+ghost use Rattle.core_state.specs.Indexed.{row_at};
 ghost use Rattle.core_state.specs.Reserved.{HasRoom};
 ghost use Rattle.core_state.specs.Unreadables.{ActUnreadable, CoreUnreadable};
 ghost use Rattle.core_reader.specs.AnsweredBy.{ActAnswersBy, CoreAnswersBy};
@@ -29,7 +30,7 @@ fn perform<D: Disk>(parts: &mut Parts<D>, alloc: Global, at: Place, act: Act) ->
     ensures does { ActDoes D.Disk parts.old parts.new at act result }
     ensures leaves { ActLeaves D.Disk parts.old parts.new at act result }
     ensures from_state { ActAnswersBy D.Disk parts.old parts.new at act result }
-    ensures unreadable { ActUnreadable D.Disk (asked_file act) parts.old at result }
+    ensures unreadable { ActUnreadable D.Disk (asked_file (row_at parts.old at.lane) act) parts.old at result }
     ensures damaged { ActDamaged D.Disk parts.old at act result }
 {
     match act {
@@ -69,7 +70,7 @@ pub fn reader_act<D: Disk, E, C: Clock>(
     // on any disk OPEN_READER answers what the core keeps, and once it is done the lane has a reader; a VERIFY's
     // reads answer, on an honest one, what stands there
     ensures from_state { CoreAnswersBy D.Disk core.old core.new lane act result }
-    ensures unreadable { CoreUnreadable D.Disk (asked_file act) core.old lane result }
+    ensures unreadable { CoreUnreadable D.Disk (asked_file (row_at core.old.parts lane) act) core.old lane result }
     ensures damaged { CoreDamaged D.Disk core.old lane act result }
 {
     match begin(core, alloc, lane, &act) {

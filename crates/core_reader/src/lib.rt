@@ -5,6 +5,7 @@ mod act;
 mod chunks;
 mod closing;
 mod downloading;
+mod entries;
 mod loading;
 mod opening;
 mod paging;

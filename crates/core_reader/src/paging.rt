@@ -35,7 +35,7 @@ impl TakesEntries for PageEntries {
 }
 
 /// The entries of a page.
-fn page_entries<D: Disk>(
+pub fn page_entries<D: Disk>(
     disk: &mut D,
     alloc: Global,
     path: &str,

@@ -3,10 +3,10 @@ use Rattle.std.proofs.Common.{◌≡◌, ℕ, Bool, true, false, ◌&&◌, ◌||
 use Rattle.std.specs.Prelude.{option_map}
 use Rattle.std.proofs.Props.{props}
 use Rattle.std.proofs.lemmas.Bool.{eqb-true}
-use Rattle.store_types.specs.declared.names.Digest32.{Digest32}
 use Rattle.store_types.specs.declared.order.TheConstants.{MEMORY_KIND, STOP_KIND, END_KIND}
 use Rattle.store_files.specs.Archive.{Snapshot}
 use Rattle.gc_plan.specs.Plan.{Plan}
+use Rattle.paged_indexes.specs.declared.index.IndexPages.{IndexPages}
 use Rattle.store_model.specs.Lanes.{Collecting}
 use Rattle.store_history.specs.declared.act.Act.{Act}
 use Rattle.store_history.specs.Acts.{Class, stepping, reaching, starting, sweeping, wanting, ending, class_of}
@@ -15,7 +15,7 @@ use Rattle.store_history.specs.History as worlds
 use Rattle.core_state.specs.declared.collector.Collector.{Collector}
 use Rattle.core_state.specs.declared.collector.Early.{Early}
 use Rattle.core_state.specs.declared.collector.Early.TheVariants.{NoMemory}
-use Rattle.core_state.specs.Entries.{FitsEntries}
+use Rattle.core_state.specs.Entries.{FitsPages}
 use Rattle.core_state.specs.Collectors.{OpenOn, closed_on, collector_by, cut_on, first_of, is_cut, is_on, open_in, ended_if, shown_collecting, with_cut}
 
 false_true : false ≡ true → ⊥
@@ -64,12 +64,12 @@ cut_before c some = by_ended c.ended refl
     by_ended None none = absurd (false_true (sym (ap is_some none) ∙ some))
     by_ended (Some early) is = ap (λ o. record c { ended = o }) is ∙ sym (ap (λ o. record c { ended = first_of o NoMemory }) is)
 
--- what is known of its digests has one proof
-fits_one : (plan : Plan) (entries : List Digest32) → IsProp (FitsEntries plan entries)
-fits_one plan entries = hlevel props
+-- what is known of its pages has one proof
+fits_one : (plan : Plan) (pages : Option IndexPages) → IsProp (FitsPages plan pages)
+fits_one plan pages = hlevel props
 
-pub cut_now : (c : Collector) (fits : FitsEntries c.plan c.entries.items) → is_some c.ended ≡ false → record c { ended = Some NoMemory; fits = fits } ≡ with_cut c
-cut_now c fits none = ap (λ f. record c { ended = Some NoMemory; fits = f }) (fits_one c.plan c.entries.items fits c.fits) ∙ by_ended c.ended refl
+pub cut_now : (c : Collector) (fits : FitsPages c.plan c.pages) → is_some c.ended ≡ false → record c { ended = Some NoMemory; fits = fits } ≡ with_cut c
+cut_now c fits none = ap (λ f. record c { ended = Some NoMemory; fits = f }) (fits_one c.plan c.pages fits c.fits) ∙ by_ended c.ended refl
   where
     by_ended : (o : Option Early) → c.ended ≡ o → record c { ended = Some NoMemory } ≡ with_cut c
     by_ended None is = sym (ap (λ o. record c { ended = first_of o NoMemory }) is)

@@ -40,8 +40,9 @@ use Rattle.core_state.specs.Catalogue.{listed_by}
 use Rattle.core_state.specs.Changes.{Change, IsFirm, LeavesChange, MayLeave, after, by_stop, change_of, stays, undone, installs, stores, drops, finishes, forgets}
 use Rattle.core_state.specs.Chunks.{Adds, IsSafe}
 use Rattle.core_state.specs.Closing.{HasClosed, closes, is_reader, is_writer}
-use Rattle.core_state.specs.Commands.{ActDoes, ActLeaves, IsNoRefusal, change_at, ends_session, calls_no_disk, is_still, leaves_writer, reads_only}
+use Rattle.core_state.specs.Commands.{ActDoes, ActLeaves, IsNoRefusal, LeavesRows, change_at, ends_session, calls_no_disk, is_still, leaves_writer, reads_only}
 use Rattle.core_state.specs.PassedTests.{PassesItsTests}
+use Rattle.core_state.specs.Indexed.{FitsRows}
 use Rattle.core_state.specs.Holds.{Holds, IsOnDisk, Shows, Does, Acts}
 use Rattle.core_state.specs.Replies.{may_answer}
 use Rattle.core_state.specs.Settles.{reply_by}
@@ -50,10 +51,11 @@ use Rattle.core_state.specs.States.{state_of}
 use Rattle.core_state.specs.Stops.{told}
 use Rattle.snapshot_files.specs.Reads.{StopHasText}
 use Rattle.store_stops.specs.Stops.{stop_of, Gives, IfRefused}
-use Rattle.core_state.specs.Unchanged.{SameKept, Unchanged, is_uncalled}
+use Rattle.core_state.specs.Unchanged.{SameKept, SamePlain, Unchanged, is_uncalled}
 use Rattle.core_state.specs.Wanted.{session_at, reader_in, want_writer, want_idle}
 use Rattle.core_state.proofs.Chunks.{adds_same}
-use Rattle.core_state.proofs.Acting.{holds_same, shows_same}
+use Rattle.core_state.proofs.Acting.{holds_kept, holds_same, plain_of, shows_kept, shows_same}
+use Rattle.core_state.proofs.Rows.{rows_same}
 use Rattle.core_state.proofs.Sessions.{at_lane, reader_found, writer_found}
 
 -- ---- the lane's session
@@ -196,7 +198,7 @@ no_idle (Writer w) other = refl
 no_idle (Reader r) other = refl
 
 pub same_kept : {D : Type 0} (parts : Parts D) → SameKept parts parts
-same_kept parts = record { catalogue = refl; sessions = refl; locks = refl }
+same_kept parts = record { catalogue = refl; sessions = refl; locks = refl; indexes = refl }
 
 -- ---- stops
 
@@ -359,35 +361,48 @@ module _ {D : Type 0} (d : Ghosts D) where
       let done : Does d new s (after_it, reply) (Ok reply) = (refl, holds) in
       subst (λ x. Does d new s x (Ok reply)) (sym (ap (answered s) (does_is remote w s at.lane at.moment act ∙ is) ∙ says)) done
 
-  reads_step : (old new : Parts D) (at : Place) (act : Act) (result : Result Reply Stop) → (d.honest old.disk ↔ d.honest new.disk) → SameContent d old.disk new.disk → SameKept old new
+  -- what the lanes keep of indexes is of their sessions then too
+  abbrev pub KeepsFit : Parts D → Parts D → Type 0
+  KeepsFit old new = (s : Store) → Holds d old s → FitsRows s new.indexes.items
+
+  pub fits_same : (old new : Parts D) → SameKept old new → KeepsFit old new
+  fits_same old new k s h = subst (FitsRows s) (sym k.indexes) (h.shows).indexes
+
+  reads_step : (old new : Parts D) (at : Place) (act : Act) (result : Result Reply Stop) → (d.honest old.disk ↔ d.honest new.disk) → SameContent d old.disk new.disk → SamePlain old new → KeepsFit old new
       → AnswersAs old at act result
       → (remote : Option (List Snapshot)) (w : World) → Acts d old new (λ s. act_outcome remote (record w { store = s }) at.lane at.moment act) (told result)
-  reads_step old new at act (Ok reply) kept same k says remote w s h =
-      told_step new at act s s reply (Ok (s, reply)) (says s h) refl (holds_same d old new s kept same k.catalogue k.sessions k.locks h) remote w
-  reads_step old new at act (Err (Refused refusal)) kept same k says remote w s h =
-      told_step new at act s s (replies.Refused refusal) (Err refusal) (says s h) refl (holds_same d old new s kept same k.catalogue k.sessions k.locks h) remote w
-  reads_step old new at act (Err NoMemory) kept same k says remote w s h =
-      holds_same d old new s kept same k.catalogue k.sessions k.locks h
-  reads_step old new at act (Err DiskFailed) kept same k says remote w s h =
-      (kept.0 h.honest, shows_same old new s k.catalogue k.sessions k.locks h.shows)
+  reads_step old new at act (Ok reply) kept same k fits says remote w s h =
+      told_step new at act s s reply (Ok (s, reply)) (says s h) refl (holds_kept d old new s kept same k (fits s h) h) remote w
+  reads_step old new at act (Err (Refused refusal)) kept same k fits says remote w s h =
+      told_step new at act s s (replies.Refused refusal) (Err refusal) (says s h) refl (holds_kept d old new s kept same k (fits s h) h) remote w
+  reads_step old new at act (Err NoMemory) kept same k fits says remote w s h =
+      holds_kept d old new s kept same k (fits s h) h
+  reads_step old new at act (Err DiskFailed) kept same k fits says remote w s h =
+      (kept.0 h.honest, shows_kept old new s k (fits s h) h.shows)
+
+  -- A command that changes no more than what is kept of indexes, and reads the disk at most.
+  pub reads_on : (old new : Parts D) (at : Place) (act : Act) (result : Result Reply Stop) → OnlyReads d old.disk new.disk (IsErrOf result DiskFailed) → SamePlain old new → KeepsFit old new
+      → IfOk (told result) ReplyHasText → IfOk (told result) (λ reply. IsTrue (may_answer act reply)) → IfOk result IsNoRefusal → AnswersAs old at act result
+      → ActDoes d old new at act result
+  reads_on old new at act result reads kept fits text answers plain says = record {
+    serves = reads.serves;
+    text = text;
+    answers = answers;
+    plain = plain;
+    step = λ _. reads_step old new at act result (reads.serves).kept reads.same kept fits says;
+  }
 
   -- A command that changes no part, and reads the disk at most.
   pub reads_does : (old new : Parts D) (at : Place) (act : Act) (result : Result Reply Stop) → OnlyReads d old.disk new.disk (IsErrOf result DiskFailed) → SameKept old new
       → IfOk (told result) ReplyHasText → IfOk (told result) (λ reply. IsTrue (may_answer act reply)) → IfOk result IsNoRefusal → AnswersAs old at act result
       → ActDoes d old new at act result
-  reads_does old new at act result reads kept text answers plain says = record {
-    serves = reads.serves;
-    text = text;
-    answers = answers;
-    plain = plain;
-    step = λ _. reads_step old new at act result (reads.serves).kept reads.same kept says;
-  }
+  reads_does old new at act result reads kept = reads_on old new at act result reads (plain_of old new kept) (fits_same old new kept)
 
   pub done_unchanged : (old new : Parts D) (reply : Reply) → IsNoRefusal reply → Unchanged d old new reply
   done_unchanged old new (replies.Refused refusal) plain = absurd plain
   done_unchanged old new reply plain = tt
 
-  leaves_all : (old new : Parts D) (result : Result Reply Stop) → IfOk result IsNoRefusal → SameKept old new
+  leaves_all : (old new : Parts D) (result : Result Reply Stop) → IfOk result IsNoRefusal → SamePlain old new
       → ((refusal : Refusal) → result ≡ Err (Refused refusal) → is_uncalled refusal ≡ true → new.disk ≡ old.disk)
       → ((IsErrOf result DiskFailed → ⊥) → SameContent d old.disk new.disk)
       → Unchanged d old new (reply_by (told result))
@@ -458,7 +473,7 @@ module _ {D : Type 0} (d : Ghosts D) where
   ends_none old new at act (Ok reply) idly ends = absurd (false_true (sym idly.goes_on ∙ ends))
   ends_none old new at act (Err stop) idly ends = tt
 
-  still_writes : (old new : Parts D) (at : Place) (act : Act) (result : Result Reply Stop) → IfOk result (DoneIdly old at act) → SameKept old new → leaves_writer act ≡ true → IfOk result (λ _. is_writer (session_at new at.lane) ≡ true)
+  still_writes : (old new : Parts D) (at : Place) (act : Act) (result : Result Reply Stop) → IfOk result (DoneIdly old at act) → SamePlain old new → leaves_writer act ≡ true → IfOk result (λ _. is_writer (session_at new at.lane) ≡ true)
   still_writes old new at act (Ok reply) idly kept writes = ap (λ (xs : List Session). is_writer (get_or xs at.lane Idle)) kept.sessions ∙ idly.writes writes
   still_writes old new at act (Err stop) idly kept writes = tt
 
@@ -470,12 +485,12 @@ module _ {D : Type 0} (d : Ghosts D) where
   closed_so old new at act (Err DiskFailed) idly by closing = tt
 
   -- Unless the disk was called, it is the same: so a refusal that comes without a call leaves the disk itself.
-  pub reads_leaves : (old new : Parts D) (at : Place) (act : Act) (result : Result Reply Stop) (failed : Type 0) → OnlyReads d old.disk new.disk failed → SameKept old new
+  pub leaves_on : (old new : Parts D) (at : Place) (act : Act) (result : Result Reply Stop) (failed : Type 0) → OnlyReads d old.disk new.disk failed → SamePlain old new → LeavesRows old new at.lane act
       → IfOk result (DoneIdly old at act) → (calls_no_disk act ≡ true → new.disk ≡ old.disk)
       → ((refusal : Refusal) → result ≡ Err (Refused refusal) → is_uncalled refusal ≡ true → new.disk ≡ old.disk)
       → (closes act (session_at old at.lane) ≡ true → IsErrOf result DiskFailed) → (IsErrOf result DiskFailed → (s : Store) → PassesItsTests act s at.lane)
       → ActLeaves d old new at act result
-  reads_leaves old new at act result failed reads kept idly no_disk_call uncalled closed passed_its_tests = record {
+  leaves_on old new at act result failed reads kept rows idly no_disk_call uncalled closed passed_its_tests = record {
     unchanged = leaves_all old new result (plainly old at act result idly) kept uncalled (λ _. reads.same);
     no_disk_call = no_disk_call;
     reads = λ _. reads.same;
@@ -489,7 +504,15 @@ module _ {D : Type 0} (d : Ghosts D) where
     closed = closed_so old new at act result idly closed;
     ended = ends_none old new at act result idly;
     writes = still_writes old new at act result idly kept;
+    rows = rows;
   }
+
+  pub reads_leaves : (old new : Parts D) (at : Place) (act : Act) (result : Result Reply Stop) (failed : Type 0) → OnlyReads d old.disk new.disk failed → SameKept old new
+      → IfOk result (DoneIdly old at act) → (calls_no_disk act ≡ true → new.disk ≡ old.disk)
+      → ((refusal : Refusal) → result ≡ Err (Refused refusal) → is_uncalled refusal ≡ true → new.disk ≡ old.disk)
+      → (closes act (session_at old at.lane) ≡ true → IsErrOf result DiskFailed) → (IsErrOf result DiskFailed → (s : Store) → PassesItsTests act s at.lane)
+      → ActLeaves d old new at act result
+  reads_leaves old new at act result failed reads kept = leaves_on old new at act result failed reads (plain_of old new kept) (rows_same old new.indexes.items at.lane act kept.indexes)
 
   -- ---- exits: by `?` or by a return, the result is an error with this stop
 
@@ -594,16 +617,23 @@ module _ {D : Type 0} (d : Ghosts D) where
     same = reads.same;
   }
 
+  pub stopped_on : {A : Type 0} (old new : Parts D) (at : Place) (act : Act) (read : Result A Stop) (stop : Stop) (result : Result Reply Stop) → Stops result stop → read ≡ Err stop
+      → OnlyReads d old.disk new.disk (IsErrOf read DiskFailed) → SamePlain old new → KeepsFit old new
+      → StopHasText stop → IfRefused (λ refusal. IsTrue (may_answer act (replies.Refused refusal))) stop
+      → ((s : Store) → Holds d old s → IfRefused (λ refusal. act_does s at.lane at.moment act ≡ Err refusal) stop)
+      → ActDoes d old new at act result
+  stopped_on old new at act read stop result stops was reads kept fits text answers is =
+      stopped (ActDoes d old new at act) result stop stops
+      (reads_on old new at act (Err stop) (reads_by _ _ _ _ (λ f. was ∙ ap (λ x. Err x) (failed_by stop f)) reads) kept fits
+      (if_told ReplyHasText stop text) (if_told (λ reply. IsTrue (may_answer act reply)) stop answers) tt
+      (λ s h. given (act_does s at.lane at.moment act) stop s (is s h)))
+
   pub stopped_does : {A : Type 0} (old new : Parts D) (at : Place) (act : Act) (read : Result A Stop) (stop : Stop) (result : Result Reply Stop) → Stops result stop → read ≡ Err stop
       → OnlyReads d old.disk new.disk (IsErrOf read DiskFailed) → SameKept old new
       → StopHasText stop → IfRefused (λ refusal. IsTrue (may_answer act (replies.Refused refusal))) stop
       → ((s : Store) → Holds d old s → IfRefused (λ refusal. act_does s at.lane at.moment act ≡ Err refusal) stop)
       → ActDoes d old new at act result
-  stopped_does old new at act read stop result stops was reads kept text answers is =
-      stopped (ActDoes d old new at act) result stop stops
-      (reads_does old new at act (Err stop) (reads_by _ _ _ _ (λ f. was ∙ ap (λ x. Err x) (failed_by stop f)) reads) kept
-      (if_told ReplyHasText stop text) (if_told (λ reply. IsTrue (may_answer act reply)) stop answers) tt
-      (λ s h. given (act_does s at.lane at.moment act) stop s (is s h)))
+  stopped_does old new at act read stop result stops was reads kept = stopped_on old new at act read stop result stops was reads (plain_of old new kept) (fits_same old new kept)
 
   uncalled_by : (old new : Parts D) (stop : Stop) → IfRefused (λ refusal. is_uncalled refusal ≡ true → new.disk ≡ old.disk) stop
       → (refusal : Refusal) → ◌≡◌ {A = Result Reply Stop} (Err stop) (Err (Refused refusal)) → is_uncalled refusal ≡ true → new.disk ≡ old.disk
@@ -615,27 +645,43 @@ module _ {D : Type 0} (d : Ghosts D) where
   uncalled_by old new DiskFailed so refusal e t = cc
 
   -- its refusal is one that comes by a call, or the disk wasn't called
+  pub stopped_leave_on : (old new : Parts D) (at : Place) (act : Act) (stop : Stop) (result : Result Reply Stop) (failed : Type 0) → Stops result stop
+      → OnlyReads d old.disk new.disk failed → SamePlain old new → LeavesRows old new at.lane act → reads_disk act ≡ true
+      → IfRefused (λ refusal. is_uncalled refusal ≡ true → new.disk ≡ old.disk) stop
+      → (closes act (session_at old at.lane) ≡ true → ⊥) → ActLeaves d old new at act result
+  stopped_leave_on old new at act stop result failed stops reads kept rows called uncalled going =
+      stopped (ActLeaves d old new at act) result stop stops
+      (leaves_on old new at act (Err stop) failed reads kept rows tt (λ no_disk_call. absurd (disk_called act called no_disk_call)) (uncalled_by old new stop uncalled) (λ closing. absurd (going closing))
+      (λ _ s. reads_pass act s at.lane (and_parts (reads_only act) (not (calls_no_disk act)) called).0))
+
   pub stopped_leaves : (old new : Parts D) (at : Place) (act : Act) (stop : Stop) (result : Result Reply Stop) (failed : Type 0) → Stops result stop
       → OnlyReads d old.disk new.disk failed → SameKept old new → reads_disk act ≡ true
       → IfRefused (λ refusal. is_uncalled refusal ≡ true → new.disk ≡ old.disk) stop
       → (closes act (session_at old at.lane) ≡ true → ⊥) → ActLeaves d old new at act result
-  stopped_leaves old new at act stop result failed stops reads kept called uncalled going =
-      stopped (ActLeaves d old new at act) result stop stops
-      (reads_leaves old new at act (Err stop) failed reads kept tt (λ no_disk_call. absurd (disk_called act called no_disk_call)) (uncalled_by old new stop uncalled) (λ closing. absurd (going closing))
-      (λ _ s. reads_pass act s at.lane (and_parts (reads_only act) (not (calls_no_disk act)) called).0))
+  stopped_leaves old new at act stop result failed stops reads kept = stopped_leave_on old new at act stop result failed stops reads (plain_of old new kept) (rows_same old new.indexes.items at.lane act kept.indexes)
+
+  -- done, where no more has changed than what is kept of indexes
+  pub read_on : (old new : Parts D) (at : Place) (act : Act) (reply : Reply) (failed : Type 0) → OnlyReads d old.disk new.disk failed → SamePlain old new → KeepsFit old new
+      → ReplyHasText reply → IsTrue (may_answer act reply) → IsNoRefusal reply → ((s : Store) → Holds d old s → act_does s at.lane at.moment act ≡ Ok (s, reply))
+      → ActDoes d old new at act (Ok reply)
+  read_on old new at act reply failed reads kept fits text answers plain is =
+      reads_on old new at act (Ok reply) (reads_by _ _ _ _ (λ e. absurd (not_done reply e)) reads) kept fits text answers plain is
+
+  pub read_leave_on : (old new : Parts D) (at : Place) (act : Act) (reply : Reply) (failed : Type 0) → OnlyReads d old.disk new.disk failed → SamePlain old new → LeavesRows old new at.lane act
+      → DoneIdly old at act reply → (calls_no_disk act ≡ true → new.disk ≡ old.disk) → ActLeaves d old new at act (Ok reply)
+  read_leave_on old new at act reply failed reads kept rows idly no_disk_call =
+      leaves_on old new at act (Ok reply) failed reads kept rows idly no_disk_call (λ r e t. cc)
+      (λ closing. absurd (false_true (sym idly.goes_on ∙ closes_ends act (session_at old at.lane) closing))) (λ f. absurd (not_done reply f))
 
   -- done, where nothing has changed
   pub read_does : (old new : Parts D) (at : Place) (act : Act) (reply : Reply) (failed : Type 0) → OnlyReads d old.disk new.disk failed → SameKept old new
       → ReplyHasText reply → IsTrue (may_answer act reply) → IsNoRefusal reply → ((s : Store) → Holds d old s → act_does s at.lane at.moment act ≡ Ok (s, reply))
       → ActDoes d old new at act (Ok reply)
-  read_does old new at act reply failed reads kept text answers plain is =
-      reads_does old new at act (Ok reply) (reads_by _ _ _ _ (λ e. absurd (not_done reply e)) reads) kept text answers plain is
+  read_does old new at act reply failed reads kept = read_on old new at act reply failed reads (plain_of old new kept) (fits_same old new kept)
 
   pub read_leaves : (old new : Parts D) (at : Place) (act : Act) (reply : Reply) (failed : Type 0) → OnlyReads d old.disk new.disk failed → SameKept old new
       → DoneIdly old at act reply → (calls_no_disk act ≡ true → new.disk ≡ old.disk) → ActLeaves d old new at act (Ok reply)
-  read_leaves old new at act reply failed reads kept idly no_disk_call =
-      reads_leaves old new at act (Ok reply) failed reads kept idly no_disk_call (λ r e t. cc)
-      (λ closing. absurd (false_true (sym idly.goes_on ∙ closes_ends act (session_at old at.lane) closing))) (λ f. absurd (not_done reply f))
+  read_leaves old new at act reply failed reads kept = read_leave_on old new at act reply failed reads (plain_of old new kept) (rows_same old new.indexes.items at.lane act kept.indexes)
 
   -- ---- done without a call of the disk, where parts have changed
 
@@ -658,9 +704,9 @@ module _ {D : Type 0} (d : Ghosts D) where
 
   pub changed_leaves : (old new : Parts D) (at : Place) (act : Act) (reply : Reply) → new.disk ≡ old.disk → IsNoRefusal reply → change_at old at.lane act ≡ stays
       → new.catalogue.listed ≡ listed_by act (Some reply) at.number (session_at old at.lane) old.catalogue.listed
-      → is_still act ≡ false → (ends_session act ≡ true → session_at new at.lane ≡ Idle) → (leaves_writer act ≡ true → is_writer (session_at new at.lane) ≡ true)
+      → is_still act ≡ false → (ends_session act ≡ true → session_at new at.lane ≡ Idle) → (leaves_writer act ≡ true → is_writer (session_at new at.lane) ≡ true) → LeavesRows old new at.lane act
       → ActLeaves d old new at act (Ok reply)
-  changed_leaves old new at act reply same plain change listed other ended writes =
+  changed_leaves old new at act reply same plain change listed other ended writes rows =
       let none = reads_none old.disk new.disk ⊥ same (λ f. f) in record {
         unchanged = done_unchanged old new reply plain;
         no_disk_call = λ _. same;
@@ -675,6 +721,7 @@ module _ {D : Type 0} (d : Ghosts D) where
         closed = λ closing. ended (closes_ends act (session_at old at.lane) closing);
         ended = ended;
         writes = writes;
+        rows = rows;
       }
 
   -- ---- commands that write the disk
@@ -699,9 +746,9 @@ module _ {D : Type 0} (d : Ghosts D) where
       → LeavesChange d old.disk new.disk (change_at old at.lane act) → IsFirm d old.disk new.disk (change_at old at.lane act)
       → new.catalogue.listed ≡ listed_by act (Some reply) at.number (session_at old at.lane) old.catalogue.listed
       → (is_still act ≡ true → (new.sessions.items ≡ old.sessions.items) × (new.locks ≡ old.locks))
-      → Adds d old new act (Ok reply) → (ends_session act ≡ true → session_at new at.lane ≡ Idle) → (leaves_writer act ≡ true → is_writer (session_at new at.lane) ≡ true)
+      → Adds d old new act (Ok reply) → (ends_session act ≡ true → session_at new at.lane ≡ Idle) → (leaves_writer act ≡ true → is_writer (session_at new at.lane) ≡ true) → LeavesRows old new at.lane act
       → ActLeaves d old new at act (Ok reply)
-  writes_leaves old new at act reply plain called content crash firm listed admin adds ended writes = record {
+  writes_leaves old new at act reply plain called content crash firm listed admin adds ended writes rows = record {
     unchanged = done_unchanged old new reply plain;
     no_disk_call = λ no_disk_call. absurd (false_true (sym called ∙ no_disk_call));
     reads = λ only h. content h ∙ ap (λ change. after change (d.content old.disk)) (reads_stay act (session_at old at.lane) old.catalogue.listed only);
@@ -715,6 +762,7 @@ module _ {D : Type 0} (d : Ghosts D) where
     closed = λ closing. ended (closes_ends act (session_at old at.lane) closing);
     ended = ended;
     writes = writes;
+    rows = rows;
   }
 
   -- The write of the disk failed, or was short of memory.
@@ -726,8 +774,8 @@ module _ {D : Type 0} (d : Ghosts D) where
   failed_step : {A : Type 0} (old new : Parts D) (at : Place) (act : Act) (done : Result A DiskError) (e : DiskError) → done ≡ Err e
       → (d.honest old.disk ↔ d.honest new.disk) → (IsErrOf done disks.NoMemory → SameContent d old.disk new.disk) → SameKept old new
       → (remote : Option (List Snapshot)) (w : World) → Acts d old new (λ s. act_outcome remote (record w { store = s }) at.lane at.moment act) (told (Err (stop_of e)))
-  failed_step old new at act done disks.NoMemory was kept same k remote w s h = holds_same d old new s kept (same was) k.catalogue k.sessions k.locks h
-  failed_step old new at act done disks.Failed was kept same k remote w s h = (kept.0 h.honest, shows_same old new s k.catalogue k.sessions k.locks h.shows)
+  failed_step old new at act done disks.NoMemory was kept same k remote w s h = holds_same d old new s kept (same was) k h
+  failed_step old new at act done disks.Failed was kept same k remote w s h = (kept.0 h.honest, shows_same old new s k h.shows)
 
   none_told : (P : Reply → Type 0) (e : DiskError) → IfOk (told (Err (stop_of e))) P
   none_told P disks.NoMemory = tt
@@ -761,7 +809,7 @@ module _ {D : Type 0} (d : Ghosts D) where
 
       by_error : (e : DiskError) → done ≡ Err e → ActLeaves d old new at act (Err (stop_of e))
       by_error disks.NoMemory was = record {
-        unchanged = leaves_all old new (Err NoMemory) tt kept (λ r e t. cc) (λ _. same was);
+        unchanged = leaves_all old new (Err NoMemory) tt (plain_of old new kept) (λ r e t. cc) (λ _. same was);
         no_disk_call = no_disk_call;
         reads = reads;
         content = λ _. same was;
@@ -774,9 +822,10 @@ module _ {D : Type 0} (d : Ghosts D) where
         closed = λ closing. absurd (going was closing);
         ended = λ _. tt;
         writes = λ _. tt;
+        rows = rows_same old new.indexes.items at.lane act kept.indexes;
       }
       by_error disks.Failed was = record {
-        unchanged = leaves_all old new (Err DiskFailed) tt kept (λ r e t. cc) (λ fine. absurd (fine refl));
+        unchanged = leaves_all old new (Err DiskFailed) tt (plain_of old new kept) (λ r e t. cc) (λ fine. absurd (fine refl));
         no_disk_call = no_disk_call;
         reads = reads;
         content = λ fine. absurd (fine refl);
@@ -789,4 +838,5 @@ module _ {D : Type 0} (d : Ghosts D) where
         closed = λ closing. tt;
         ended = λ _. tt;
         writes = λ _. tt;
+        rows = rows_same old new.indexes.items at.lane act kept.indexes;
       }

@@ -5,7 +5,6 @@ use Rattle.std.specs.Prelude.{option_map, AllPairs, IsSomeAnd, slice_get}
 use Rattle.std.specs.List.{All, find}
 use Rattle.std.proofs.lemmas.List.Elements.{All-head, All-map, All-same, All-tail, All-weaker}
 use Rattle.port_traits.specs.declared.clock.Clock as clocks
-use Rattle.store_types.specs.declared.names.Digest32.{Digest32}
 use Rattle.store_types.specs.declared.names.SnapshotKey.{SnapshotKey}
 use Rattle.store_types.specs.declared.refusal.Refusal.{Refusal}
 use Rattle.store_types.specs.Names.{key_of, same_key}
@@ -26,6 +25,7 @@ use Rattle.store_model.proofs.StandsLemmas.{different}
 use Rattle.snapshot_files.proofs.Removals.{named-without}
 use Rattle.gc_plan.specs.Plan.{Stage, marking, sweeping as visiting, index_in, next_index}
 use Rattle.gc_plan.specs.declared.IndexAt.{IndexAt}
+use Rattle.paged_indexes.specs.declared.index.IndexPages.{IndexPages}
 use Rattle.store_history.specs.declared.act.Act.{Act}
 use Rattle.store_history.specs.declared.act.Act.TheVariants.{Plain}
 use Rattle.store_history.specs.declared.act.Answer.{Answer}
@@ -49,13 +49,13 @@ use Rattle.core_state.specs.Holds.{Shows}
 use Rattle.core_state.specs.KeepsTouches.{KeepsTouches, swept_of}
 use Rattle.core_state.specs.Numbers.{AreNumbered, DifferInNumber, first_number}
 use Rattle.core_state.specs.Shown.{shown_session, shown_snapshot, shown_writer}
-use Rattle.core_state.specs.Sweeps.{AreEntries, HasEntries, HasNumber, ShowsOpen, ShowsSweep, kept_at, unmarked_by}
+use Rattle.core_state.specs.Sweeps.{ArePages, HasNumber, HasPages, ShowsOpen, ShowsSweep, kept_at, unmarked_by}
 use Rattle.core_state.specs.Wanted.{session_at}
 use Rattle.core_state.proofs.Commanding.{session_shown}
 use Rattle.core_state.proofs.Completing.{FinishIs, fails as finish_fails, finish_is, gives as finish_gives}
 use Rattle.core_state.proofs.Entered.{world_more}
 use Rattle.core_state.proofs.OnDisk.{fresh}
-use Rattle.core_state.proofs.Planned.{IsNewKey, digests_as, keep_unless, kept_forgotten, kept_inserted}
+use Rattle.core_state.proofs.Planned.{IsNewKey, keep_unless, kept_forgotten, kept_inserted, pages_as}
 use Rattle.core_state.proofs.Plans.{IsSifted, finished_unmarked, forgotten_unmarked, shows_sifted}
 use Rattle.core_state.proofs.Readers.{named_still}
 use Rattle.core_state.proofs.Recovering.{last_right}
@@ -71,17 +71,17 @@ none_some x e = cc
 
 -- ---- the collector
 
--- it was open before, with the same plan and the same digests at hand
+-- it was open before, with the same plan and the same pages at hand
 pub record WasOpen (o : Option Collector) (y : Collector) : Type 0 where
   pub was : Collector
   pub there : o ≡ Some was
   pub plan : y.plan ≡ was.plan
-  pub same_entries : y.entries ≡ was.entries
+  pub same_pages : y.pages ≡ was.pages
 
 same_open : (x y : Collector) → Some x ≡ Some y → WasOpen (Some x) y
 same_open x y e =
     let same = some_same x y e in
-    record { was = x; there = refl; plan = sym (ap (λ (c : Collector). c.plan) same); same_entries = sym (ap (λ (c : Collector). c.entries) same) }
+    record { was = x; there = refl; plan = sym (ap (λ (c : Collector). c.plan) same); same_pages = sym (ap (λ (c : Collector). c.pages) same) }
 
 cut_open : (lane : ℕ) (o : Option Collector) (y : Collector) → cut_on lane o ≡ Some y → WasOpen o y
 cut_open lane None y e = absurd (none_some y e)
@@ -90,7 +90,7 @@ cut_open lane (Some x) y e = by_test (x.lane == lane) e
     by_test : (b : Bool) → cond b (Some (with_cut x)) (Some x) ≡ Some y → WasOpen (Some x) y
     by_test true e =
         let same = some_same (with_cut x) y e in
-        record { was = x; there = refl; plan = sym (ap (λ (c : Collector). c.plan) same); same_entries = sym (ap (λ (c : Collector). c.entries) same) }
+        record { was = x; there = refl; plan = sym (ap (λ (c : Collector). c.plan) same); same_pages = sym (ap (λ (c : Collector). c.pages) same) }
     by_test false e = same_open x y e
 
 pub closed_open : (lane : ℕ) (o : Option Collector) (y : Collector) → closed_on lane o ≡ Some y → WasOpen o y
@@ -107,7 +107,7 @@ was_open k lane o y is = by_kind (k == 2) ((k == 4) || (k == 6)) is
     by_kind : (a b : Bool) → cond a (cut_on lane o) (cond b (closed_on lane o) o) ≡ Some y → WasOpen o y
     by_kind true b e = cut_open lane o y e
     by_kind false true e = closed_open lane o y e
-    by_kind false false e = record { was = y; there = e; plan = refl; same_entries = refl }
+    by_kind false false e = record { was = y; there = e; plan = refl; same_pages = refl }
 
 -- ---- the sweep
 
@@ -143,10 +143,10 @@ stays_open x (Some v) sweep is = refl
 
 -- ---- catalogue and snapshots
 
--- What is left of each index is sifted by the test, and digests at hand stay so.
+-- What is left of each index is sifted by the test, and pages at hand stay its.
 record Sifts (acts : ℕ) (c c2 : List Listed) (s s2 : List Snapshot) (p : Unmarked → Bool) : Type 0 where
   pub unmarked : (is : List IndexAt) → All (HasNumber acts) is → (stage : Stage) → unmarked_by c2 s2 is stage ≡ filter p (unmarked_by c s is stage)
-  pub entries : (xs : List Digest32) (i : IndexAt) → HasNumber acts i → AreEntries s i.name xs (kept_at i.snapshot c) → AreEntries s2 i.name xs (kept_at i.snapshot c2)
+  pub pages : (q : IndexPages) (i : IndexAt) → HasNumber acts i → ArePages s i.name q (kept_at i.snapshot c) → ArePages s2 i.name q (kept_at i.snapshot c2)
 
 filter_all : {A : Type 0} (p : A → Bool) → ((x : A) → p x ≡ true) → (xs : List A) → filter p xs ≡ xs
 filter_all p all [] = refl
@@ -166,56 +166,56 @@ next_numbered P is (marking place first) i all at = found_numbered P is place i 
 next_numbered P is (visiting names) i all at = absurd (none_some i at)
 
 module _ (acts : ℕ) (c c2 : List Listed) (s s2 : List Snapshot) (p : Unmarked → Bool) where
-  sifted_by : (x y : Collector) → y.plan ≡ x.plan → y.entries ≡ x.entries → All (HasNumber acts) (x.plan).indexes → Sifts acts c c2 s s2 p → IsSifted c c2 s s2 p x y
-  sifted_by x y plan entries numbers f = record {
+  sifted_by : (x y : Collector) → y.plan ≡ x.plan → y.pages ≡ x.pages → All (HasNumber acts) (x.plan).indexes → Sifts acts c c2 s s2 p → IsSifted c c2 s s2 p x y
+  sifted_by x y plan pages numbers f = record {
     plan = plan;
-    same_entries = entries;
+    same_pages = pages;
     unmarked = f.unmarked (x.plan).indexes numbers (x.plan).stage;
-    entries = by_next (next_index x.plan) refl;
+    pages = λ q. by_next q (next_index x.plan) refl;
   }
     where
-      by_next : (o : Option IndexAt) → next_index x.plan ≡ o → HasEntries c s x.entries.items o → HasEntries c2 s2 x.entries.items o
-      by_next None at has = tt
-      by_next (Some i) at has = f.entries x.entries.items i (next_numbered (HasNumber acts) (x.plan).indexes (x.plan).stage i numbers at) has
+      by_next : (q : IndexPages) (o : Option IndexAt) → next_index x.plan ≡ o → HasPages c s q o → HasPages c2 s2 q o
+      by_next q None at has = tt
+      by_next q (Some i) at has = f.pages q i (next_numbered (HasNumber acts) (x.plan).indexes (x.plan).stage i numbers at) has
 
   -- both are as before
   sifts_all : c2 ≡ c → s2 ≡ s → ((u : Unmarked) → p u ≡ true) → Sifts acts c c2 s s2 p
   sifts_all listed snapshots all = record {
     unmarked = λ is numbers stage.
         ap (λ l. unmarked_by l s2 is stage) listed ∙ ap (λ l. unmarked_by c l is stage) snapshots ∙ sym (filter_all p all (unmarked_by c s is stage));
-    entries = λ xs i number has. subst (λ l. AreEntries l i.name xs (kept_at i.snapshot c2)) (sym snapshots) (subst (λ l. AreEntries s i.name xs (kept_at i.snapshot l)) (sym listed) has);
+    pages = λ q i number has. subst (λ l. ArePages l i.name q (kept_at i.snapshot c2)) (sym snapshots) (subst (λ l. ArePages s i.name q (kept_at i.snapshot l)) (sym listed) has);
   }
 
 -- one is forgotten
-forgotten_as : (s : List Snapshot) (key : SnapshotKey) (name : List ℕ) (xs : List Digest32) (o : Option Kept) → AreEntries s name xs o → AreEntries (without_snapshot key s) name xs (keep_unless key o)
-forgotten_as s key name xs None has = tt
-forgotten_as s key name xs (Some k) has = by_test (same_key k.key key) refl
+forgotten_as : (s : List Snapshot) (key : SnapshotKey) (name : List ℕ) (q : IndexPages) (o : Option Kept) → ArePages s name q o → ArePages (without_snapshot key s) name q (keep_unless key o)
+forgotten_as s key name q None has = tt
+forgotten_as s key name q (Some k) has = by_test (same_key k.key key) refl
   where
-    by_test : (g : Bool) → same_key k.key key ≡ g → AreEntries (without_snapshot key s) name xs (cond g None (Some k))
+    by_test : (g : Bool) → same_key k.key key ≡ g → ArePages (without_snapshot key s) name q (cond g None (Some k))
     by_test true gone = tt
-    by_test false gone = has ∙ sym (digests_as k.key name s (without_snapshot key s) (named-without key k.key s (same_key_equiv.symm key k.key ∙ gone)))
+    by_test false gone = pages_as name q k s (without_snapshot key s) (named-without key k.key s (same_key_equiv.symm key k.key ∙ gone)) has
 
 sifts_forgotten : (acts : ℕ) (c : List Listed) (s : List Snapshot) (key : SnapshotKey) → AllPairs DifferInNumber c → Sifts acts c (without_listed key c) s (without_snapshot key s) (λ u. not (same_key u.key key))
 sifts_forgotten acts c s key once = record {
   unmarked = λ is numbers stage. forgotten_unmarked c s key once is stage;
-  entries = λ xs i number has.
-      subst (AreEntries (without_snapshot key s) i.name xs) (sym (kept_forgotten i.snapshot key c once)) (forgotten_as s key i.name xs (kept_at i.snapshot c) has);
+  pages = λ q i number has.
+      subst (ArePages (without_snapshot key s) i.name q) (sym (kept_forgotten i.snapshot key c once)) (forgotten_as s key i.name q (kept_at i.snapshot c) has);
 }
 
 -- one is finished
-finished_as : (s : List Snapshot) (x : Snapshot) (name : List ℕ) (xs : List Digest32) (o : Option Kept) → ((k : Kept) → o ≡ Some k → same_key x.key k.key ≡ false)
-    → AreEntries s name xs o → AreEntries (insert_snapshot x s) name xs o
-finished_as s x name xs None fresh has = tt
-finished_as s x name xs (Some k) fresh has = has ∙ sym (digests_as k.key name s (insert_snapshot x s) (named_still k.key x s (fresh k refl)))
+finished_as : (s : List Snapshot) (x : Snapshot) (name : List ℕ) (q : IndexPages) (o : Option Kept) → ((k : Kept) → o ≡ Some k → same_key x.key k.key ≡ false)
+    → ArePages s name q o → ArePages (insert_snapshot x s) name q o
+finished_as s x name q None fresh has = tt
+finished_as s x name q (Some k) fresh has = pages_as name q k s (insert_snapshot x s) (named_still k.key x s (fresh k refl)) has
 
 sifts_finished : (acts : ℕ) (c : List Listed) (s : List Snapshot) (new : Listed) (x : Snapshot) (p : Unmarked → Bool) → acts < first_number → new.number ≡ acts → IsNewKey c s new x
     → ((u : Unmarked) → p u ≡ true) → Sifts acts c (insert_listed new c) s (insert_snapshot x s) p
 sifts_finished acts c s new x p few at key all = record {
   unmarked = λ is numbers stage.
       finished_unmarked acts c s new x key is (All-weaker (HasNumber acts) (λ (i : IndexAt). new.number ≢ i.snapshot) unused is numbers) stage ∙ sym (filter_all p all (unmarked_by c s is stage));
-  entries = λ xs i number has.
-      subst (AreEntries (insert_snapshot x s) i.name xs) (sym (kept_inserted i.snapshot new c (unused i number)))
-      (finished_as s x i.name xs (kept_at i.snapshot c) (λ k is. key i.snapshot k is) has);
+  pages = λ q i number has.
+      subst (ArePages (insert_snapshot x s) i.name q) (sym (kept_inserted i.snapshot new c (unused i number)))
+      (finished_as s x i.name q (kept_at i.snapshot c) (λ k is. key i.snapshot k is) has);
 }
   where
     unused : (i : IndexAt) → HasNumber acts i → new.number ≢ i.snapshot
@@ -372,7 +372,7 @@ module _ {D E C : Type 0} (d : Ghosts D) (clock : clocks.Ghosts C) (old new : Co
         (subst (λ l. Sifts acts c (without_listed key c) snapshots l (spares gone answer.reply)) (sym then_is)
         (record {
           unmarked = λ is numbers stage. its.unmarked is numbers stage ∙ filter_same (λ (u : Unmarked). not (same_key u.key key)) (spares gone answer.reply) test (unmarked_by c snapshots is stage);
-          entries = its.entries;
+          pages = its.pages;
         }))
 
     by_forget : ForgetIs w.store k text → Came h.remote w k m gone answer.reply n → Sifted gone
@@ -436,19 +436,19 @@ plans_more d clock old new lane act answer h lt formed answers keeps unstepped c
     Shown : Option Collector → Type 0
     Shown o = ShowsOpen (length (new.journal).entries.items) c2 then_has o (swept_of (then_event h e)).sweep
 
-    by_sweep : (x y : Collector) → new.collector ≡ Some y → y.plan ≡ x.plan → y.entries ≡ x.entries → (o : Option Sweep) → (swept_of h).sweep ≡ o → IsSomeAnd o (ShowsSweep was c first x) → Shown (Some y)
-    by_sweep x y is plan entries None at shows = absurd shows
-    by_sweep x y is plan entries (Some sweep) at shows =
+    by_sweep : (x y : Collector) → new.collector ≡ Some y → y.plan ≡ x.plan → y.pages ≡ x.pages → (o : Option Sweep) → (swept_of h).sweep ≡ o → IsSomeAnd o (ShowsSweep was c first x) → Shown (Some y)
+    by_sweep x y is plan pages None at shows = absurd shows
+    by_sweep x y is plan pages (Some sweep) at shows =
         let sweeps = later ∙ stays_open (record { lane = y.lane; ended = y.ended }) (world (then_event h e)).collecting (option_map (spared act answer.reply) (swept_of h).sweep) (sym (ap open_in is) ∙ so.collecting)
         ∙ ap (option_map (spared act answer.reply)) at in
         subst (λ o. ShowsOpen (length (new.journal).entries.items) c2 then_has (Some y) o) (sym sweeps)
         (subst (λ n. ShowsSweep n c2 then_has y (spared act answer.reply sweep)) (sym count)
-        (shows_sifted was c c2 first then_has (spares act answer.reply) x y sweep (sifted_by was c c2 first then_has (spares act answer.reply) x y plan entries shows.numbers its) shows))
+        (shows_sifted was c c2 first then_has (spares act answer.reply) x y sweep (sifted_by was c c2 first then_has (spares act answer.reply) x y plan pages shows.numbers its) shows))
 
     by_open : (o : Option Collector) → new.collector ≡ o → Shown o
     by_open None is =
         later ∙ ap (λ v. while_open v (option_map (spared act answer.reply) (swept_of h).sweep)) (none_open (world (then_event h e)).collecting (sym (ap open_in is) ∙ so.collecting))
     by_open (Some y) is =
         let x = was_open (answer.entry).kind lane old.collector y (sym collector ∙ is) in
-        by_sweep x.was y is x.plan x.same_entries (swept_of h).sweep refl
+        by_sweep x.was y is x.plan x.same_pages (swept_of h).sweep refl
         (subst (λ o. ShowsOpen was c first o (swept_of h).sweep) x.there touches.sweep)

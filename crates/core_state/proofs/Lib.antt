@@ -13,6 +13,7 @@ pub mod OrderLemmas
 pub mod Reserves
 pub mod Sessions
 pub mod LockLemmas
+pub mod Rows
 pub mod Acting
 pub mod Soundness
 pub mod OnDisk
@@ -25,6 +26,7 @@ pub mod Numbering
 pub mod Recorded
 pub mod Finding
 pub mod Found
+pub mod KeptPages
 pub mod Naming
 pub mod Unreadables
 pub mod Readers

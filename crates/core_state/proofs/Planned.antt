@@ -1,22 +1,25 @@
 -- The plan of the open collector stays the history's sweep as a snapshot is finished, as one is forgotten, and over acts that do neither.
-use Rattle.std.proofs.Common.{◌≡◌, ◌≢◌, ℕ, Bool, true, false, not, ◌==◌, cond, if◌then◌else◌, List, [], ◌∷◌, ◌++◌, drop, filter, Option, Some, None, refl, sym, ap, ◌∙◌}
-use Rattle.std.specs.Prelude.{option_map, AllPairs}
+use Rattle.std.proofs.Common.{◌≡◌, ◌≢◌, ℕ, Bool, true, false, not, ◌==◌, cond, if◌then◌else◌, List, [], ◌∷◌, ◌++◌, drop, filter, Option, Some, None, refl, sym, ap, subst, ◌∙◌}
+use Rattle.std.specs.Prelude.{option_map, AllPairs, IsSomeAnd}
 use Rattle.std.specs.List.{All, find, flat_map}
 use Rattle.std.proofs.lemmas.Bool.{eqb-true}
 use Rattle.std.proofs.lemmas.List.Elements.{All-head, All-tail, All-weaker}
 use Rattle.store_types.specs.declared.names.SnapshotKey.{SnapshotKey}
 use Rattle.store_types.specs.KeyOrder.{same_key_equiv}
 use Rattle.store_types.specs.Names.{key_lt, same_key}
-use Rattle.store_files.specs.Archive.{Snapshot, file_named}
+use Rattle.store_files.specs.Archive.{Snapshot, file_named, file_text}
+use Rattle.store_files.specs.Folder.{file_path}
 use Rattle.store_model.specs.Store.{insert_snapshot, snapshot_named, without_snapshot}
 use Rattle.snapshot_files.proofs.Removals.{named-without}
 use Rattle.gc_plan.specs.declared.IndexAt.{IndexAt}
+use Rattle.paged_indexes.specs.declared.index.IndexPages.{IndexPages}
+use Rattle.restore_reader.specs.Shown.{pages_of}
 use Rattle.store_history.specs.Sweeping.{Unmarked, unmarked_of}
 use Rattle.core_state.specs.declared.kept.Kept.{Kept}
 use Rattle.core_state.specs.declared.kept.Listed.{Listed}
 use Rattle.core_state.specs.Catalogue.{insert_listed, without_listed}
 use Rattle.core_state.specs.Numbers.{DifferInNumber}
-use Rattle.core_state.specs.Sweeps.{digests_in, digests_named, kept_at, left_at, left_in, left_of_kept}
+use Rattle.core_state.specs.Sweeps.{ArePages, digests_in, digests_named, kept_at, left_at, left_in, left_of_kept}
 use Rattle.core_state.proofs.Numbering.{head_differs, tail_differs}
 use Rattle.core_state.proofs.Readers.{named_still}
 
@@ -87,6 +90,11 @@ kept_forgotten number key (x ∷ xs) once =
 
 pub digests_as : (key : SnapshotKey) (name : List ℕ) (xs ys : List Snapshot) → snapshot_named key ys ≡ snapshot_named key xs → digests_named key name ys ≡ digests_named key name xs
 digests_as key name xs ys same = ap (λ (o : Option Snapshot). digests_in (file_named name (elim o [ None ↦ [] | Some x ↦ x.files ]))) same
+
+-- its pages are those of the same file
+pub pages_as : (name : List ℕ) (q : IndexPages) (k : Kept) (xs ys : List Snapshot) → snapshot_named k.key ys ≡ snapshot_named k.key xs → ArePages xs name q (Some k) → ArePages ys name q (Some k)
+pages_as name q k xs ys same has =
+    subst (λ (o : Option Snapshot). IsSomeAnd (file_named name (elim o [ None ↦ [] | Some x ↦ x.files ])) (λ f. q ≡ pages_of name (file_path k.key name) (file_text f.content))) (sym same) has
 
 -- ---- what is left of an index
 

@@ -1,5 +1,5 @@
 -- The open collector shows the sweep of a history that is longer by one event, which is none of a collector's acts.
-use Rattle.std.proofs.Common.{◌≡◌, ◌≢◌, ◌<◌, ◌+◌, ⊎_elim, inl, inr, ℕ, Bool, not, List, drop, filter, refl, sym, ap, subst, ◌∙◌, arith}
+use Rattle.std.proofs.Common.{◌≡◌, ◌≢◌, ◌<◌, ◌+◌, ⊎_elim, inl, inr, ℕ, Bool, not, List, drop, filter, Option, Some, None, IfSome, refl, sym, ap, subst, ◌∙◌, arith}
 use Rattle.std.specs.List.{All}
 use Rattle.std.specs.Prelude.{AllPairs}
 use Rattle.std.proofs.lemmas.List.Elements.{All-drop, All-weaker}
@@ -9,12 +9,13 @@ use Rattle.store_files.specs.Archive.{Snapshot}
 use Rattle.store_model.specs.Store.{insert_snapshot, without_snapshot}
 use Rattle.gc_plan.specs.Plan.{Stage, marking, sweeping, next_index}
 use Rattle.gc_plan.specs.declared.IndexAt.{IndexAt}
+use Rattle.paged_indexes.specs.declared.index.IndexPages.{IndexPages}
 use Rattle.store_history.specs.Sweeping.{Sweep, Unmarked}
 use Rattle.core_state.specs.declared.collector.Collector.{Collector}
 use Rattle.core_state.specs.declared.kept.Listed.{Listed}
 use Rattle.core_state.specs.Catalogue.{insert_listed, without_listed}
 use Rattle.core_state.specs.Numbers.{DifferInNumber}
-use Rattle.core_state.specs.Sweeps.{FitsRemoved, HasEntries, HasNumber, ShowsSweep, left_at, unmarked_by, visits_by}
+use Rattle.core_state.specs.Sweeps.{FitsRemoved, HasNumber, HasPages, ShowsSweep, left_at, unmarked_by, visits_by}
 use Rattle.core_state.proofs.Planned.{IsNewKey, finished_left, filtered_left, forgotten_left, same_left}
 
 -- with the indexes that pass the test alone
@@ -25,12 +26,12 @@ pub numbers_later : (acts : ℕ) (is : List IndexAt) → All (HasNumber acts) is
 numbers_later acts is all = All-weaker (HasNumber acts) (HasNumber (acts + 1))
     (λ i has. ⊎_elim {C = HasNumber (acts + 1) i} (λ (lt : i.snapshot < acts). inl (omega (arith, lt))) (λ found. inr found) has) is all
 
--- the plan and the digests at hand are as before, and what is unmarked is sifted
+-- the plan and the pages at hand are as before, and what is unmarked is sifted
 pub record IsSifted (c c2 : List Listed) (s s2 : List Snapshot) (p : Unmarked → Bool) (x y : Collector) : Type 0 where
   pub plan : y.plan ≡ x.plan
-  pub same_entries : y.entries ≡ x.entries
+  pub same_pages : y.pages ≡ x.pages
   pub unmarked : unmarked_by c2 s2 (x.plan).indexes (x.plan).stage ≡ filter p (unmarked_by c s (x.plan).indexes (x.plan).stage)
-  pub entries : HasEntries c s x.entries.items (next_index x.plan) → HasEntries c2 s2 x.entries.items (next_index x.plan)
+  pub pages : (q : IndexPages) → HasPages c s q (next_index x.plan) → HasPages c2 s2 q (next_index x.plan)
 
 pub shows_sifted : (acts : ℕ) (c c2 : List Listed) (s s2 : List Snapshot) (p : Unmarked → Bool) (x y : Collector) (sweep : Sweep)
     → IsSifted c c2 s s2 p x y → ShowsSweep acts c s x sweep → ShowsSweep (acts + 1) c2 s2 y (sifted p sweep)
@@ -41,11 +42,14 @@ shows_sifted acts c c2 s s2 p x y sweep is h = record {
   to_visit = ap (λ g. visits_by g.stage) is.plan ∙ h.to_visit;
   removed = ap (λ g. g.removed) is.plan ∙ h.removed;
   few = subst (λ g. FitsRemoved g.stage g.removed) (sym is.plan) h.few;
-  entries = λ some. subst (λ g. HasEntries c2 s2 y.entries.items (next_index g)) (sym is.plan)
-      (subst (λ v. HasEntries c2 s2 v.items (next_index x.plan)) (sym is.same_entries)
-      (is.entries (h.entries (λ none. some (ap (λ v. v.items) is.same_entries ∙ none)))));
+  pages = subst (λ o. IfSome o (λ q. HasPages c2 s2 q (next_index y.plan))) (sym is.same_pages)
+      (subst (λ g. IfSome x.pages (λ q. HasPages c2 s2 q (next_index g))) (sym is.plan) (each x.pages h.pages));
   numbers = subst (λ g. All (HasNumber (acts + 1)) g.indexes) (sym is.plan) (numbers_later acts (x.plan).indexes h.numbers);
 }
+  where
+    each : (o : Option IndexPages) → IfSome o (λ q. HasPages c s q (next_index x.plan)) → IfSome o (λ q. HasPages c2 s2 q (next_index x.plan))
+    each None has = tt
+    each (Some q) has = is.pages q has
 
 -- ---- a snapshot is forgotten
 

@@ -58,6 +58,14 @@ reads_other ss w r is reads = by_found (snapshot_named r.key ss) refl reads.fini
         let same : y.key ≡ r.key = (same_keys y.key r.key).0 (found_passes (λ x. same_key x.key r.key) ss y at) in
         different w.key r.key (λ e. apart (same ∙ sym e))
 
+-- each snapshot that is found is found still
+pub finished_stays : (s : Store) (lane : ℕ) (w : model.Writer) → IsSound s → session s lane ≡ model.writer w → (key : SnapshotKey) (y : Snapshot) → snapshot_named key s.snapshots ≡ Some y
+    → snapshot_named key (insert_snapshot (snapshot_of w) s.snapshots) ≡ Some y
+finished_stays s lane w h is key y at =
+    let apart : y.key ≢ w.key = found_in (λ x. x.key ≢ w.key) (λ x. same_key x.key key) s.snapshots y (fresh s.snapshots w (h.writers lane w is)) at in
+    let same : y.key ≡ key = (same_keys y.key key).0 (found_passes (λ x. same_key x.key key) s.snapshots y at) in
+    named_still key (snapshot_of w) s.snapshots (different w.key key (λ e. apart (same ∙ sym e))) ∙ at
+
 -- what is kept of the sessions is as before
 pub sessions_finished : (s : Store) (lane : ℕ) (w : model.Writer) → IsSound s → session s lane ≡ model.writer w
     → map (shown_session (insert_snapshot (snapshot_of w) s.snapshots)) s.sessions ≡ map (shown_session s.snapshots) s.sessions

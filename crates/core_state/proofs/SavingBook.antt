@@ -30,6 +30,7 @@ use Rattle.core_state.specs.declared.journal.Journal.{Journal}
 use Rattle.core_state.specs.declared.kept.Listed.{Listed}
 use Rattle.core_state.specs.declared.state.Core.{Core}
 use Rattle.core_state.specs.History.{History, KeepsTime, StandsFor, pieces_of, world}
+use Rattle.core_state.specs.Indexed.{FitsRows}
 use Rattle.core_state.specs.Locked.{Locked}
 use Rattle.core_state.specs.KeepsTouches.{KeepsTouches, swept_of, touches_of_history}
 use Rattle.core_state.specs.Collectors.{open_in}
@@ -74,6 +75,7 @@ pub record KeepsFields {D E C : Type 0} (old new : Core D E C) : Type 0 where
   pub catalogue : (new.parts).catalogue ≡ (old.parts).catalogue
   pub sessions : (new.parts).sessions ≡ (old.parts).sessions
   pub locks : (new.parts).locks ≡ (old.parts).locks
+  pub indexes : (new.parts).indexes ≡ (old.parts).indexes
 
 module _ {D E C : Type 0} (d : Ghosts D) (old new : Core D E C) (result : Result (Unit {0}) DiskError)
     (serves : Serves d.honest d.faults (old.parts).disk (new.parts).disk (IsErrOf result Failed)) (rest : KeepsFields old new) (crash : LeavesBook d old new)
@@ -115,6 +117,7 @@ module _ {D E C : Type 0} (d : Ghosts D) (old new : Core D E C) (result : Result
         catalogue = ap (λ xs. map (λ (x : Listed). x.kept) xs.listed) rest.catalogue ∙ (s.shows).catalogue;
         sessions = ap (λ xs. xs.items) rest.sessions ∙ (s.shows).sessions;
         locks = subst (λ locks. Locked locks (world h).store) (sym rest.locks) (s.shows).locks;
+        indexes = subst (λ rows. FitsRows (world h).store rows.items) (sym rest.indexes) (s.shows).indexes;
         sound = (s.shows).sound;
       };
       collecting = ap open_in rest.collector ∙ s.collecting;

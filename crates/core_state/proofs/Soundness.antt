@@ -10,6 +10,7 @@ use Rattle.store_model.specs.Store.{Store, session, with_session}
 use Rattle.core_state.specs.declared.parts.Parts.{Parts}
 use Rattle.core_state.specs.declared.kept.Session.{Session}
 use Rattle.core_state.specs.Shown.{shown_session}
+use Rattle.core_state.specs.Indexed.{FitsRows}
 use Rattle.core_state.specs.Locked.{Locked}
 use Rattle.core_state.specs.Holds.{IsSound, IsWriter, Shows, IsOnDisk, HasUploads}
 use Rattle.core_state.proofs.Sessions.{changed, shown_set, writers_same, no_writer_none, no_reader_none, no_reader_writer}
@@ -60,12 +61,13 @@ disk_writer m s lane x l files h = record {
   writers = λ i w is. changed s lane (model.writer x) i (model.writer w) _ l is (λ e n. subst (HasUploads m) (writers_same x w n) files) (λ ne old. h.writers i w old);
 }
 
--- catalogue, sessions and locks, with one session changed
+-- catalogue, sessions, locks and what is kept of indexes, with one session changed
 pub shows_changed : {D : Type 0} (old new : Parts D) (s : Store) (lane : ℕ) (x : model.Session) (y : Session) → new.catalogue.listed ≡ old.catalogue.listed → new.sessions.items ≡ set old.sessions.items lane y → y ≡ shown_session s.snapshots x
-    → Locked new.locks (with_session s lane x) → IsSound (with_session s lane x) → Shows old s → Shows new (with_session s lane x)
-shows_changed old new s lane x y c l is locks sound h = record {
+    → Locked new.locks (with_session s lane x) → FitsRows (with_session s lane x) new.indexes.items → IsSound (with_session s lane x) → Shows old s → Shows new (with_session s lane x)
+shows_changed old new s lane x y c l is locks rows sound h = record {
   catalogue = ap (λ items. map (λ x. x.kept) items) c ∙ h.catalogue;
   sessions = l ∙ ap (λ k. set k lane y) h.sessions ∙ ap (set (map (shown_session s.snapshots) s.sessions) lane) is ∙ sym (shown_set s.snapshots s lane x);
   locks = locks;
+  indexes = rows;
   sound = sound;
 }

@@ -156,7 +156,7 @@ module _ {D E C : Type 0} (d : Ghosts D) (readings : C → Option Readings) (old
         honest = honest;
         remote = ap is_some is.remote;
         fault = fault;
-        shows = subst (Shows acted.parts) (sym store) (shows_same old.parts acted.parts (world h).store (is.kept).catalogue (is.kept).sessions (is.kept).locks s.shows);
+        shows = subst (Shows acted.parts) (sym store) (shows_same old.parts acted.parts (world h).store is.kept s.shows);
         collecting = shown;
         files = λ none. subst (IsOnDisk (d.content (acted.parts).disk)) (sym store) (has none).0;
         chunks = λ none. only_same (d.content (acted.parts).disk) (pieces_of h) [] (has none).1;
@@ -234,7 +234,7 @@ begun_stepped d readings old mid new k m n reply answer c b fault other e = reco
   calls = (b.entries).calls;
   remote = b.remote;
   fault = fault;
-  kept = record { catalogue = ap (λ p. p.catalogue.listed) b.parts; sessions = ap (λ p. p.sessions.items) b.parts; locks = ap (λ p. p.locks) b.parts };
+  kept = record { catalogue = ap (λ p. p.catalogue.listed) b.parts; sessions = ap (λ p. p.sessions.items) b.parts; locks = ap (λ p. p.locks) b.parts; indexes = ap (λ p. p.indexes.items) b.parts };
   count = let same = ap (λ p. d.faults p.disk) b.parts in omega (arith, same);
   rose = λ five none. absurd (other five none);
   later = let same = ap (λ p. d.calls p.disk) b.parts in omega (arith, same);

@@ -4,7 +4,7 @@ use Rattle.std.proofs.Common.{◌≡◌, ◌↔◌, ◌+◌, ℕ, zero, suc, max
 use Rattle.std.specs.FinMap.{get}
 use Rattle.std.specs.List.{All}
 use Rattle.std.specs.Option.{IsSome}
-use Rattle.std.specs.Prelude.{IsSomeAnd, not, option_map}
+use Rattle.std.specs.Prelude.{IfSome, IsSomeAnd, not, option_map}
 use Rattle.std.specs.Str.{bytes_eq}
 use Rattle.port_traits.specs.Readings.{Readings}
 use Rattle.store_files.specs.Archive.{Snapshot}
@@ -25,7 +25,7 @@ use Rattle.core_state.specs.declared.state.Core.{Core}
 use Rattle.core_state.specs.Collectors.{open_in, shown_collecting}
 use Rattle.core_state.specs.History.{History, StandsFor, event_of, then_event, world}
 use Rattle.core_state.specs.KeepsTouches.{KeepsTouches, swept_of, touches_of_history}
-use Rattle.core_state.specs.Sweeps.{FitsRemoved, HasEntries, HasNumber, ShowsOpen, ShowsSweep, unmarked_by, visits_by}
+use Rattle.core_state.specs.Sweeps.{FitsRemoved, HasNumber, HasPages, ShowsOpen, ShowsSweep, unmarked_by, visits_by}
 use Rattle.core_state.specs.Upkeeps.{touches_kept}
 use Rattle.core_state.proofs.Entered.{world_more}
 use Rattle.core_state.proofs.LaterPlans.{WasOpen, none_open, stays_open}
@@ -102,17 +102,16 @@ spared_none r None = refl
 spared_none r (Some sweep) = ap (λ x. Some x) (spared_same r sweep)
 
 -- of the same plan, with the same digests at hand, after one act more
-pub shows_later : (acts : ℕ) (c : List Listed) (s : List Snapshot) (x y : Collector) (sweep : Sweep) → y.plan ≡ x.plan → y.entries ≡ x.entries → ShowsSweep acts c s x sweep → ShowsSweep (acts + 1) c s y sweep
-shows_later acts c s x y sweep plan entries h = record {
+pub shows_later : (acts : ℕ) (c : List Listed) (s : List Snapshot) (x y : Collector) (sweep : Sweep) → y.plan ≡ x.plan → y.pages ≡ x.pages → ShowsSweep acts c s x sweep → ShowsSweep (acts + 1) c s y sweep
+shows_later acts c s x y sweep plan pages h = record {
   start = ap (λ g. g.start) plan ∙ h.start;
   cutoff = ap (λ g. g.cutoff) plan ∙ h.cutoff;
   unmarked = ap (λ g. unmarked_by c s g.indexes g.stage) plan ∙ h.unmarked;
   to_visit = ap (λ g. visits_by g.stage) plan ∙ h.to_visit;
   removed = ap (λ g. g.removed) plan ∙ h.removed;
   few = subst (λ g. FitsRemoved g.stage g.removed) (sym plan) h.few;
-  entries = λ some. subst (λ g. HasEntries c s y.entries.items (next_index g)) (sym plan)
-      (subst (λ v. HasEntries c s v.items (next_index x.plan)) (sym entries)
-      (h.entries (λ none. some (ap (λ v. v.items) entries ∙ none))));
+  pages = subst (λ o. IfSome o (λ q. HasPages c s q (next_index y.plan))) (sym pages)
+      (subst (λ g. IfSome x.pages (λ q. HasPages c s q (next_index g))) (sym plan) h.pages);
   numbers = subst (λ g. All (HasNumber (acts + 1)) g.indexes) (sym plan) (numbers_later acts (x.plan).indexes h.numbers);
 }
 
@@ -213,21 +212,21 @@ module _ {D E C : Type 0} (d : Ghosts D) (readings : C → Option Readings) (old
       Shows : Option Collector → Type 0
       Shows o = ShowsOpen (length (new.journal).entries.items) (new.parts).catalogue.listed ((world (then_event h e)).store).snapshots o (swept_of (then_event h e)).sweep
 
-      by_sweep : (x y : Collector) → new.collector ≡ Some y → y.plan ≡ x.plan → y.entries ≡ x.entries → (o : Option Sweep) → u.sweep ≡ o → IsSomeAnd o (ShowsSweep acts c snapshots x) → Shows (Some y)
-      by_sweep x y at plan entries None none shows = absurd shows
-      by_sweep x y at plan entries (Some sweep) some shows =
+      by_sweep : (x y : Collector) → new.collector ≡ Some y → y.plan ≡ x.plan → y.pages ≡ x.pages → (o : Option Sweep) → u.sweep ≡ o → IsSomeAnd o (ShowsSweep acts c snapshots x) → Shows (Some y)
+      by_sweep x y at plan pages None none shows = absurd shows
+      by_sweep x y at plan pages (Some sweep) some shows =
           let sweeps : (swept_of (then_event h e)).sweep ≡ Some sweep =
           sweep_stays other ∙ stays_open (record { lane = y.lane; ended = y.ended }) (world (then_event h e)).collecting u.sweep (sym (ap open_in at) ∙ so.collecting) ∙ some in
           subst (λ o. ShowsOpen (length (new.journal).entries.items) (new.parts).catalogue.listed ((world (then_event h e)).store).snapshots (Some y) o) (sym sweeps)
           (subst (λ q. ShowsSweep q (new.parts).catalogue.listed ((world (then_event h e)).store).snapshots y sweep) (sym count)
           (subst (λ l. ShowsSweep (acts + 1) l ((world (then_event h e)).store).snapshots y sweep) (sym listed)
-          (subst (λ l. ShowsSweep (acts + 1) c l y sweep) (sym still) (shows_later acts c snapshots x y sweep plan entries shows))))
+          (subst (λ l. ShowsSweep (acts + 1) c l y sweep) (sym still) (shows_later acts c snapshots x y sweep plan pages shows))))
 
       by_open : (o : Option Collector) → new.collector ≡ o → Shows o
       by_open None at = sweep_stays other ∙ ap (λ v. while_open v u.sweep) (none_open (world (then_event h e)).collecting (sym (ap open_in at) ∙ so.collecting))
       by_open (Some y) at =
           let x = before y at in
-          by_sweep x.was y at x.plan x.same_entries u.sweep refl (subst (λ o. ShowsOpen acts c snapshots o u.sweep) x.there shows)
+          by_sweep x.was y at x.plan x.same_pages u.sweep refl (subst (λ o. ShowsOpen acts c snapshots o u.sweep) x.there shows)
 
   pub unpassed_keeps : (n ≡ 1 → ⊥) → SameTouches (touches_kept acted.upkeep) (touches_kept old.upkeep) → (new.fault ≡ None → HasChunks (touches_of_history h))
       → (was : Option Collector) → ShowsOpen acts c snapshots was u.sweep → ((y : Collector) → new.collector ≡ Some y → WasOpen was y)

@@ -12,11 +12,11 @@ use Rattle.core_state.specs.declared.parts.Parts.{Parts}
 use Rattle.core_state.specs.declared.state.Core.{Core}
 use Rattle.core_state.specs.Settles.{Settles, reply_by}
 use Rattle.core_state.specs.Begins.{IsShort, Refuses, short, halted, IsReady}
-use Rattle.core_state.specs.Unchanged.{SameKept, LeavesAll, Unchanged}
+use Rattle.core_state.specs.Unchanged.{SamePlain, LeavesAll, Unchanged}
 
 module _ {D : Type 0} (g : Ghosts D) where
   -- nothing has changed
-  pub leaves_same : (old new : Parts D) (r : Refusal) → new.disk ≡ old.disk → SameKept old new → LeavesAll g old new r
+  pub leaves_same : (old new : Parts D) (r : Refusal) → new.disk ≡ old.disk → SamePlain old new → LeavesAll g old new r
   leaves_same old new r d kept = record { kept = kept; uncalled = λ _. d; disk = λ _ _. ap g.content d }
 
   pub same_unchanged : (old new : Parts D) (reply : Reply) → new ≡ old → Unchanged g old new reply

@@ -1,6 +1,6 @@
 -- What a command over the parts promises of its act: two records, functions of the act, so that a command's clause is the instance at
 -- its constructor.
-use Rattle.std.specs.Prelude.{◌≡◌, ℕ, Bool, true, false, List, Option, Some, Result, IfOk, IsErrOf, IsTrue}
+use Rattle.std.specs.Prelude.{◌≡◌, ℕ, Bool, true, false, not, List, Option, Some, Result, IfOk, IsErrOf, IsTrue}
 use Rattle.disk_trait.specs.Disk.{Serves}
 use Rattle.disk_trait.specs.Effects.{SameContent}
 use Rattle.disk_trait.specs.declared.disk.Disk.{Ghosts}
@@ -9,7 +9,7 @@ use Rattle.wire_commands.specs.HasText.{ReplyHasText}
 use Rattle.wire_commands.specs.declared.reply.Reply.{Reply}
 use Rattle.wire_commands.specs.declared.reply.Reply.TheVariants.{Refused}
 use Rattle.wire_commands.specs.declared.command.Command.{Command}
-use Rattle.wire_commands.specs.declared.command.Command.TheVariants.{OpenWriter, NewFixed, NewDynamic, Append, CloseIndex, OpenReader, CloseReader, List as ListAll, Forget, Group, Finish, Abort}
+use Rattle.wire_commands.specs.declared.command.Command.TheVariants.{OpenWriter, NewFixed, NewDynamic, Append, CloseIndex, Previous, OpenReader, CloseReader, List as ListAll, Forget, Group, Finish, Abort}
 use Rattle.store_model.specs.Store.{Store}
 use Rattle.store_history.specs.declared.act.Act.{Act}
 use Rattle.store_history.specs.declared.act.Act.TheVariants.{Plain, Blob, Chunk, JobGroup, ReadFile, ReadChunk, RemoteList, RemoteFile, RemoteChunk, Start, Step, Short, End}
@@ -26,6 +26,7 @@ use Rattle.core_state.specs.Chunks.{Adds, IsSafe}
 use Rattle.core_state.specs.Closing.{HasClosed, closes, is_writer}
 use Rattle.core_state.specs.PassedTests.{PassesItsTests}
 use Rattle.core_state.specs.Holds.{Acts, Holds}
+use Rattle.core_state.specs.Indexed.{row_at}
 use Rattle.core_state.specs.Replies.{may_answer}
 use Rattle.core_state.specs.Settles.{reply_by}
 use Rattle.core_state.specs.Stops.{told}
@@ -107,6 +108,16 @@ leaves_writer (Blob name checked) = true
 leaves_writer (Chunk digest checked) = true
 leaves_writer _ = false
 
+-- the acts after which the lane keeps of indexes what it kept
+abbrev pub keeps_row : Act → Bool
+keeps_row (ReadChunk name entry) = false
+keeps_row (Plain (Previous name offset)) = false
+keeps_row act = not (ends_session act)
+
+-- and after any act all other lanes do
+abbrev pub LeavesRows : {D : Type 0} → Parts D → Parts D → ℕ → Act → Type 0
+LeavesRows old new lane act = (i : ℕ) → (i ≡ lane → keeps_row act ≡ true) → row_at new i ≡ row_at old i
+
 abbrev pub IsNoRefusal : Reply → Type 0
 IsNoRefusal (Refused refusal) = ⊥
 IsNoRefusal _ = Unit {0}
@@ -147,6 +158,8 @@ pub record ActLeaves {D : Type 0} (d : Ghosts D) (old new : Parts D) (at : Place
   pub closed : closes act (session_at old at.lane) ≡ true → HasClosed new at.lane (told result)
   pub ended : ends_session act ≡ true → IfOk result (λ _. session_at new at.lane ≡ Idle)
   pub writes : leaves_writer act ≡ true → IfOk result (λ _. is_writer (session_at new at.lane) ≡ true)
+  -- what the lanes keep of indexes
+  pub rows : LeavesRows old new at.lane act
 
 -- ---- the two of a plain command
 

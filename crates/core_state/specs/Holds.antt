@@ -25,6 +25,7 @@ use Rattle.backup_session.specs.Shown.{IsOpen}
 use Rattle.core_state.specs.declared.parts.Parts.{Parts}
 use Rattle.core_state.specs.Shown.{shown_snapshot, shown_session}
 use Rattle.core_state.specs.Locked.{Locked}
+use Rattle.core_state.specs.Indexed.{FitsRows}
 
 -- ---- what holds of every plain store that is reached
 
@@ -85,11 +86,12 @@ pub record IsSound (s : Store) : Type 0 where
 
 -- ---- the parts
 
--- catalogue, sessions and locks are those of the store
+-- catalogue, sessions and locks are those of the store, and what is kept of indexes is of its sessions'
 pub record Shows {D : Type 0} (parts : Parts D) (s : Store) : Type 0 where
   pub catalogue : map (λ x. x.kept) parts.catalogue.listed ≡ map shown_snapshot s.snapshots
   pub sessions : parts.sessions.items ≡ map (shown_session s.snapshots) s.sessions
   pub locks : Locked parts.locks s
+  pub indexes : FitsRows s parts.indexes.items
   pub sound : IsSound s
 
 -- a writer's files but the manifest are there
@@ -114,7 +116,7 @@ pub record Holds {D : Type 0} (d : Ghosts D) (parts : Parts D) (s : Store) : Typ
 
 -- ---- acts
 
--- Want of memory has changed nothing. After a fault of the disk catalogue, sessions and locks are as before.
+-- Want of memory has changed nothing of it. After a fault of the disk catalogue, sessions and locks are as before.
 abbrev pub Refuses : {D : Type 0} → Ghosts D → Parts D → Store → DiskError → Type 0
 Refuses d parts s NoMemory = Holds d parts s
 Refuses d parts s DiskFailed = d.honest parts.disk × Shows parts s

@@ -1,6 +1,7 @@
 pub mod Named
 pub mod Entering
 pub mod Shown
+pub mod Indexed
 pub mod Locked
 pub mod States
 pub mod Replies

@@ -1,9 +1,11 @@
 -- When the plan of the open collector is the sweep of a history.
-use Rattle.std.specs.Prelude.{◌≡◌, ◌≤◌, ◌<◌, ◌+◌, ◌^◌, ◌⊎◌, ◌==◌, ℕ, List, [], ◌∷◌, ◌++◌, map, drop, length, Option, Some, None, option_map, IsSomeAnd}
+use Rattle.std.specs.Prelude.{◌≡◌, ◌≤◌, ◌<◌, ◌+◌, ◌^◌, ◌⊎◌, ◌==◌, ℕ, List, [], ◌∷◌, ◌++◌, map, drop, length, Option, Some, None, option_map, IfSome, IsSomeAnd}
 use Rattle.std.specs.List.{All, find, flat_map}
-use Rattle.store_types.specs.declared.names.Digest32.{Digest32}
 use Rattle.store_types.specs.declared.names.SnapshotKey.{SnapshotKey}
-use Rattle.store_files.specs.Archive.{File, Snapshot, file_named}
+use Rattle.store_files.specs.Archive.{File, Snapshot, file_named, file_text}
+use Rattle.store_files.specs.Folder.{file_path}
+use Rattle.paged_indexes.specs.declared.index.IndexPages.{IndexPages}
+use Rattle.restore_reader.specs.Shown.{pages_of}
 use Rattle.gc_plan.specs.Plan.{Stage, marking, sweeping, next_index}
 use Rattle.gc_plan.specs.declared.IndexAt.{IndexAt}
 use Rattle.store_history.specs.Sweeping.{Sweep, Unmarked, digests_of, unmarked_of}
@@ -57,14 +59,15 @@ abbrev pub FitsRemoved : Stage → ℕ → Type 0
 FitsRemoved (marking place first) removed = removed ≡ 0
 FitsRemoved (sweeping names) removed = removed + length names < 2 ^ 63
 
--- the digests at hand are all those of the index, where its snapshot is still there
-abbrev pub AreEntries : List Snapshot → List ℕ → List Digest32 → Option Kept → Type 0
-AreEntries snapshots name entries None = Unit {0}
-AreEntries snapshots name entries (Some k) = map (λ d. d.0) entries ≡ digests_named k.key name snapshots
+-- the pages at hand are those of the index's file, where its snapshot is still there
+abbrev pub ArePages : List Snapshot → List ℕ → IndexPages → Option Kept → Type 0
+ArePages snapshots name p None = Unit {0}
+ArePages snapshots name p (Some k) =
+    IsSomeAnd (file_named name (files_named k.key snapshots)) (λ f. p ≡ pages_of name (file_path k.key name) (file_text f.content))
 
-abbrev pub HasEntries : List Listed → List Snapshot → List Digest32 → Option IndexAt → Type 0
-HasEntries catalogue snapshots entries None = Unit {0}
-HasEntries catalogue snapshots entries (Some i) = AreEntries snapshots i.name entries (kept_at i.snapshot catalogue)
+abbrev pub HasPages : List Listed → List Snapshot → IndexPages → Option IndexAt → Type 0
+HasPages catalogue snapshots p None = Unit {0}
+HasPages catalogue snapshots p (Some i) = ArePages snapshots i.name p (kept_at i.snapshot catalogue)
 
 -- no act after so many gives a snapshot the number of this index's
 abbrev pub HasNumber : ℕ → IndexAt → Type 0
@@ -78,8 +81,8 @@ pub record ShowsSweep (acts : ℕ) (catalogue : List Listed) (snapshots : List S
   pub to_visit : visits_by (c.plan).stage ≡ sweep.to_visit
   pub removed : (c.plan).removed ≡ sweep.removed
   pub few : FitsRemoved (c.plan).stage (c.plan).removed
-  -- of the index that is next all digests are at hand, or none
-  pub entries : (c.entries.items ≡ [] → ⊥) → HasEntries catalogue snapshots c.entries.items (next_index c.plan)
+  -- where pages are at hand they are those of the index that is next
+  pub pages : IfSome c.pages (λ p. HasPages catalogue snapshots p (next_index c.plan))
   pub numbers : All (HasNumber acts) (c.plan).indexes
 
 -- no collector is open, and there is no sweep

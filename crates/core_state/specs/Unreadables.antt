@@ -4,6 +4,7 @@ use Rattle.std.specs.Prelude.{◌≡◌, ℕ, List, Option, None, Some, option_m
 use Rattle.std.specs.FinMap.{get}
 use Rattle.disk_trait.specs.Files.{Files}
 use Rattle.store_types.specs.Chain.Refusing.{◌>>=◌, or_else}
+use Rattle.store_types.specs.declared.names.Digest32.{Digest32}
 use Rattle.store_types.specs.declared.refusal.Refusal.{Refusal}
 use Rattle.store_types.specs.declared.refusal.Refusal.TheVariants.{Unreadable}
 use Rattle.store_types.specs.declared.order.TheConstants.{COMMAND_KIND}
@@ -13,7 +14,6 @@ use Rattle.store_history.specs.declared.act.Answer.{Answer}
 use Rattle.paged_indexes.specs.declared.kinds.IndexKind.{IndexKind}
 use Rattle.snapshot_files.specs.Parts.{part_from}
 use Rattle.snapshot_files.specs.Indexes.{index_at}
-use Rattle.snapshot_files.specs.Entry.{entry_at}
 use Rattle.core_state.specs.declared.entering.Place.{Place}
 use Rattle.core_state.specs.declared.kept.Listed.{Listed}
 use Rattle.core_state.specs.declared.kept.Session.{Session}
@@ -29,8 +29,8 @@ use Rattle.core_state.specs.Wanted.{session_at}
 pub data Way : Type 0 where
   -- a part of it from an offset; of an index that is read whole, and then of which kind
   from_offset : Option IndexKind → ℕ → Way
-  -- an entry of an index of a kind
-  at_entry : IndexKind → ℕ → Way
+  -- an entry of an index, of which this tells the digest
+  at_entry : (Files → List ℕ → Result Digest32 Refusal) → Way
   -- by this reading of what stands on the disk
   read_with : (Files → List ℕ → Result Reply Refusal) → Way
   -- whole, as a manifest
@@ -49,7 +49,7 @@ read_by (Some kind) m path offset = index_at m path kind offset >>= λ x. Ok x.p
 
 abbrev pub read_so : Way → Files → List ℕ → Result Reply Refusal
 read_so (from_offset whole offset) m path = read_by whole m path offset
-read_so (at_entry kind place) m path = entry_at m path kind place >>= λ digest. Ok Done
+read_so (at_entry telling) m path = telling m path >>= λ digest. Ok Done
 read_so (read_with reading) m path = reading m path
 read_so as_listing m path = or_else (Unreadable path) (listing_at m path) >>= λ read. Ok Done
 read_so known m path = Err (Unreadable path)

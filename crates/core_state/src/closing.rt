@@ -8,8 +8,10 @@ ghost use Rattle.core_state.specs.Entering.{SameEntries};
 ghost use Rattle.core_state.specs.Holds.{Shows};
 ghost use Rattle.core_state.specs.Reserved.{HasRoom};
 ghost use Rattle.core_state.specs.Wanted.{session_at};
+ghost use Rattle.core_state.specs.declared.indexes.Indexes.TheVariants.{Unread};
 ghost use Rattle.core_state.specs.declared.kept.Session.TheVariants.{Idle};
 
+use crate::indexes::Indexes;
 use crate::kept::Session;
 use crate::parts::Parts;
 use crate::state::Core;
@@ -28,8 +30,8 @@ pub fn closes(session: &Session, act: &Act) -> bool
     }
 }
 
-/// The lane has no session any more, and holds nothing. It takes no memory, and the disk is not called: what is left of a
-/// writer stays where it is.
+/// The lane has no session any more, holds nothing and keeps nothing of indexes. It takes no memory, and the disk is not
+/// called: what is left of a writer stays where it is.
 pub fn end_session<D>(parts: &mut Parts<D>, lane: u32)
     requires { lane < 64 }
     ensures disk { parts.new.disk ≡ parts.old.disk }
@@ -37,9 +39,11 @@ pub fn end_session<D>(parts: &mut Parts<D>, lane: u32)
     ensures sessions { parts.new.sessions.items ≡ slice_set parts.old.sessions.items lane Idle }
     ensures ended { session_at parts.new lane ≡ Idle }
     ensures locks { Releases parts.old.locks parts.new.locks lane }
+    ensures indexes { parts.new.indexes.items ≡ slice_set parts.old.indexes.items lane Unread }
     ensures shows { (s : Store) → Shows parts.old s → Shows parts.new (ended s lane) }
 {
     parts.sessions[lane as usize] = Session::Idle;
+    parts.indexes[lane as usize] = Indexes::Unread;
     parts.locks.release(lane);
 }
 

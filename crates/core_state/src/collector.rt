@@ -1,17 +1,18 @@
 //! The collector of unused chunks, while it is open.
 
-ghost use Rattle.core_state.specs.Entries.{FitsEntries};
+ghost use Rattle.core_state.specs.Entries.{FitsPages};
 
 use gc_plan::Gc;
+use paged_indexes::IndexPages;
 use snapshot_files::FilePath;
-use store_types::{Digest32, Refusal};
+use store_types::Refusal;
 
 /// What ended a collector early.
 #[derive(Debug, Drop)]
 pub enum Early {
     /// Memory was wanting for one of its acts.
     NoMemory,
-    /// The index that stands there does not decode.
+    /// The index that stands there does not decode, or is not as the collector opened it.
     Unreadable(FilePath),
 }
 
@@ -41,11 +42,11 @@ impl Early {
 pub struct Collector {
     pub lane: u32,
     pub plan: Gc,
-    /// The digests of the index that is being marked, from its first entry on. None are at hand before it is read.
-    pub entries: Vec<Digest32>,
+    /// What its opening kept of the index that is being marked. None is at hand before it is opened.
+    pub pages: Option<IndexPages>,
     /// Where something ended it early, its next act is its end.
     pub ended: Option<Early>,
-    ghost fits: { FitsEntries plan entries.items },
+    ghost fits: { FitsPages plan pages },
 }
 
 impl Collector {

@@ -61,6 +61,7 @@ impl<D, E, C> Core<D, E, C> {
             catalogue: _,
             sessions: _,
             locks: _,
+            indexes: _,
         } = parts;
         let Journal { entries, calls, .. } = journal;
         CoreParts {

@@ -12,7 +12,7 @@ use std::process::Abort;
 /// `abc`'s blob with another last byte.
 const TORN_BLOB: &[u8] = b"B\xab8\x07\xbe\x83p\xa1\xc2A$5abd";
 
-const NAME: &[u8] = b"root.didx";
+pub(crate) const NAME: &[u8] = b"root.didx";
 
 /// The first snapshot's manifest, which lists an archive without pieces. Its index is another one.
 const FILES: Contents = &[(
@@ -85,7 +85,7 @@ pub(crate) const ABC_DATA: &[u8] = b"\x10\0\0\0\0B\xab8\x07\xbe\x83p\xa1\xc2A$5a
 
 const TORN_DATA: &[u8] = b"\x10\0\0\0\0B\xab8\x07\xbe\x83p\xa1\xc2A$5abd";
 
-const DE_DATA: &[u8] = b"\x0f\0\0\0\0B\xab8\x07\xbe\x83p\xa1\x8b)\x90}de";
+pub(crate) const DE_DATA: &[u8] = b"\x0f\0\0\0\0B\xab8\x07\xbe\x83p\xa1\x8b)\x90}de";
 
 /// The chunk that is there is given, and each way in which it is not is told.
 static CHUNKS: [Row; 12] = [
@@ -122,10 +122,11 @@ static ENTRIES: [Row; 11] = [
     (5, Step::ReadChunk(NAME, u32::MAX), TWO_ENTRIES, 0),
     (5, Step::ReadChunk(NAME, 0), NOTHING_THERE, 0),
     (5, Step::ReadChunk(NAME, 1), NO_DE, 0),
+    // the page that it read stays at hand
     (5, Step::Remove(ROOT_PATH), DONE, 0),
-    (5, Step::ReadChunk(NAME, 0), NO_INDEX, 0),
+    (5, Step::ReadChunk(NAME, 0), NOTHING_THERE, 0),
     (5, Step::Put(ROOT_PATH, ABC_BLOB), DONE, 0),
-    (5, Step::ReadChunk(NAME, 0), NO_INDEX, 0),
+    (5, Step::ReadChunk(NAME, 1), NO_DE, 0),
 ];
 
 /// They are given as they stand there, without a test, and allow no other read.

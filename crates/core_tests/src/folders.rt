@@ -17,6 +17,8 @@ pub(crate) type Contents = &'static [(&'static str, &'static [u8])];
 pub(crate) enum Archives {
     /// None, or `root.didx` of so many entries: `abc` is the last, and `de` each before it.
     Root(u32),
+    /// `root.didx` of 2,049 entries: `abc` is the one with the number 1,010, and `de` is in each other.
+    Amid,
     /// `root.didx` of `abc`, which has this length by it, and `de`.
     Pieces(u32),
     /// `a.fidx` of two pieces, the second of them `de`, `b.didx` of none, and `c.didx` of so many, where there are any.
@@ -51,27 +53,30 @@ fn push(rt: &impl Abort, writer: &mut DynamicWriter, piece: &Piece) {
     must(rt, writer.append(digest, *length));
 }
 
+fn push_all(rt: &impl Abort, writer: &mut DynamicWriter, count: u32, piece: &Piece) {
+    for _ in 0..count {
+        push(rt, writer, piece);
+    }
+}
+
 /// Puts a file, whose path has at most 255 letters.
 pub(crate) fn put<D: Disk>(rt: &impl Abort, alloc: Global, disk: &mut D, path: &str, bytes: &[u8]) {
     assert!(rt; path.len() <= 255);
     must(rt, disk.put(alloc, path, bytes))
 }
 
-/// Puts an index of a piece so many times, and of a last one.
+/// Puts an index of these pieces, each so many times.
 fn put_index(
     rt: &impl Abort,
     alloc: Global,
     disk: &mut MemoryDisk,
     path: &str,
-    piece: (u32, Piece),
-    last: Piece,
+    pieces: &[(u32, Piece)],
 ) {
-    let (count, piece) = piece;
     let mut writer = DynamicWriter::new(alloc, [1; 16], 1_579_069_803);
-    for _ in 0..count {
-        push(rt, &mut writer, &piece);
+    for (count, piece) in pieces {
+        push_all(rt, &mut writer, *count, piece);
     }
-    push(rt, &mut writer, &last);
     put(rt, alloc, disk, path, &must(rt, writer.close(alloc)))
 }
 
@@ -100,23 +105,27 @@ pub(crate) fn folder(
     match archives {
         Archives::Root(0) => {}
         Archives::Root(entries) => {
+            let pieces = [(entries.saturating_sub(1), de), (1, abc)];
+            put_index(rt, alloc, &mut disk, ROOT_PATH, &pieces);
+        }
+        Archives::Amid => {
+            let pieces = [(1_010, de), (1, abc), (1_038, de)];
+            put_index(rt, alloc, &mut disk, ROOT_PATH, &pieces);
+        }
+        Archives::Pieces(length) => {
             put_index(
                 rt,
                 alloc,
                 &mut disk,
                 ROOT_PATH,
-                (entries.saturating_sub(1), de),
-                abc,
+                &[(1, (ABC, length)), (1, de)],
             );
-        }
-        Archives::Pieces(length) => {
-            put_index(rt, alloc, &mut disk, ROOT_PATH, (1, (ABC, length)), de);
         }
         Archives::Three(0) => put_first_two(rt, alloc, &mut disk),
         Archives::Three(entries) => {
             put_first_two(rt, alloc, &mut disk);
-            let absent = (entries.saturating_sub(1), (ABSENT, 4096));
-            put_index(rt, alloc, &mut disk, THIRD_PATH, absent, abc);
+            let pieces = [(entries.saturating_sub(1), (ABSENT, 4096)), (1, abc)];
+            put_index(rt, alloc, &mut disk, THIRD_PATH, &pieces);
         }
     }
     disk

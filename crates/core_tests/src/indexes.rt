@@ -6,7 +6,7 @@ use crate::asserts::{must, same, same_at};
 use crate::books::SAVED;
 use crate::cases::{put_beside, try_rows, try_tables};
 use crate::collecting::{APPEND, NEW, OF_THREE, OF_TWO, PASS, START, TWO_USED};
-use crate::damage::{ABC_DATA, GET_ABC};
+use crate::damage::{ABC_DATA, DE_DATA, GET_ABC, NAME};
 use crate::fixtures::{
     ABC, ABC_BLOB, ABC_CHUNK, BOOK, DE, DE_BLOB, DE_CHUNK, Kept, MANIFEST_PATH, ROOT_PATH, STILL,
     TestCore, kept, opened, opened_over,
@@ -109,6 +109,12 @@ const PREVIOUS_OF_THIRD_AT_END: &[u8] = b"\x0b\x06c.didx\xa8H\x01\0\0\0\0\0";
 
 const THIRD_AT_END: &[u8] = b"\x09\0\0\0\0\xa8H\x01\0\0\0\0\0";
 
+/// `c.didx` is unreadable, and the chunk of its first piece is not there.
+pub(crate) const NO_THIRD: &[u8] = b"$\0\0\0\x18\"host/a/2020-01-15T06:30:03Z/c.didx";
+
+pub(crate) const NO_X: &[u8] =
+    b"B\0\0\0\x17\xa2\xe6Y\xda\xcbF\x91\xe8\x87\xac\x019\xf8\x89=\x04vN\xe1\x97\xd7\x0f\xb7=1\x90\xd5a\x13\xd1\x8e>\0\0\0\0\0\0\0\0\0\0\0\0\0\0\0\0\0\0\0\0\0\0\0\0\0\0\0\0\0\0\0\0\0";
+
 const UNKNOWN: &[u8] = b"\x05\0\0\0\x0e\0\0\0\0";
 
 /// The last five bytes of the archive.
@@ -182,12 +188,7 @@ static BY_PREVIOUS_OF_TWO: Opens = Opens {
         Damage::Gone,
     ],
     damaged: &[
-        (
-            3,
-            Step::Send(PREVIOUS_OF_THIRD),
-            b"$\0\0\0\x18\"host/a/2020-01-15T06:30:03Z/c.didx",
-            0,
-        ),
+        (3, Step::Send(PREVIOUS_OF_THIRD), NO_THIRD, 0),
         (3, Step::Send(APPEND), UNKNOWN, 0),
     ],
     whole: &[
@@ -220,6 +221,37 @@ static BY_DOWNLOAD: Opens = Opens {
         (4, Step::Send(DOWNLOAD_AT_END), AT_END, 0),
         (4, Step::Send(GET_ABC), ABC_DATA, 0),
         (4, Step::Send(RANGE), b"\x06\0\0\0\0deabc", 0),
+    ],
+};
+
+/// A VERIFY is given no entry, and then each. It allows no piece.
+static BY_ENTRY: Opens = Opens {
+    reads: Reads {
+        files: FILES,
+        archives: ARCHIVES,
+        before: &[(4, Step::Send(READ_FIRST), DONE, 0)],
+        act: (4, Step::ReadChunk(NAME, 0)),
+        failed: &[
+            (4, Step::ReadChunk(NAME, 0), FAULT, 5),
+            (5, Step::Send(LIST), HALTED_BY_1, 5),
+        ],
+    },
+    path: ROOT_PATH,
+    damages: DAMAGES,
+    damaged: &[
+        (4, Step::ReadChunk(NAME, 0), NO_INDEX, 0),
+        (4, Step::ReadChunk(NAME, 2_048), NO_INDEX, 0),
+    ],
+    whole: &[
+        (4, Step::ReadChunk(NAME, 0), DE_DATA, 0),
+        (4, Step::ReadChunk(NAME, 2_048), ABC_DATA, 0),
+        (
+            4,
+            Step::ReadChunk(NAME, 2_049),
+            b"\x09\0\0\0\x16\x01\x08\0\0\0\0\0\0",
+            0,
+        ),
+        (4, Step::Send(GET_ABC), NOT_ALLOWED, 0),
     ],
 };
 
@@ -284,7 +316,7 @@ static IN_TURNS: [Row; 4] = [
     (
         4,
         Step::Send(b"\x17\x06c.didx\0\0\0\0\0\0\0\0\x01\0\0\0"),
-        b"B\0\0\0\x17\xa2\xe6Y\xda\xcbF\x91\xe8\x87\xac\x019\xf8\x89=\x04vN\xe1\x97\xd7\x0f\xb7=1\x90\xd5a\x13\xd1\x8e>\0\0\0\0\0\0\0\0\0\0\0\0\0\0\0\0\0\0\0\0\0\0\0\0\0\0\0\0\0\0\0\0\0",
+        NO_X,
         0,
     ),
     (4, Step::Send(ABC_OF_THIRD), GIVEN_ABC, 0),
@@ -430,6 +462,11 @@ fn damaged_indexes_allow_no_pieces(rt: HostRuntime) {
 }
 
 #[test]
+fn damaged_indexes_have_no_entries(rt: HostRuntime) {
+    try_damages(&rt, rt.alloc(), &BY_ENTRY)
+}
+
+#[test]
 fn damaged_indexes_are_not_marked(rt: HostRuntime) {
     try_damages(&rt, rt.alloc(), &BY_MARK)
 }
@@ -441,5 +478,6 @@ fn each_read_of_an_index_fails(rt: HostRuntime) {
     try_faults(&rt, alloc, &BY_PREVIOUS.reads, 7);
     try_faults(&rt, alloc, &BY_PREVIOUS_OF_TWO.reads, 6);
     try_faults(&rt, alloc, &BY_DOWNLOAD.reads, 7);
+    try_faults(&rt, alloc, &BY_ENTRY.reads, 8);
     try_faults(&rt, alloc, &BY_MARK.reads, 5)
 }

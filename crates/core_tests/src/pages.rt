@@ -1,16 +1,22 @@
 //! Indexes that change once they were opened: what is told of their pages. The bytes are made by `tests/make-tables`.
 
-use crate::acts::{Rows, Step};
+use crate::acts::{Row, Rows, Step};
 use crate::asserts::{must, same, same_at};
-use crate::cases::{Spot, put_beside, try_row, try_rows};
-use crate::fixtures::{ABC_CHUNK, DE_CHUNK, ROOT_PATH, STILL, TestCore, opened};
-use crate::folders::{Archives, Contents, FIRST_PATH, folder};
+use crate::cases::{Spot, put_beside, try_row, try_rows, try_tables};
+use crate::collecting::{APPEND, NEW, PASS, START, TAKE_OVER, TWO_USED};
+use crate::damage::{ABC_DATA, DE_DATA, NAME};
+use crate::fixtures::{
+    ABC_CHUNK, DE_BLOB, DE_CHUNK, Kept, ROOT_PATH, STILL, TestCore, kept, opened,
+};
+use crate::folders::{Archives, Contents, FIRST_PATH, THIRD_PATH, folder};
 use crate::indexes::{
     ABC_OF_THIRD, ARCHIVES, AT_END, BESIDE, DE_OF_FIXED, DOWNLOAD_AT_END, Damage, FAULT, FILES,
-    GIVEN_ABC, GIVEN_DE, HALTED_BY_2, RANGE, READ_BOTH, Reads, put_damaged, state, text_of,
-    try_faults,
+    GIVEN_ABC, GIVEN_DE, HALTED_BY_2, NO_THIRD, NO_X, RANGE, READ_BOTH, Reads, put_damaged, state,
+    text_of, try_faults,
 };
-use crate::sent::{DONE, LIST, NO_INDEX, READ_FIRST};
+use crate::sent::{
+    AT_END as OF_TWO_AT_END, DONE, FIRST_BASE, LIST, NO_INDEX, NUMBER, OPEN_SECOND, READ_FIRST,
+};
 use disk_trait::Disk;
 use std::alloc::Global;
 use std::process::Abort;
@@ -109,6 +115,62 @@ static BY_RANGE: Used = Used {
     changed: NO_INDEX,
 };
 
+/// By a VERIFY, which opens the index at the first entry that it asks for, and keeps the page that it read last.
+static BY_ENTRY: Used = Used {
+    files: FILES,
+    archives: ARCHIVES,
+    path: ROOT_PATH,
+    before: &[
+        (4, Step::Send(READ_FIRST), DONE, 0),
+        (4, Step::ReadChunk(NAME, 0), DE_DATA, 0),
+    ],
+    changes: CHANGES,
+    asked: &[
+        (Step::ReadChunk(NAME, 1_023), [false, false, false], DE_DATA),
+        (Step::ReadChunk(NAME, 1_024), [false, true, false], DE_DATA),
+        (Step::ReadChunk(NAME, 2_048), [false, false, true], ABC_DATA),
+    ],
+    changed: NO_INDEX,
+};
+
+/// By a VERIFY that read another index since: it is open still, and no page of it is at hand.
+static BY_ENTRY_AGAIN: Used = Used {
+    files: BESIDE,
+    archives: Archives::Three(2_001),
+    path: THIRD_PATH,
+    before: &[
+        (4, Step::Send(READ_FIRST), DONE, 0),
+        (4, Step::ReadChunk(b"c.didx", 2_000), ABC_DATA, 0),
+        (4, Step::ReadChunk(b"a.fidx", 1), DE_DATA, 0),
+    ],
+    changes: &[
+        (Damage::Byte(0), [true, true, true]),
+        (Damage::Byte(4_104), [false, true, true]),
+        (Damage::Byte(84_104), [true, false, true]),
+        (Damage::Front(84_135), [true, false, true]),
+        (Damage::Longer(40), [true, true, true]),
+        (Damage::Gone, [false, false, true]),
+    ],
+    asked: &[
+        (
+            Step::ReadChunk(b"a.fidx", 1),
+            [false, false, false],
+            DE_DATA,
+        ),
+        (
+            Step::ReadChunk(b"c.didx", 2_000),
+            [false, true, false],
+            ABC_DATA,
+        ),
+        (
+            Step::ReadChunk(b"c.didx", 1_023),
+            [true, false, false],
+            NO_X,
+        ),
+    ],
+    changed: NO_THIRD,
+};
+
 /// Of a fixed index of one page, and of another index beside it.
 static BESIDE_ANOTHER: Used = Used {
     files: BESIDE,
@@ -196,6 +258,13 @@ fn pages_are_compared_by_ranges(rt: HostRuntime) {
 }
 
 #[test]
+fn pages_are_compared_by_a_verify(rt: HostRuntime) {
+    let alloc = rt.alloc();
+    try_changes(&rt, alloc, &BY_ENTRY);
+    try_changes(&rt, alloc, &BY_ENTRY_AGAIN)
+}
+
+#[test]
 fn pages_of_another_index_are_given(rt: HostRuntime) {
     try_changes(&rt, rt.alloc(), &BESIDE_ANOTHER)
 }
@@ -244,7 +313,109 @@ static READS_RANGE: Reads = Reads {
     ],
 };
 
+/// An entry in another page than the one that was read last: the page is read, and a chunk, by two calls.
+static READS_ENTRY: Reads = Reads {
+    files: FILES,
+    archives: ARCHIVES,
+    before: &[
+        (4, Step::Send(READ_FIRST), DONE, 0),
+        (4, Step::ReadChunk(NAME, 0), DE_DATA, 0),
+    ],
+    act: (4, Step::ReadChunk(NAME, 2_048)),
+    failed: &[
+        (4, Step::ReadChunk(NAME, 2_048), FAULT, 5),
+        (5, Step::Send(LIST), HALTED_BY_2, 5),
+    ],
+};
+
+/// The second mark of the index, whose entries are in two pages.
+static READS_MARK: Reads = Reads {
+    files: FILES,
+    archives: ARCHIVES,
+    before: &[START, PASS],
+    act: (5, Step::Pass),
+    failed: &[
+        (5, Step::Pass, FAULT, 5),
+        (5, Step::Send(LIST), HALTED_BY_2, 5),
+    ],
+};
+
 #[test]
-fn each_read_of_a_range_fails(rt: HostRuntime) {
-    try_faults(&rt, rt.alloc(), &READS_RANGE, 6)
+fn each_read_of_a_page_fails(rt: HostRuntime) {
+    let alloc = rt.alloc();
+    try_faults(&rt, alloc, &READS_RANGE, 6);
+    try_faults(&rt, alloc, &READS_ENTRY, 3);
+    try_faults(&rt, alloc, &READS_MARK, 2)
+}
+
+const HALF_MARKED: Kept = (1_000_000, Some(5), Some(1_000_000), 0);
+
+const MARKED: Kept = (1_000_000, Some(1_000_000), Some(1_000_000), 0);
+
+const ENDS_BEHIND_ONE: Rows = &[PASS, (5, Step::Pass, NO_INDEX, 4)];
+
+const ENDS_BEHIND_TWO: Rows = &[PASS, PASS, (5, Step::Pass, NO_INDEX, 4)];
+
+/// How the index changes behind its first mark, what is told then, and what the core has in the end. The first mark touches `de`, and the
+/// second, of which `abc` is one, needs the first page and the next.
+static MARKS: [(Damage, Rows, Kept); 8] = [
+    (Damage::Byte(4_104), ENDS_BEHIND_ONE, HALF_MARKED),
+    (Damage::Byte(45_064), ENDS_BEHIND_ONE, HALF_MARKED),
+    (Damage::Front(45_056), ENDS_BEHIND_ONE, HALF_MARKED),
+    (Damage::Another(2_049), ENDS_BEHIND_ONE, HALF_MARKED),
+    (Damage::Gone, ENDS_BEHIND_ONE, HALF_MARKED),
+    (Damage::Byte(86_024), ENDS_BEHIND_TWO, MARKED),
+    (Damage::Front(86_055), ENDS_BEHIND_TWO, MARKED),
+    (
+        Damage::Longer(40),
+        &[PASS, PASS, PASS, PASS, TWO_USED],
+        MARKED,
+    ),
+];
+
+fn try_marks(rt: &impl Abort, alloc: Global, number: usize, row: &(Damage, Rows, Kept)) {
+    let (damage, rows, left) = *row;
+    let mut core = opened(rt, alloc, folder(rt, alloc, FILES, Archives::Amid), STILL);
+    try_rows(rt, &mut core, alloc, [number, 0, 0, 0], &[START, PASS]);
+    let text = text_of(rt, alloc, Archives::Amid, ROOT_PATH);
+    put_damaged(rt, &mut core, alloc, ROOT_PATH, &text, damage);
+    try_rows(rt, &mut core, alloc, [number, 1, 0, 0], rows);
+    same_at(rt, number, kept(&core), left);
+}
+
+/// A mark touches all its entries or none.
+#[test]
+fn pages_are_compared_by_marks(rt: HostRuntime) {
+    for (number, row) in MARKS.iter().enumerate() {
+        try_marks(&rt, rt.alloc(), number, row);
+    }
+}
+
+/// A writer that was told an index by PREVIOUS is told parts of it as they stand then, and may name what it might name.
+static PREVIOUS_AGAIN: [Row; 8] = [
+    (3, Step::Send(OPEN_SECOND), FIRST_BASE, 0),
+    (3, Step::Send(NEW), NUMBER, 0),
+    (3, Step::Send(TAKE_OVER), OF_TWO_AT_END, 0),
+    (3, Step::Put(ROOT_PATH, DE_BLOB), DONE, 0),
+    (
+        3,
+        Step::Send(b"\x0b\x09root.didx\x0c\0\0\0\0\0\0\0"),
+        b"\x0b\0\0\0\0\x0e\0\0\0\0\0\0\0de",
+        0,
+    ),
+    (3, Step::Remove(ROOT_PATH), DONE, 0),
+    (3, Step::Send(TAKE_OVER), NO_INDEX, 0),
+    (3, Step::Send(APPEND), DONE, 0),
+];
+
+#[test]
+fn later_parts_are_told_as_they_stand(rt: HostRuntime) {
+    try_tables(
+        &rt,
+        rt.alloc(),
+        FILES,
+        Archives::Root(2),
+        &[],
+        &PREVIOUS_AGAIN,
+    )
 }

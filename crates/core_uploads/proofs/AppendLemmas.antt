@@ -1,4 +1,5 @@
 -- APPEND is the store's.
+use Rattle.std.specs.List.{Contains}
 use Rattle.std.proofs.Common.{◌≡◌, ℕ, true, List, map, None, Result, Ok, Err, IsErrAnd, IsErrOf, refl, sym, ap, subst, ◌∙◌}
 use Rattle.store_types.specs.declared.append.AppendEntry.{AppendEntry}
 use Rattle.store_types.specs.declared.refusal.Refusal.{Refusal}
@@ -131,6 +132,7 @@ module _ (moment number : ℕ) (entries : List AppendEntry) (found : Session) (w
             shown = kept_after f.0 leaves.plain grown f.2 leaves.after leaves.left leaves.shows;
             key = ap (λ (x : model.Writer). x.key) grown.same;
             base = ap (λ (x : model.Writer). x.base) grown.same;
+            pool = λ p has. subst (λ (x : model.Writer). Contains x.pool p) (sym grown.same) has;
             is_writer = is_writer_appended s number f.0 leaves.plain grown (sound.writers lane f.0 f.1);
             uploads = λ m. has_uploads_appended m number f.0 leaves.plain grown;
           };

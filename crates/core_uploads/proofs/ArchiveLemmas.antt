@@ -43,7 +43,9 @@ use Rattle.core_state.specs.declared.parts.Parts.{Parts}
 use Rattle.core_state.specs.Holds.{IsBegun, reserved_len, has_named, names_differ, IsWriter, IsOnDisk, HasUploads, Holds, Shows}
 use Rattle.core_state.specs.Named.{is_named}
 use Rattle.core_state.proofs.NamedLemmas.{list_all-at, writer_named}
+use Rattle.core_state.specs.Indexed.{FitsRows}
 use Rattle.core_state.proofs.LockLemmas.{locked_writes_on}
+use Rattle.core_state.proofs.Rows.{rows_writing}
 use Rattle.core_state.proofs.Soundness.{IsAlone, sound_writer, disk_writer, shows_changed}
 use Rattle.core_uploads.specs.declared.archives.NewIndex.{NewIndex}
 use Rattle.core_uploads.specs.declared.archives.NewIndex.TheVariants.{Dynamic, Fixed}
@@ -56,9 +58,9 @@ use Rattle.core_uploads.proofs.FixedPieces.{size_fits}
 
 module _ {D : Type 0} (g : Ghosts D) where
   pub goes_on : (old new : Parts D) (s : Store) (lane : ℕ) (y : Session) (o : Outcome) (reply : Reply)
-      → lane < 64 → new.disk ≡ old.disk → new.catalogue.listed ≡ old.catalogue.listed → new.sessions.items ≡ set old.sessions.items lane y → new.locks ≡ old.locks
+      → lane < 64 → new.disk ≡ old.disk → new.catalogue.listed ≡ old.catalogue.listed → new.sessions.items ≡ set old.sessions.items lane y → new.locks ≡ old.locks → new.indexes.items ≡ old.indexes.items
       → GoesOn s lane y o reply → Holds g old s → (after : Store) × (o ≡ Ok (after, reply)) × Shows new after × IsOnDisk (g.content old.disk) after
-  goes_on old new s lane y o reply lt d c l k on h =
+  goes_on old new s lane y o reply lt d c l k r on h =
       let sound = (h.shows).sound in
       let w = on.before in
       let v = on.after in
@@ -67,7 +69,8 @@ module _ {D : Type 0} (g : Ghosts D) where
       ne (sound.apart i lane x w is on.at (subst (λ (k : SnapshotKey). IsTrue (same_group (group_of_key x.key) (group_of_key k))) on.key same)) in (
         with_session s lane (writer v),
         on.step,
-        shows_changed old new s lane (writer v) y c l on.shown (locked_writes_on old.locks new.locks s lane w v within k on.at on.key on.base (h.shows).locks) (sound_writer s lane v lt on.is_writer alone sound) h.shows,
+        shows_changed old new s lane (writer v) y c l on.shown (locked_writes_on old.locks new.locks s lane w v within k on.at on.key on.base (h.shows).locks)
+            (subst (FitsRows (with_session s lane (writer v))) (sym r) (rows_writing s lane old.indexes.items within (h.shows).indexes w v on.at on.base on.pool)) (sound_writer s lane v lt on.is_writer alone sound) h.shows,
         disk_writer (g.content old.disk) s lane v within (on.uploads (g.content old.disk) (h.files.writers lane w on.at)) h.files,
       )
 

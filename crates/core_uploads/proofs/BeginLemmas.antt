@@ -2,7 +2,7 @@
 use Rattle.std.proofs.Common.{◌≡◌, ℕ, ◌<◌, ◌≤◌, ◌^◌, Bool, true, false, List, [], ◌∷◌, None, pos, Result, Ok, Err, IfErr, IsErrOf, IsErrAnd, refl, sym, ap, ap₂, subst, ◌∙◌, arith}
 use Rattle.std.proofs.lemmas.Bool.{or_parts}
 use Rattle.std.specs.Int.{w64}
-use Rattle.std.specs.List.{AllByRecursion}
+use Rattle.std.specs.List.{AllByRecursion, Contains}
 use Rattle.std.specs.Prelude.{FitsSigned}
 use Rattle.store_types.specs.declared.refusal.Refusal.{Refusal}
 use Rattle.store_types.specs.declared.refusal.Refusal.TheVariants.{BadName, Exists, TooMany, WrongSize}
@@ -270,6 +270,7 @@ module _ (moment : ℕ) (kind : NewIndex) (name : List ℕ) (found : Session) (w
             shown = kept_begun w f.0 t.plain new t.after f.2 key (ap (λ x. x.files) begun.same) t.left (t.shows).same;
             key = key;
             base = ap (λ x. x.base) begun.same;
+            pool = λ p has. subst (λ (x : Writer). Contains x.pool p) (sym begun.same) has;
             is_writer = is_writer_begun s kind f.0 t.plain name moment (uuid_length (f.0).key name) (moment_fits moment in_time) begun is_writer;
             uploads = λ m. has_uploads_begun m kind f.0 t.plain name moment begun;
           };

@@ -6,7 +6,7 @@ use Rattle.std.specs.List.{Contains}
 use Rattle.std.specs.FinMap.{get}
 use Rattle.std.specs.Str.{bytes_eq}
 use Rattle.std.proofs.lemmas.Bool.{ltb-true}
-use Rattle.std.proofs.lemmas.List.Elements.{All-nil, All-cons, All-append, All-contains, Contains-append_right}
+use Rattle.std.proofs.lemmas.List.Elements.{All-nil, All-cons, All-append, All-contains, Contains-append_left, Contains-append_right}
 use Rattle.std.proofs.lemmas.Slice.Eq.{bytes_eq-Decides}
 use Rattle.sha2.specs.Sha256.{sha256}
 use Rattle.disk_trait.specs.Files.{Files}
@@ -48,6 +48,8 @@ use Rattle.core_state.specs.Shown.{shown_writer}
 use Rattle.core_state.proofs.Chunks.{is_digest}
 use Rattle.core_state.proofs.Sessions.{changed, writers_same}
 use Rattle.core_state.proofs.LockLemmas.{locked_writes_on}
+use Rattle.core_state.specs.Indexed.{FitsRows}
+use Rattle.core_state.proofs.Rows.{rows_writing}
 use Rattle.core_state.proofs.Soundness.{IsAlone, sound_writer, shows_changed}
 use Rattle.core_uploads.proofs.Pooled.{is_writer_pooled}
 
@@ -234,16 +236,18 @@ known_there m w digest known h =
 module _ {D : Type 0} (d : Ghosts D) where
   pub holds_chunk : (old new : Parts D) (s : Store) (lane : ℕ) (w : Writer) (digest : Digest32) (bytes p : List ℕ) → lane < 64 → session s lane ≡ writer w → IsSent digest bytes p
       → (d.honest old.disk ↔ d.honest new.disk) → (d.honest old.disk → d.content new.disk ≡ with_chunk digest.0 bytes (d.content old.disk)) → new.catalogue.listed ≡ old.catalogue.listed
-      → new.sessions.items ≡ set old.sessions.items lane (kept.Writer (shown_writer (calls.chunk w p))) → new.locks ≡ old.locks → MayStand (d.content old.disk) digest (Ok p)
+      → new.sessions.items ≡ set old.sessions.items lane (kept.Writer (shown_writer (calls.chunk w p))) → new.locks ≡ old.locks → new.indexes.items ≡ old.indexes.items → MayStand (d.content old.disk) digest (Ok p)
       → Holds d old s → Holds d new (with_session s lane (writer (calls.chunk w p)))
-  holds_chunk old new s lane w digest bytes p lt at is serves now c l k may h =
+  holds_chunk old new s lane w digest bytes p lt at is serves now c l k r may h =
       let within : lane < length s.sessions = omega (arith, (h.shows).sound.lanes, lt) in
       let alone : IsAlone s lane (calls.chunk w p) = λ i v ne was same. ne ((h.shows).sound.apart i lane v w was at same) in
       let sound = sound_writer s lane (calls.chunk w p) lt (is_writer_more s w p is.piece ((h.shows).sound.writers lane w at)) alone (h.shows).sound in
       record {
         honest = serves.0 h.honest;
         shows = shows_changed old new s lane (writer (calls.chunk w p)) (kept.Writer (shown_writer (calls.chunk w p))) c l refl
-            (locked_writes_on old.locks new.locks s lane w (calls.chunk w p) within k at refl refl (h.shows).locks) sound h.shows;
+            (locked_writes_on old.locks new.locks s lane w (calls.chunk w p) within k at refl refl (h.shows).locks)
+            (subst (FitsRows (with_session s lane (writer (calls.chunk w p)))) (sym r) (rows_writing s lane old.indexes.items within (h.shows).indexes w (calls.chunk w p) at refl (λ q has. Contains-append_left w.pool (p ∷ []) q has)))
+            sound h.shows;
         files = subst (λ f. IsOnDisk f (with_session s lane (writer (calls.chunk w p)))) (sym (now h.honest))
             (on_disk (d.content old.disk) digest bytes p is s lane w lt (h.shows).sound at may h.files);
       }

@@ -5,7 +5,7 @@ use Rattle.std.specs.FinMap.{get, put}
 use Rattle.std.proofs.lemmas.Bool.{and_parts, and_from}
 use Rattle.std.proofs.lemmas.List.{get_or_default}
 use Rattle.std.specs.List.{All, list_all}
-use Rattle.std.proofs.lemmas.List.Elements.{All-nil, All-cons, All-append, All-contains, All-from_get_or}
+use Rattle.std.proofs.lemmas.List.Elements.{All-nil, All-cons, All-append, All-contains, All-from_get_or, Contains-append_left}
 use Rattle.sha2.specs.Sha256.{sha256}
 use Rattle.disk_trait.specs.Files.{Files}
 use Rattle.disk_trait.specs.declared.disk.DiskError.{DiskError}
@@ -44,6 +44,8 @@ use Rattle.core_state.specs.declared.kept.Listed.{Listed}
 use Rattle.core_state.specs.declared.kept.Session.TheVariants.{Idle}
 use Rattle.core_state.proofs.Commanding.{is_writing}
 use Rattle.core_state.proofs.LockLemmas.{locked_writes_on}
+use Rattle.core_state.specs.Indexed.{FitsRows}
+use Rattle.core_state.proofs.Rows.{rows_writing}
 use Rattle.core_state.proofs.Soundness.{IsAlone, disk_writer, shows_changed, sound_writer}
 use Rattle.core_state.specs.Named.{has_text, is_named}
 use Rattle.core_state.specs.Shown.{shown_writer, shown_files}
@@ -199,9 +201,9 @@ module _ {D : Type 0} (g : Ghosts D) where
   pub takes : (old new : Parts D) (s : Store) (lane : ℕ) (v : Writer) (w : Writing) (x y : Session) (digest : Digest32) (checked : Result (List ℕ) Refusal) (bytes : List ℕ)
       → lane < 64 → session s lane ≡ writer v → shown_writer v ≡ w → x ≡ kept.Writer w → y ≡ with_noted digest.0 (length bytes - 12) x → AreBytes bytes → checked ≡ Ok bytes → IsCheckedChunk digest checked
       → (g.honest old.disk ↔ g.honest new.disk) → (g.honest old.disk → g.content new.disk ≡ with_chunk digest.0 bytes (g.content old.disk)) → new.catalogue.listed ≡ old.catalogue.listed
-      → new.sessions.items ≡ set old.sessions.items lane y → new.locks ≡ old.locks → MayStand (g.content old.disk) digest (data_in checked)
+      → new.sessions.items ≡ set old.sessions.items lane y → new.locks ≡ old.locks → new.indexes.items ≡ old.indexes.items → MayStand (g.content old.disk) digest (data_in checked)
       → Holds g old s → Reaches new s lane checked
-  takes old new s lane v w x y digest checked bytes lt at shows x_is y_is are was h serves now c l k may holds =
+  takes old new s lane v w x y digest checked bytes lt at shows x_is y_is are was h serves now c l k r may holds =
       let ok : IsCheckedChunk digest (Ok bytes) = subst (IsCheckedChunk digest) was h in
       let (p, read_is) = read digest bytes ok in
       let is = sent digest bytes p are ok read_is in
@@ -209,16 +211,16 @@ module _ {D : Type 0} (g : Ghosts D) where
       y_is ∙ ap (with_noted digest.0 (length bytes - 12)) (x_is ∙ ap (λ u. kept.Writer u) (sym shows))
       ∙ ap (λ n. kept.Writer (noted (shown_writer v) digest.0 n)) (piece_size digest bytes p is)
       ∙ ap (λ d. kept.Writer (noted (shown_writer v) d (length p))) (sym is.digest_is) ∙ ap (λ u. kept.Writer u) (shown_noted v p) in
-      let after = holds_chunk g old new s lane v digest bytes p lt at is serves now c (l ∙ ap (set old.sessions.items lane) kept_is) k (may_put (g.content old.disk) digest checked bytes p read_is was may) holds in
+      let after = holds_chunk g old new s lane v digest bytes p lt at is serves now c (l ∙ ap (set old.sessions.items lane) kept_is) k r (may_put (g.content old.disk) digest checked bytes p read_is was may) holds in
       (with_session s lane (writer (calls.chunk v p)), step_done s lane v digest checked bytes p at read_is was, after.shows, after.files)
 
   -- a chunk that is known, and put
   pub knows : (old new : Parts D) (s : Store) (lane : ℕ) (v : Writer) (w : Writing) (digest : Digest32) (checked : Result (List ℕ) Refusal) (bytes : List ℕ) (known : Bool)
       → lane < 64 → session s lane ≡ writer v → shown_writer v ≡ w → want_writer (session_at old lane) ≡ Ok w → checked ≡ Ok bytes → IsCheckedChunk digest checked
       → known ≡ is_some (length_at ((w.session).writer).pool digest.0) → known ≡ true → g.content new.disk ≡ with_chunk digest.0 bytes (g.content old.disk)
-      → new.catalogue.listed ≡ old.catalogue.listed → new.sessions.items ≡ old.sessions.items → new.locks ≡ old.locks → MayStand (g.content old.disk) digest (data_in checked)
+      → new.catalogue.listed ≡ old.catalogue.listed → new.sessions.items ≡ old.sessions.items → new.locks ≡ old.locks → new.indexes.items ≡ old.indexes.items → MayStand (g.content old.disk) digest (data_in checked)
       → Holds g old s → Reaches new s lane checked
-  knows old new s lane v w digest checked bytes known lt at shows wants was h value there now c ss k may holds =
+  knows old new s lane v w digest checked bytes known lt at shows wants was h value there now c ss k r may holds =
       let (p, is) = read digest bytes (subst (IsCheckedChunk digest) was h) in
       let within : lane < length old.sessions.items = omega (arith, old.lanes, old.sessions.ok.0, lt) in
       let x = session_at old lane in
@@ -240,6 +242,7 @@ module _ {D : Type 0} (g : Ghosts D) where
         with_session s lane (writer (calls.chunk v p)),
         step_done s lane v digest checked bytes p at is was,
         shows_changed old new s lane (writer (calls.chunk v p)) x c (ss ∙ sym set_back) same (locked_writes_on old.locks new.locks s lane v (calls.chunk v p) l k at refl refl (holds.shows).locks)
+            (subst (FitsRows (with_session s lane (writer (calls.chunk v p)))) (sym r) (rows_writing s lane old.indexes.items l (holds.shows).indexes v (calls.chunk v p) at refl (λ q has. Contains-append_left v.pool (p ∷ []) q has)))
             (sound_writer s lane (calls.chunk v p) lt more alone sound) holds.shows,
         subst (λ m. IsOnDisk m (with_session s lane (writer (calls.chunk v p)))) (sym stayed) (disk_writer (g.content old.disk) s lane (calls.chunk v p) l uploads holds.files),
       )

@@ -26,7 +26,7 @@ use Rattle.core_uploads.proofs.GrownLemmas.{shown_insert}
 -- ---- as before
 
 -- what was found at the lane stands there
-pub found_stays : (items : List Session) (lane : ℕ) (found : Session) → found ≡ get_or items lane found → set items lane found ≡ items
+pub found_stays : {A : Type 0} (items : List A) (lane : ℕ) (found : A) → found ≡ get_or items lane found → set items lane found ≡ items
 found_stays items lane found at = ap (set items lane) at ∙ set-get_or items lane found
 
 -- what was found at the lane is its writer

@@ -18,4 +18,5 @@ pub mod AppendLemmas
 pub mod Pooled
 pub mod ChunkLemmas
 pub mod ChunkStep
+pub mod PooledPieces
 pub mod PreviousLemmas

@@ -42,6 +42,8 @@ use Rattle.core_state.proofs.Commanding.{act_does, failed_does, failed_leaves, r
 use Rattle.core_state.proofs.LockLemmas.{locked_writes_on}
 use Rattle.core_state.proofs.NamedLemmas.{writer_named, writer_stays_named}
 use Rattle.core_state.proofs.Sessions.{at_lane}
+use Rattle.core_state.specs.Indexed.{FitsRows}
+use Rattle.core_state.proofs.Rows.{rows_same, rows_writing}
 use Rattle.core_state.proofs.Soundness.{sound_writer, shows_changed}
 use Rattle.core_state.proofs.Texts.{done_has_text}
 use Rattle.core_uploads.specs.declared.files.NewFile.{NewFile}
@@ -117,7 +119,7 @@ put_puts d old new file text path done plain path_is serves crash put unchanged 
 -- ---- the act
 
 module _ {D : Type 0} (d : Ghosts D) (old new : Parts D) (at : Place) (act : Act) (found mid : Session) (changes : Writing → Change) (lt : at.lane < 64) (here : found ≡ get_or old.sessions.items at.lane found)
-    (c : new.catalogue.listed ≡ old.catalogue.listed) (k : new.locks ≡ old.locks) where
+    (c : new.catalogue.listed ≡ old.catalogue.listed) (k : new.locks ≡ old.locks) (rows_are : new.indexes.items ≡ old.indexes.items) where
   abbrev Makes : Result NewFile Stop → Type 0
   Makes r = MakesPending found mid (λ s lane. act_does s lane at.moment act) (may_answer act) changes r
 
@@ -128,7 +130,7 @@ module _ {D : Type 0} (d : Ghosts D) (old new : Parts D) (at : Place) (act : Act
   session_is = sym (here ∙ get_or_default old.sessions.items at.lane found Idle within)
 
   same_kept : (left : Session) → new.sessions.items ≡ set old.sessions.items at.lane left → left ≡ found → SameKept old new
-  same_kept left l same = record { catalogue = c; sessions = l ∙ ap (set old.sessions.items at.lane) same ∙ found_stays old.sessions.items at.lane found here; locks = k }
+  same_kept left l same = record { catalogue = c; sessions = l ∙ ap (set old.sessions.items at.lane) same ∙ found_stays old.sessions.items at.lane found here; locks = k; indexes = rows_are }
 
   -- it is stopped before
   module _ (r : Result NewFile Stop) (stop : Stop) (result : Result Reply Stop) (stopped : IsErrAnd result (λ x. x ≡ stop)) (was : r ≡ Err stop) (makes : Makes r) (disk : new.disk ≡ old.disk) (l : new.sessions.items ≡ set old.sessions.items at.lane mid) where
@@ -191,6 +193,7 @@ module _ {D : Type 0} (d : Ghosts D) (old new : Parts D) (at : Place) (act : Act
             a.step,
             shows_changed old new s at.lane (model.writer after_it) left c l shown
                 (locked_writes_on old.locks new.locks s at.lane a.before after_it in_store k a.at refl refl (h.shows).locks)
+                (subst (FitsRows (with_session s at.lane (model.writer after_it))) (sym rows_are) (rows_writing s at.lane old.indexes.items in_store (h.shows).indexes a.before after_it a.at refl (λ p has. has)))
                 (sound_writer s at.lane after_it lt (is_writer_grown s a.before a.new a.begun (sound.writers at.lane a.before a.at) a.may) (alone_grown s at.lane a.before a.new a.begun sound a.at) sound) h.shows,
             grown_on_disk (d.content old.disk) (d.content new.disk) s at.lane a.before a.new a.begun n.file n.text lt sound a.at (a.may).named (a.may).free named a.text_is (put h.honest) h.files,
           )
@@ -209,3 +212,4 @@ module _ {D : Type 0} (d : Ghosts D) (old new : Parts D) (at : Place) (act : Act
           (λ s h. puts_no_chunk (d.content old.disk) (d.content new.disk) ((pending.found).session.writer).key n.file n.text act pending.path (put h.honest))
           (λ ends. absurd (false_true (sym goes_on ∙ ends)))
           (λ _. writes_set old new at.lane left lt l (ap is_writer (kept_is ∙ ap (with_pending n.file) pending.new_is)))
+          (rows_same old new.indexes.items at.lane act rows_are)

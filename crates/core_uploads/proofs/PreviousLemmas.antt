@@ -1,13 +1,15 @@
 -- PREVIOUS is the store's: what is read of the base's file, and the pieces that the writer may name then.
 use Rattle.disk_trait.specs.declared.disk.Disk.{Ghosts}
-use Rattle.std.proofs.Common.{◌≡◌, ◌↔◌, ◌⊎◌, inl, inr, ⊎_elim, ◌<◌, ◌+◌, ◌-◌, ℕ, Bool, true, false, ◌&&◌, cond, List, [], ◌∷◌, length, nat_lt, nat_le, drop, find, map, set, Option, Some, None, Result, Ok, Err, OnOk, OnErr, IsErrOf, IsErrAnd, refl, sym, ap, ap₂, subst, ◌∙◌, arith}
+use Rattle.std.proofs.Common.{◌≡◌, ◌↔◌, ◌⊎◌, inl, inr, ⊎_elim, ◌<◌, ◌+◌, ◌-◌, ℕ, Bool, true, false, ◌&&◌, cond, List, [], ◌∷◌, length, nat_lt, nat_le, drop, find, map, set, Option, Some, None, Result, Ok, Err, OnOk, OnErr, IsErrOf, IsErrAnd, refl, sym, ap, subst, ◌∙◌, arith}
 use Rattle.std.proofs.lemmas.Bool.{and_parts, and_from}
 use Rattle.std.proofs.Math.ListN.{get_or-append}
-use Rattle.std.proofs.lemmas.List.{length-append, get_or-append-add}
-use Rattle.std.proofs.lemmas.List.Elements.{All-nil}
+use Rattle.std.proofs.lemmas.List.{get_or-set_same, length-append, get_or-append-add}
+use Rattle.std.proofs.lemmas.List.Elements.{All-cons, All-head, All-nil, All-tail, Contains-append_left}
 use Rattle.std.proofs.lemmas.Slice.Eq.{bytes_eq-Decides}
-use Rattle.std.specs.FinMap.{get}
-use Rattle.std.specs.List.{All, flat_map}
+use Rattle.std.specs.FinMap.{empty, get}
+use Rattle.std.specs.List.{All, Contains, flat_map, list_any}
+use Rattle.std.specs.Prelude.{◌||◌, if◌then◌else◌, is_some}
+use Rattle.std.specs.Option.{option_map}
 use Rattle.std.specs.Str.{bytes_eq}
 use Rattle.disk_trait.specs.Files.{Files}
 use Rattle.store_types.specs.declared.names.SnapshotKey.{SnapshotKey}
@@ -25,10 +27,11 @@ use Rattle.store_model.specs.Store.{Store, Writer, Outcome, writer, session, wit
 use Rattle.store_model.specs.Stands.{FitsContent, HoldsPieces, names_content}
 use Rattle.store_files.specs.Folder.{IsPiece}
 use Rattle.store_model.specs.Steps.{outcome}
+use Rattle.store_model.specs.ReaderSteps.{content_at}
 use Rattle.store_model.specs.WriterSteps.{previous, base_of, goes_on, with_pool, part_of}
 use Rattle.store_files.specs.DynamicIndex.{Ended}
 use Rattle.dynamic_index.specs.Writing.{Known}
-use Rattle.dynamic_index.specs.Writing as indexes
+use Rattle.known_chunks.specs.Lengths.{Lengths}
 use Rattle.snapshot_files.specs.Reads.{StopHasText}
 use Rattle.snapshot_files.specs.Parts.{part_at, part_from, part_reply, IsPart, RefusesPart}
 use Rattle.store_stops.specs.declared.stop.Stop.{Stop}
@@ -39,8 +42,8 @@ use Rattle.snapshot_files.proofs.Archives.{archive_at, layout_named, lengths_of_
 use Rattle.backup_session.specs.Session as backups
 use Rattle.backup_session.specs.Session.{Pool, settled}
 use Rattle.backup_session.specs.Steps as rows
-use Rattle.backup_session.specs.Shown.{known_of, shown}
-use Rattle.backup_session.proofs.Pools.{pool_of-all}
+use Rattle.backup_session.specs.Shown.{known_of, lengths_of, shown}
+use Rattle.backup_session.proofs.Pools.{entries_listed, pool_of-all}
 use Rattle.core_state.specs.declared.kept.Kept.{Kept}
 use Rattle.core_state.specs.declared.kept.Listed.{Listed}
 use Rattle.core_state.specs.declared.kept.Session.{Session}
@@ -60,7 +63,7 @@ use Rattle.disk_trait.specs.Effects.{OnlyReads}
 use Rattle.disk_trait.proofs.OnlyReading.{reads_as}
 use Rattle.disk_trait.specs.declared.disk.DiskError.TheVariants as disks
 use Rattle.core_state.specs.Named.{has_text, is_named}
-use Rattle.core_state.specs.Shown.{shown_snapshot, shown_writer, shown_files}
+use Rattle.core_state.specs.Shown.{files_named, shown_snapshot, shown_writer, shown_files}
 use Rattle.core_state.specs.Replies.{answers_previous, refuses_previous}
 use Rattle.core_state.specs.Unchanged.{SameKept, is_uncalled}
 use Rattle.core_state.specs.Unreadables.{Asked, TellsUnreadable, from_offset, read_by}
@@ -76,10 +79,15 @@ use Rattle.core_state.proofs.Chunks.{adds_same}
 use Rattle.core_state.proofs.Commanding.{refused_does, refused_leaves, same_kept, short_does, short_leaves, stopped_does, stopped_leaves, unwritten_by_state, writer_shown, writes_does, writes_leaves}
 use Rattle.core_state.proofs.Unreadables.{refusal_called, tells_failed, tells_other, tells_read}
 use Rattle.core_state.proofs.Finding.{mapped, found_in}
-use Rattle.core_state.proofs.Found.{IsThere, kept_is, not_kept, is_there, not_there, there_text, there_kind, there_fits}
+use Rattle.core_state.proofs.Found.{IsThere, kept_is, not_kept, is_there, not_there, there_named, there_text, there_kind, there_fits}
 use Rattle.core_state.proofs.LockLemmas.{locked_writes_on}
+use Rattle.core_state.specs.declared.indexes.Indexes.{Indexes}
+use Rattle.core_state.specs.declared.indexes.Indexes.TheVariants.{Opened, Pooled, Unread}
+use Rattle.core_state.specs.Indexed.{FitsRow, FitsRows, IsPooled, files_of_base, is_pooled, pooling, row_at, row_in}
+use Rattle.core_state.proofs.Rows.{rows_but, rows_set, writer_keeps}
+use Rattle.core_uploads.proofs.PooledPieces.{all_pooled, lengths_there}
 use Rattle.core_state.proofs.Soundness.{IsAlone, sound_writer, disk_writer, shows_changed}
-use Rattle.core_uploads.specs.Previous.{kept_by, base_file, asked_at, asked_of_base, Previous, previous_by, shown_given, with_known}
+use Rattle.core_uploads.specs.Previous.{NotesPooled, Previous, as_map, asked_at, asked_of_base, base_file, kept_by, kept_by_whole, known_by_whole, previous_by, shown_given, whole_for, with_known}
 use Rattle.core_uploads.specs.declared.previous_files.Given.{Given}
 use Rattle.core_uploads.specs.Names.{IsNoName}
 use Rattle.core_uploads.proofs.Pooled.{is_writer_pooled, has_uploads_pooled}
@@ -223,38 +231,43 @@ whole_blob name h = by_tests (is_fixed_name name) (is_dynamic_name name) (other_
 abbrev known_pieces : Content → List Known
 known_pieces content = map known_of (pieces_of content)
 
-abbrev gives : Content → Result Reply Refusal → Result Previous Refusal
-gives content part = part >>= λ reply. Ok (record { part = reply; pieces = known_pieces content })
+-- a part, with these pieces
+abbrev gives_with : List Known → Result Reply Refusal → Result Previous Refusal
+gives_with pieces part = part >>= λ reply. Ok (record { part = reply; pieces = as_map pieces })
 
-gives_blob : (m : Files) (path bytes : List ℕ) (offset : ℕ) → get m path ≡ Some (file_text (blob bytes)) → previous_by None m path offset ≡ gives (blob bytes) (part_from (file_text (blob bytes)) offset)
-gives_blob m path bytes offset at = ap (λ o. (or_else (Unreadable path) o >>= λ text. part_from text offset) >>= λ part. let r : Result Previous Refusal = Ok (record { part = part; pieces = [] }) in r) at
+abbrev gives : Content → Result Reply Refusal → Result Previous Refusal
+gives content part = gives_with (known_pieces content) part
+
+-- no pieces, where it is read in part
+gives_part : (m : Files) (path text : List ℕ) (offset : ℕ) → get m path ≡ Some text → previous_by None m path offset ≡ gives_with [] (part_from text offset)
+gives_part m path text offset at = ap (λ o. (or_else (Unreadable path) o >>= λ text. part_from text offset) >>= λ part. let r : Result Previous Refusal = Ok (record { part = part; pieces = empty }) in r) at
 
 lengths_part : (a : Archive) (part : Result Reply Refusal)
-    → ((part >>= λ reply. let r : Result Indexed Refusal = Ok (record { part = reply; entries = ends_from 0 a.pieces }) in r) >>= λ x. let r : Result Previous Refusal = Ok (record { part = x.part; pieces = lengths_from 0 x.entries }) in r) ≡ gives (archive a) part
+    → ((part >>= λ reply. let r : Result Indexed Refusal = Ok (record { part = reply; entries = ends_from 0 a.pieces }) in r) >>= λ x. let r : Result Previous Refusal = Ok (record { part = x.part; pieces = as_map (lengths_from 0 x.entries) }) in r) ≡ gives (archive a) part
 lengths_part a (Err e) = refl
-lengths_part a (Ok reply) = ap (λ ks. let r : Result Previous Refusal = Ok (record { part = reply; pieces = ks }) in r) (lengths_of_pieces 0 a.pieces)
+lengths_part a (Ok reply) = ap (λ ks. let r : Result Previous Refusal = Ok (record { part = reply; pieces = as_map ks }) in r) (lengths_of_pieces 0 a.pieces)
 
 gives_archive : (m : Files) (path : List ℕ) (offset : ℕ) (a : Archive) → FitsContent (archive a) → get m path ≡ Some (file_text (archive a)) → previous_by (Some (layout_kind a.layout)) m path offset ≡ gives (archive a) (part_from (file_text (archive a)) offset)
 unfolding file_text
 gives_archive m path offset a fits at =
-    ap (λ q. q >>= λ x. let r : Result Previous Refusal = Ok (record { part = x.part; pieces = lengths_from 0 x.entries }) in r) (archive_at m path offset a fits at)
+    ap (λ q. q >>= λ x. let r : Result Previous Refusal = Ok (record { part = x.part; pieces = as_map (lengths_from 0 x.entries) }) in r) (archive_at m path offset a fits at)
     ∙ lengths_part a (part_from (file_text (archive a)) offset)
 
 given : (m : Files) (path name : List ℕ) (offset : ℕ) (content : Content) → names_content content name ≡ true → FitsContent content → get m path ≡ Some (file_text content)
     → previous_by (kind_named name) m path offset ≡ gives content (part_from (file_text content) offset)
-given m path name offset (blob bytes) kind fits at = ap (λ o. previous_by o m path offset) (whole_blob name kind) ∙ gives_blob m path bytes offset at
+given m path name offset (blob bytes) kind fits at = ap (λ o. previous_by o m path offset) (whole_blob name kind) ∙ gives_part m path (file_text (blob bytes)) offset at
 given m path name offset (archive a) kind fits at = ap (λ o. previous_by o m path offset) (layout_named a name kind) ∙ gives_archive m path offset a fits at
 
 -- the part alone
 part_alone : (whole : Option IndexKind) (m : Files) (path : List ℕ) (offset : ℕ) → (previous_by whole m path offset >>= λ p. Ok p.part) ≡ read_by whole m path offset
 part_alone None m path offset = by_part (read_by None m path offset)
   where
-    by_part : (r : Result Reply Refusal) → ((r >>= λ part. let q : Result Previous Refusal = Ok (record { part = part; pieces = [] }) in q) >>= λ p. Ok p.part) ≡ r
+    by_part : (r : Result Reply Refusal) → ((r >>= λ part. let q : Result Previous Refusal = Ok (record { part = part; pieces = empty }) in q) >>= λ p. Ok p.part) ≡ r
     by_part (Ok part) = refl
     by_part (Err e) = refl
 part_alone (Some kind) m path offset = by_index (index_at m path kind offset)
   where
-    by_index : (r : Result Indexed Refusal) → ((r >>= λ x. let q : Result Previous Refusal = Ok (record { part = x.part; pieces = lengths_from 0 x.entries }) in q) >>= λ p. Ok p.part) ≡ (r >>= λ x. Ok x.part)
+    by_index : (r : Result Indexed Refusal) → ((r >>= λ x. let q : Result Previous Refusal = Ok (record { part = x.part; pieces = as_map (lengths_from 0 x.entries) }) in q) >>= λ p. Ok p.part) ≡ (r >>= λ x. Ok x.part)
     by_index (Ok x) = refl
     by_index (Err e) = refl
 
@@ -266,14 +279,18 @@ refusal_is m path whole offset r is = sym (ap (λ q. q >>= λ p. Ok p.part) is) 
 
 -- ---- what is kept
 
-pub named_known : (pieces : List Known) (x : Session) → is_named x ≡ true → is_named (with_known pieces x) ≡ true
+named_known : (pieces : Lengths) (x : Session) → is_named x ≡ true → is_named (with_known pieces x) ≡ true
 named_known pieces kept.Idle h = h
 named_known pieces (kept.Writer w) h = and_from (has_text ((w.session).writer).key) true (and_parts (has_text ((w.session).writer).key) _ h).0 refl
 named_known pieces (kept.Reader r) h = h
 
-pub named_noted : {E : Type 0} (result : Result (Unit {0}) E) (pieces : List Known) (x y : Session) → OnOk result (y ≡ with_known pieces x) → OnErr result (y ≡ x) → is_named x ≡ true → is_named y ≡ true
-named_noted (Ok u) pieces x y ok err h = ap is_named ok ∙ named_known pieces x h
-named_noted (Err e) pieces x y ok err h = ap is_named err ∙ h
+named_by_whole : (whole : Option IndexKind) (pieces : Lengths) (x : Session) → is_named x ≡ true → is_named (known_by_whole whole pieces x) ≡ true
+named_by_whole None pieces x h = h
+named_by_whole (Some of_kind) pieces x h = named_known pieces x h
+
+pub named_noted : {E : Type 0} (result : Result (Unit {0}) E) (whole : Option IndexKind) (pieces : Lengths) (x y : Session) → OnOk result (y ≡ known_by_whole whole pieces x) → OnErr result (y ≡ x) → is_named x ≡ true → is_named y ≡ true
+named_noted (Ok u) whole pieces x y ok err h = ap is_named ok ∙ named_by_whole whole pieces x h
+named_noted (Err e) whole pieces x y ok err h = ap is_named err ∙ h
 
 -- ---- the pieces are there
 
@@ -300,47 +317,99 @@ went : (s : Store) (lane : ℕ) (w : Writer) (reply : Reply) → goes_on s lane 
 unfolding goes_on
 went s lane w reply = refl
 
+-- ---- the session that knows the pieces
+
+pub shown_known : (v : Writer) (pieces : List (List ℕ)) → with_known (as_map (map known_of pieces)) (kept.Writer (shown_writer v)) ≡ kept.Writer (shown_writer (with_pool pieces v))
+unfolding shown
+shown_known v pieces =
+    ap (λ (pool : Pool). kept.Writer (record { session = settled (record (shown v) { pool = pool }); files = shown_files v.key v.files }))
+    (entries_listed (lengths_of v.pool) (map known_of pieces) ∙ sym (pool_of-all v.pool pieces))
+
+-- pieces that are in the pool change nothing
+pub shown_pooled : (v : Writer) (pieces : List (List ℕ)) → All (Contains v.pool) pieces → kept.Writer (shown_writer v) ≡ kept.Writer (shown_writer (with_pool pieces v))
+unfolding shown
+shown_pooled v pieces all =
+    ap (λ (pool : Pool). kept.Writer (record { session = settled (record (shown v) { pool = pool }); files = shown_files v.key v.files }))
+    (sym (lengths_there v.pool pieces all) ∙ sym (pool_of-all v.pool pieces))
+
+-- ---- of an index of which the writer may name all pieces
+
+named_of : (P : List ℕ → Type 0) (p : List ℕ → Bool) (names : List (List ℕ)) → All P names → list_any p names ≡ true → (n : List ℕ) × (p n ≡ true) × P n
+named_of P p [] all e = cc
+named_of P p (n ∷ ns) all e = by_test (p n) refl e (λ later. named_of P p ns (All-tail P n ns all) later)
+  where
+    by_test : (b : Bool) → p n ≡ b → (b || list_any p ns) ≡ true → (list_any p ns ≡ true → (m : List ℕ) × (p m ≡ true) × P m) → (m : List ℕ) × (p m ≡ true) × P m
+    by_test true is e later = (n, is, All-head P n ns all)
+    by_test false is e later = later e
+
+pooled_in : (snapshots : List Snapshot) (key : SnapshotKey) (name path : List ℕ) (w : Writer) (row : Indexes) (t : IsThere snapshots key name path) → w.base ≡ Some key → FitsRow snapshots (writer w) row
+    → is_pooled name row ≡ true → All (Contains w.pool) (pieces_of (t.file).content)
+pooled_in snapshots key name path w Unread t base fit is = cc
+pooled_in snapshots key name path w (Opened o) t base fit is = absurd fit
+pooled_in snapshots key name path w (Pooled names) t base fit is =
+    let (n, same, pooled) = named_of (IsPooled w.pool (files_of_base w.base snapshots)) (λ n. bytes_eq name n) names fit is in
+    let here : content_at (files_named key snapshots) name ≡ Some (archive pooled.one) =
+    ap (content_at (files_named key snapshots)) ((bytes_eq-Decides name n).0 same)
+    ∙ subst (λ b. content_at (files_of_base b snapshots) n ≡ Some (archive pooled.one)) base pooled.named in
+    let file : content_at (files_named key snapshots) name ≡ Some (t.file).content = ap (option_map (λ (f : File). f.content)) (there_named snapshots key name path t) in
+    subst (λ c. All (Contains w.pool) (pieces_of c)) (contents (archive pooled.one) (t.file).content (sym here ∙ file)) pooled.pieces
+  where
+    contents : (x y : Content) → Some x ≡ Some y → x ≡ y
+    contents x y e = cc
+
 -- ---- the act
 
 module _ {D : Type 0} (d : Ghosts D) where
   -- the lane's writer may name more pieces that are there
-  holds_noted : (old new : Parts D) (s : Store) (lane : ℕ) (w : Writer) (pieces : List (List ℕ)) (y : Session) → lane < 64 → session s lane ≡ writer w → All IsPiece pieces → All (HasChunk (d.content old.disk)) pieces
+  holds_noted : (old new : Parts D) (s : Store) (lane : ℕ) (w : Writer) (pieces : List (List ℕ)) (y : Session) (left : Indexes) → lane < 64 → session s lane ≡ writer w → All IsPiece pieces → All (HasChunk (d.content old.disk)) pieces
       → (d.honest old.disk ↔ d.honest new.disk) → (d.honest old.disk → d.content new.disk ≡ d.content old.disk) → new.catalogue.listed ≡ old.catalogue.listed → new.sessions.items ≡ set old.sessions.items lane y → new.locks ≡ old.locks
+      → new.indexes.items ≡ set old.indexes.items lane left → FitsRow s.snapshots (writer (with_pool pieces w)) left
       → y ≡ kept.Writer (shown_writer (with_pool pieces w)) → Holds d old s → Holds d new (with_session s lane (writer (with_pool pieces w)))
-  holds_noted old new s lane w pieces y lt at are there kept_on same c l k y_is h =
+  holds_noted old new s lane w pieces y left lt at are there kept_on same c l k rows fit y_is h =
       let after = with_pool pieces w in
       let sound = (h.shows).sound in
       let within : lane < length s.sessions = omega (arith, sound.lanes, lt) in
+      let row_there : lane < length old.indexes.items = omega (arith, old.rows, old.indexes.ok.0, lt) in
       let alone : IsAlone s lane after = λ i x ne x_at e. ne (sound.apart i lane x w x_at at e) in
       let is_writer = is_writer_pooled s w pieces are (sound.writers lane w at) in
       let uploads = has_uploads_pooled (d.content old.disk) w pieces there ((h.files).writers lane w at) in
       record {
         honest = kept_on.0 h.honest;
-        shows = shows_changed old new s lane (writer after) y c l y_is (locked_writes_on old.locks new.locks s lane w after within k at refl refl (h.shows).locks) (sound_writer s lane after lt is_writer alone sound) h.shows;
+        shows = shows_changed old new s lane (writer after) y c l y_is (locked_writes_on old.locks new.locks s lane w after within k at refl refl (h.shows).locks)
+            (subst (FitsRows (with_session s lane (writer after))) (sym rows) (rows_set s lane (writer after) old.indexes.items within (h.shows).indexes left row_there fit))
+            (sound_writer s lane after lt is_writer alone sound) h.shows;
         files = subst (λ f. IsOnDisk f (with_session s lane (writer after))) (sym (same h.honest)) (disk_writer (d.content old.disk) s lane after within uploads h.files);
       }
+
+-- a file that is no index has no pieces
+no_index : (pool : List (List ℕ)) (name : List ℕ) (x : Content) → names_content x name ≡ true → kind_named name ≡ None → All (Contains pool) (pieces_of x)
+no_index pool name (blob bytes) kind none = All-nil (Contains pool)
+no_index pool name (archive a) kind none = absurd (some_none (layout_kind a.layout) (sym (layout_named a name kind) ∙ none))
+  where
+    some_none : (k : IndexKind) → ◌≡◌ {A = Option IndexKind} (Some k) None → ⊥
+    some_none k e = cc
 
 content_pieces : (x : Content) → FitsContent x → All IsPiece (pieces_of x)
 content_pieces (archive a) fits = fits.1
 content_pieces (blob bytes) fits = All-nil IsPiece
 
-refused_by : (s : Store) (lane : ℕ) (name : List ℕ) (offset : ℕ) (w : Writer) (x : Content) (r : Refusal) (part : Result Reply Refusal) → gives x part ≡ Err r → with_part s lane name offset w x part ≡ Err r
-refused_by s lane name offset w x r (Ok reply) e = cc
-refused_by s lane name offset w x r (Err q) e = let same : q ≡ r = cc in ap (λ x. let y : Outcome = Err x in y) same
+refused_by : (s : Store) (lane : ℕ) (name : List ℕ) (offset : ℕ) (w : Writer) (x : Content) (pieces : List Known) (r : Refusal) (part : Result Reply Refusal) → gives_with pieces part ≡ Err r → with_part s lane name offset w x part ≡ Err r
+refused_by s lane name offset w x pieces r (Ok reply) e = cc
+refused_by s lane name offset w x pieces r (Err q) e = let same : q ≡ r = cc in ap (λ x. let y : Outcome = Err x in y) same
 
 -- what is given
-pub record IsGiven (s : Store) (lane : ℕ) (name : List ℕ) (offset : ℕ) (w : Writer) (x : Content) (part : Result Reply Refusal) (p : Previous) : Type 0 where
+pub record IsGiven (s : Store) (lane : ℕ) (name : List ℕ) (offset : ℕ) (w : Writer) (x : Content) (pieces : List Known) (part : Result Reply Refusal) (p : Previous) : Type 0 where
   pub step : with_part s lane name offset w x part ≡ Ok (with_session s lane (writer (with_pool (pieces_of x) w)), p.part)
-  pub pieces : p.pieces ≡ known_pieces x
+  pub pieces_are : p.pieces ≡ as_map pieces
 
-given_by : (s : Store) (lane : ℕ) (name : List ℕ) (offset : ℕ) (w : Writer) (x : Content) (part : Result Reply Refusal) (p : Previous) → gives x part ≡ Ok p → IsGiven s lane name offset w x part p
-given_by s lane name offset w x (Err q) p e = cc
-given_by s lane name offset w x (Ok reply) p e =
-    let made : Previous = record { part = reply; pieces = known_pieces x } in
+given_by : (s : Store) (lane : ℕ) (name : List ℕ) (offset : ℕ) (w : Writer) (x : Content) (pieces : List Known) (part : Result Reply Refusal) (p : Previous) → gives_with pieces part ≡ Ok p → IsGiven s lane name offset w x pieces part p
+given_by s lane name offset w x pieces (Err q) p e = cc
+given_by s lane name offset w x pieces (Ok reply) p e =
+    let made : Previous = record { part = reply; pieces = as_map pieces } in
     let same : made ≡ p = cc in
     record {
       step = went s lane (with_pool (pieces_of x) w) reply ∙ ap (λ (q : Previous). let o : Outcome = Ok (with_session s lane (writer (with_pool (pieces_of x) w)), q.part) in o) same;
-      pieces = ap (λ (q : Previous). q.pieces) (sym same);
+      pieces_are = ap (λ (q : Previous). q.pieces) (sym same);
     }
 
 module _ {D : Type 0} (d : Ghosts D) (old new : Parts D) (s : Store) (lane m : ℕ) (name path : List ℕ) (offset : ℕ) (w : Writer)
@@ -348,48 +417,119 @@ module _ {D : Type 0} (d : Ghosts D) (old new : Parts D) (s : Store) (lane m : �
   abbrev file : Content
   file = ((b.there).file).content
 
+  abbrev row : Indexes
+  row = row_at old lane
+
   fits : FitsContent file
   fits = there_fits s.snapshots b.key name path b.there ((h.shows).sound).each
 
-  read_is : previous_by (kind_named name) (d.content old.disk) path offset ≡ gives file (part_from (file_text file) offset)
-  read_is =
+  fit : FitsRow s.snapshots (writer w) row
+  fit = subst (λ x. FitsRow s.snapshots x row) at ((h.shows).indexes lane)
+
+  pooled : is_pooled name row ≡ true → All (Contains w.pool) (pieces_of file)
+  pooled = pooled_in s.snapshots b.key name path w row b.there b.base fit
+
+  -- the pieces that are read of it
+  abbrev read_pieces : Bool → List Known
+  read_pieces is = if is then [] else known_pieces file
+
+  read_by_row : (is : Bool) → previous_by (if is then None else kind_named name) (d.content old.disk) path offset ≡ gives_with (read_pieces is) (part_from (file_text file) offset)
+  read_by_row true =
+      gives_part (d.content old.disk) path (file_text file) offset (there_text (d.content old.disk) s.snapshots b.key name path b.there ((h.files).snapshots).files)
+  read_by_row false =
       given (d.content old.disk) path name offset file (there_kind s.snapshots b.key name path b.there ((h.shows).sound).each) fits
       (there_text (d.content old.disk) s.snapshots b.key name path b.there ((h.files).snapshots).files)
+
+  read_is : previous_by (whole_for row name) (d.content old.disk) path offset ≡ gives_with (read_pieces (is_pooled name row)) (part_from (file_text file) offset)
+  read_is = read_by_row (is_pooled name row)
 
   outcome_is : outcome s lane m (PreviousCommand name offset) ≡ with_part s lane name offset w file (part_from (file_text file) offset)
   outcome_is = reads_it s lane name offset m w path b at good
 
   -- the part is refused
-  pub part_refused : (r : Refusal) → previous_by (kind_named name) (d.content old.disk) path offset ≡ Err r → outcome s lane m (PreviousCommand name offset) ≡ Err r
-  part_refused r is = outcome_is ∙ refused_by s lane name offset w file r (part_from (file_text file) offset) (sym read_is ∙ is)
+  pub part_refused : (r : Refusal) → previous_by (whole_for row name) (d.content old.disk) path offset ≡ Err r → outcome s lane m (PreviousCommand name offset) ≡ Err r
+  part_refused r is = outcome_is ∙ refused_by s lane name offset w file (read_pieces (is_pooled name row)) r (part_from (file_text file) offset) (sym read_is ∙ is)
+
+  -- the session then has the pool with its pieces, whether they were read now or before
+  session_by : (whole : Option IndexKind) (pieces : List Known) → (whole ≡ None → All (Contains w.pool) (pieces_of file)) → (is_some whole ≡ true → pieces ≡ known_pieces file)
+      → known_by_whole whole (as_map pieces) (kept.Writer (shown_writer w)) ≡ kept.Writer (shown_writer (with_pool (pieces_of file) w))
+  session_by None pieces part are = shown_pooled w (pieces_of file) (part refl)
+  session_by (Some of_kind) pieces part are = ap (λ ks. with_known (as_map ks) (kept.Writer (shown_writer w))) (are refl) ∙ shown_known w (pieces_of file)
+
+  -- a file that is read in part has no other piece
+  no_other : (is : Bool) → is_pooled name row ≡ is → (if is then None else kind_named name) ≡ None → All (Contains w.pool) (pieces_of file)
+  no_other true e none = pooled e
+  no_other false e none = no_index w.pool name file (there_kind s.snapshots b.key name path b.there ((h.shows).sound).each) none
+
+  whole_pieces : (is : Bool) → is_some (if is then None else kind_named name) ≡ true → read_pieces is ≡ known_pieces file
+  whole_pieces true some = cc
+  whole_pieces false some = refl
+
+  session_is : known_by_whole (whole_for row name) (as_map (read_pieces (is_pooled name row))) (kept.Writer (shown_writer w)) ≡ kept.Writer (shown_writer (with_pool (pieces_of file) w))
+  session_is = session_by (whole_for row name) (read_pieces (is_pooled name row)) (no_other (is_pooled name row) refl) (whole_pieces (is_pooled name row))
+
+  -- and the lane keeps the names of indexes whose pieces are in it
+  fits_on : FitsRow s.snapshots (writer (with_pool (pieces_of file) w)) row
+  fits_on = writer_keeps s.snapshots w (with_pool (pieces_of file) w) row refl (Contains-append_left w.pool (pieces_of file)) fit
+
+  pooled_now : (a : Archive) → file ≡ archive a → IsPooled (with_pool (pieces_of file) w).pool (files_of_base w.base s.snapshots) name
+  pooled_now a is = record {
+    one = a;
+    named = ap (λ o. content_at (files_of_base o s.snapshots) name) b.base ∙ ap (option_map (λ (f : File). f.content)) (there_named s.snapshots b.key name path b.there) ∙ ap Some is;
+    pieces = subst (λ c. All (Contains (with_pool (pieces_of file) w).pool) (pieces_of c)) is (all_pooled w.pool (pieces_of file));
+  }
+
+  fits_names : (x : Indexes) → FitsRow s.snapshots (writer (with_pool (pieces_of file) w)) x → IsPooled (with_pool (pieces_of file) w).pool (files_of_base w.base s.snapshots) name
+      → FitsRow s.snapshots (writer (with_pool (pieces_of file) w)) (Pooled (pooling name x))
+  fits_names Unread is now = All-cons (IsPooled (with_pool (pieces_of file) w).pool (files_of_base w.base s.snapshots)) name [] now (All-nil (IsPooled (with_pool (pieces_of file) w).pool (files_of_base w.base s.snapshots)))
+  fits_names (Pooled names) is now = All-cons (IsPooled (with_pool (pieces_of file) w).pool (files_of_base w.base s.snapshots)) name names now is
+  fits_names (Opened o) is now = absurd is
+
+  -- an index is an archive
+  fits_whole : (whole : Option IndexKind) → (is_some whole ≡ true → is_some (kind_named name) ≡ true) → FitsRow s.snapshots (writer (with_pool (pieces_of file) w)) (kept_by_whole whole name row)
+  fits_whole None some = fits_on
+  fits_whole (Some of_kind) some = by_content file refl (there_kind s.snapshots b.key name path b.there ((h.shows).sound).each)
+    where
+      by_content : (x : Content) → file ≡ x → names_content x name ≡ true → FitsRow s.snapshots (writer (with_pool (pieces_of file) w)) (Pooled (pooling name row))
+      by_content (blob bytes) is kind = absurd (false_true (subst (λ o. is_some o ≡ true) (whole_blob name kind) (some refl)))
+      by_content (archive a) is kind = fits_names row fits_on (pooled_now a is)
+
+  indexed : (is : Bool) → is_some (if is then None else kind_named name) ≡ true → is_some (kind_named name) ≡ true
+  indexed true some = cc
+  indexed false some = some
 
   -- it is given, and its pieces may be named
-  pub part_done : (p : Previous) (y : Session) → lane < 64 → previous_by (kind_named name) (d.content old.disk) path offset ≡ Ok p
+  pub part_done : (p : Previous) (y : Session) → lane < 64 → previous_by (whole_for row name) (d.content old.disk) path offset ≡ Ok p
       → (d.honest old.disk ↔ d.honest new.disk) → (d.honest old.disk → d.content new.disk ≡ d.content old.disk) → new.catalogue.listed ≡ old.catalogue.listed → new.sessions.items ≡ set old.sessions.items lane y → new.locks ≡ old.locks
-      → ((shown : List (List ℕ)) → p.pieces ≡ map known_of shown → y ≡ kept.Writer (shown_writer (with_pool shown w)))
+      → new.indexes.items ≡ set old.indexes.items lane (kept_by_whole (whole_for row name) name row) → y ≡ known_by_whole (whole_for row name) p.pieces (kept.Writer (shown_writer w))
       → (after : Store) × (outcome s lane m (PreviousCommand name offset) ≡ Ok (after, p.part)) × Shows new after × IsOnDisk (d.content new.disk) after
-  part_done p y lt is kept_on same c l k noted =
-      let g = given_by s lane name offset w file (part_from (file_text file) offset) p (sym read_is ∙ is) in
+  part_done p y lt is kept_on same c l k rows noted =
+      let g = given_by s lane name offset w file (read_pieces (is_pooled name row)) (part_from (file_text file) offset) p (sym read_is ∙ is) in
       let there = pieces_held (d.content old.disk) s.snapshots b.key name (b.there).snapshot (b.there).file (b.there).kept (b.there).named ((h.files).snapshots).pieces in
-      let holds = holds_noted d old new s lane w (pieces_of file) y lt at (content_pieces file fits) there kept_on same c l k (noted (pieces_of file) g.pieces) h in
+      let y_is = noted ∙ ap (λ ks. known_by_whole (whole_for row name) ks (kept.Writer (shown_writer w))) g.pieces_are ∙ session_is in
+      let holds = holds_noted d old new s lane w (pieces_of file) y (kept_by_whole (whole_for row name) name row) lt at (content_pieces file fits) there kept_on same c l k rows (fits_whole (whole_for row name) (indexed (is_pooled name row))) y_is h in
       (with_session s lane (writer (with_pool (pieces_of file) w)), outcome_is ∙ g.step, holds.shows, holds.files)
 
 -- ---- what was asked for
 
-asked_writer : (name : List ℕ) (offset : ℕ) (session : Session) (w : Writing) (catalogue : List Listed) (found : Result (List ℕ) Refusal) → session ≡ kept.Writer w → is_file_name name ≡ true
-    → base_file ((w.session).writer).base name catalogue ≡ found → asked_of_base name offset session catalogue ≡ asked_at name offset found
-asked_writer name offset session w catalogue found is good at =
-    ap (λ x. asked_of_base name offset x catalogue) is ∙ ap (λ b. cond b (asked_at name offset (base_file ((w.session).writer).base name catalogue)) None) good ∙ ap (asked_at name offset) at
+module _ (row : Indexes) (name : List ℕ) (offset : ℕ) where
+  abbrev at_base : Result (List ℕ) Refusal → Option Asked
+  at_base found = asked_at (whole_for row name) offset found
 
-asked_bad : (name : List ℕ) (offset : ℕ) (session : Session) (catalogue : List Listed) → is_file_name name ≡ false → asked_of_base name offset session catalogue ≡ None
-asked_bad name offset kept.Idle catalogue bad = refl
-asked_bad name offset (kept.Writer w) catalogue bad = ap (λ b. cond b (asked_at name offset (base_file ((w.session).writer).base name catalogue)) None) bad
-asked_bad name offset (kept.Reader r) catalogue bad = refl
+  asked_writer : (session : Session) (w : Writing) (catalogue : List Listed) (found : Result (List ℕ) Refusal) → session ≡ kept.Writer w → is_file_name name ≡ true
+      → base_file ((w.session).writer).base name catalogue ≡ found → asked_of_base row name offset session catalogue ≡ at_base found
+  asked_writer session w catalogue found is good at =
+      ap (λ x. asked_of_base row name offset x catalogue) is ∙ ap (λ b. cond b (at_base (base_file ((w.session).writer).base name catalogue)) None) good ∙ ap at_base at
 
-asked_unwritten : (name : List ℕ) (offset : ℕ) (session : Session) (catalogue : List Listed) (r : Refusal) → wants.want_writer session ≡ Err r → asked_of_base name offset session catalogue ≡ None
-asked_unwritten name offset kept.Idle catalogue r none = refl
-asked_unwritten name offset (kept.Writer w) catalogue r none = cc
-asked_unwritten name offset (kept.Reader q) catalogue r none = refl
+  asked_bad : (session : Session) (catalogue : List Listed) → is_file_name name ≡ false → asked_of_base row name offset session catalogue ≡ None
+  asked_bad kept.Idle catalogue bad = refl
+  asked_bad (kept.Writer w) catalogue bad = ap (λ b. cond b (at_base (base_file ((w.session).writer).base name catalogue)) None) bad
+  asked_bad (kept.Reader r) catalogue bad = refl
+
+  asked_unwritten : (session : Session) (catalogue : List Listed) (r : Refusal) → wants.want_writer session ≡ Err r → asked_of_base row name offset session catalogue ≡ None
+  asked_unwritten kept.Idle catalogue r none = refl
+  asked_unwritten (kept.Writer w) catalogue r none = cc
+  asked_unwritten (kept.Reader q) catalogue r none = refl
 
 state_apart : (state : SessionState) (name : List ℕ) → Some (replies.Refused (WrongState state)) ≡ Some (replies.Refused (Unreadable name)) → ⊥
 state_apart state name e = cc
@@ -448,13 +588,6 @@ stop_gives f wanted Q (Refused r) so g = so r g
 stop_gives f wanted Q NoMemory so g = tt
 stop_gives f wanted Q DiskFailed so g = tt
 
--- and of one without a fault
-pub reads_short : {D : Type 0} (d : Ghosts D) (old new : D) (failed : Type 0) → OnlyReads d old new failed → OnlyReads d old new (IsErrOf {T = Given} (Err NoMemory) DiskFailed)
-reads_short d old new failed x = reads_as d old new failed _ never x
-  where
-    never : {P : Type 0} → IsErrOf {T = Given} (Err NoMemory) DiskFailed → P
-    never f = cc
-
 -- ---- whether it is unreadable
 
 module _ {D : Type 0} (d : Ghosts D) (disk : D) (asked : Option Asked) where
@@ -468,45 +601,45 @@ module _ {D : Type 0} (d : Ghosts D) (disk : D) (asked : Option Asked) where
   pub tells_short : (result : Result Reply Stop) → IsErrAnd result (λ x. x ≡ NoMemory) → TellsSo result
   tells_short result is = by_stop result NoMemory is (tells_failed d disk asked disks.NoMemory)
 
-module _ {D : Type 0} (d : Ghosts D) (disk : D) (name : List ℕ) (offset : ℕ) (found : Session) (catalogue : List Listed) where
+module _ {D : Type 0} (d : Ghosts D) (disk : D) (row : Indexes) (name : List ℕ) (offset : ℕ) (found : Session) (catalogue : List Listed) where
   abbrev asks : Option Asked
-  asks = asked_of_base name offset found catalogue
+  asks = asked_of_base row name offset found catalogue
 
   pub tells_unwritten : (r : Refusal) (result : Result Reply Stop) → IsErrAnd result (λ x. x ≡ Refused r) → wants.want_writer found ≡ Err r → TellsSo d disk asks result
   tells_unwritten r result is none = by_stop d disk asks result (Refused r) is
-      (unwritten_by_state found r (λ x. TellsUnreadable d disk asks 0 (Some (replies.Refused x))) (λ state. tells_other d disk asks 0 _ (λ told e. state_apart state told e) (asked_unwritten name offset found catalogue r none)) none)
+      (unwritten_by_state found r (λ x. TellsUnreadable d disk asks 0 (Some (replies.Refused x))) (λ state. tells_other d disk asks 0 _ (λ told e. state_apart state told e) (asked_unwritten row name offset found catalogue r none)) none)
 
   pub tells_unnamed : (stop : Stop) (result : Result Reply Stop) → IsErrAnd result (λ x. x ≡ stop) → IsNoName name stop → TellsSo d disk asks result
   tells_unnamed stop result is bad = by_stop d disk asks result stop is (by_name stop bad)
     where
       by_name : (stop : Stop) → IsNoName name stop → TellsSo d disk asks (Err stop)
-      by_name (Refused r) bad = subst (λ x. TellsUnreadable d disk asks 0 (Some (replies.Refused x))) (sym bad.0) (tells_other d disk asks 0 _ (λ told e. name_apart told e) (asked_bad name offset found catalogue bad.1))
+      by_name (Refused r) bad = subst (λ x. TellsUnreadable d disk asks 0 (Some (replies.Refused x))) (sym bad.0) (tells_other d disk asks 0 _ (λ told e. name_apart told e) (asked_bad row name offset found catalogue bad.1))
       by_name NoMemory bad = tells_failed d disk asks disks.NoMemory
       by_name DiskFailed bad = absurd bad
 
   pub tells_no_base : (w : Writing) (r : Refusal) (result : Result Reply Stop) → IsErrAnd result (λ x. x ≡ Refused r) → found ≡ kept.Writer w → is_file_name name ≡ true → base_file ((w.session).writer).base name catalogue ≡ Err r → TellsSo d disk asks result
   tells_no_base w r result is at good none = by_stop d disk asks result (Refused r) is
-      (tells_other d disk asks 0 _ (λ told e. base_apart ((w.session).writer).base name catalogue r none told e) (asked_writer name offset found w catalogue (Err r) at good none))
+      (tells_other d disk asks 0 _ (λ told e. base_apart ((w.session).writer).base name catalogue r none told e) (asked_writer row name offset found w catalogue (Err r) at good none))
 
   -- the file was read
   module _ (w : Writing) (path : List ℕ) (at : found ≡ kept.Writer w) (good : is_file_name name ≡ true) (there : base_file ((w.session).writer).base name catalogue ≡ Ok path) where
     abbrev a : Asked
-    a = record { path = path; way = from_offset (kind_named name) offset }
+    a = record { path = path; way = from_offset (whole_for row name) offset }
 
     asked_is : asks ≡ Some a
-    asked_is = asked_writer name offset found w catalogue (Ok path) at good there
+    asked_is = asked_writer row name offset found w catalogue (Ok path) at good there
 
     pub tells_unread : (e : Stop) (result : Result Reply Stop) → IsErrAnd result (λ x. x ≡ e) → IfRefused (RefusesPart path) e
-        → (d.honest disk → Gives shown_given (Err e) (previous_by (kind_named name) (d.content disk) path offset)) → TellsSo d disk asks result
+        → (d.honest disk → Gives shown_given (Err e) (previous_by (whole_for row name) (d.content disk) path offset)) → TellsSo d disk asks result
     tells_unread e result is kind exact = by_stop d disk asks result e is (by_error e kind exact)
       where
-        by_error : (e : Stop) → IfRefused (RefusesPart path) e → (d.honest disk → Gives shown_given (Err e) (previous_by (kind_named name) (d.content disk) path offset)) → TellsSo d disk asks (Err e)
-        by_error (Refused r) kind exact = tells_read d disk asks a (Err r) asked_is kind (λ honest. refusal_is (d.content disk) path (kind_named name) offset r (exact honest))
+        by_error : (e : Stop) → IfRefused (RefusesPart path) e → (d.honest disk → Gives shown_given (Err e) (previous_by (whole_for row name) (d.content disk) path offset)) → TellsSo d disk asks (Err e)
+        by_error (Refused r) kind exact = tells_read d disk asks a (Err r) asked_is kind (λ honest. refusal_is (d.content disk) path (whole_for row name) offset r (exact honest))
         by_error NoMemory kind exact = tells_failed d disk asks disks.NoMemory
         by_error DiskFailed kind exact = tells_failed d disk asks disks.Failed
 
-    pub tells_given : (g : Given) → IsPart (part_reply g.part) → (d.honest disk → previous_by (kind_named name) (d.content disk) path offset ≡ Ok (shown_given g)) → TellsSo d disk asks (Ok (part_reply g.part))
-    tells_given g kind exact = tells_read d disk asks a (Ok (part_reply g.part)) asked_is kind (λ honest. part_is (d.content disk) path (kind_named name) offset (shown_given g) (exact honest))
+    pub tells_given : (g : Given) → IsPart (part_reply g.part) → (d.honest disk → previous_by (whole_for row name) (d.content disk) path offset ≡ Ok (shown_given g)) → TellsSo d disk asks (Ok (part_reply g.part))
+    tells_given g kind exact = tells_read d disk asks a (Ok (part_reply g.part)) asked_is kind (λ honest. part_is (d.content disk) path (whole_for row name) offset (shown_given g) (exact honest))
 
 pub base_of_shown : (v : Writer) (w : Writing) → shown_writer v ≡ w → v.base ≡ ((w.session).writer).base
 unfolding shown
@@ -514,7 +647,7 @@ base_of_shown v w is = ap (λ (x : Writing). ((x.session).writer).base) is
 
 -- ---- the session that notes the pieces
 
-pub noted_ok : {E : Type 0} (r : Result (Unit {0}) E) (found : Session) (w : Writing) (new : backups.Session) (pieces : List Known) → found ≡ kept.Writer w → OnOk r (new ≡ settled (rows.previous (w.session).writer pieces))
+pub noted_ok : {E : Type 0} (r : Result (Unit {0}) E) (found : Session) (w : Writing) (new : backups.Session) (pieces : Lengths) → found ≡ kept.Writer w → OnOk r (new ≡ settled (rows.previous (w.session).writer pieces))
     → OnOk r (kept.Writer (record w { session = new }) ≡ with_known pieces found)
 noted_ok (Ok u) found w new pieces is h = ap (λ x. kept.Writer (record w { session = x })) h ∙ ap (with_known pieces) (sym is)
 noted_ok (Err e) found w new pieces is h = tt
@@ -523,39 +656,34 @@ pub noted_err : {E : Type 0} (r : Result (Unit {0}) E) (found : Session) (w : Wr
 noted_err (Ok u) found w new is h = tt
 noted_err (Err e) found w new is h = ap (λ x. kept.Writer (record w { session = x })) h ∙ sym is
 
-pub shown_known : (v : Writer) (pieces : List (List ℕ)) → with_known (map known_of pieces) (kept.Writer (shown_writer v)) ≡ kept.Writer (shown_writer (with_pool pieces v))
-unfolding shown
-shown_known v pieces =
-    ap (λ (pool : Pool). kept.Writer (record { session = settled (record (shown v) { pool = pool }); files = shown_files v.key v.files })) (sym (pool_of-all v.pool pieces))
-
 -- ---- what was read
 
 -- a file that is no index
-plain_is : (m : Files) (path name : List ℕ) (offset : ℕ) → kind_named name ≡ None → previous_by (kind_named name) m path offset ≡ (part_at m path offset >>= λ part. Ok (record { part = part; pieces = [] }))
-plain_is m path name offset plain = ap (λ o. previous_by o m path offset) plain
+plain_is : (m : Files) (path : List ℕ) (whole : Option IndexKind) (offset : ℕ) → whole ≡ None → previous_by whole m path offset ≡ (part_at m path offset >>= λ part. Ok (record { part = part; pieces = empty }))
+plain_is m path whole offset plain = ap (λ o. previous_by o m path offset) plain
 
-pub plain_read : (m : Files) (path name : List ℕ) (offset : ℕ) (g : Given) (part : Reply) → kind_named name ≡ None → part_at m path offset ≡ Ok part → (part_reply g.part) ≡ part → g.pieces.items.items ≡ [] → Gives shown_given (Ok g) (previous_by (kind_named name) m path offset)
-plain_read m path name offset g part plain is same none =
-    plain_is m path name offset plain ∙ ap (λ q. q >>= λ x. let p : Result Previous Refusal = Ok (record { part = x; pieces = [] }) in p) is
-    ∙ ap (λ x. let p : Result Previous Refusal = Ok (record { part = x; pieces = [] }) in p) (sym same)
-    ∙ ap (λ xs. let p : Result Previous Refusal = Ok (record { part = (part_reply g.part); pieces = map indexes.known_of xs }) in p) (sym none)
+pub plain_read : (m : Files) (path : List ℕ) (whole : Option IndexKind) (offset : ℕ) (g : Given) (part : Reply) → whole ≡ None → part_at m path offset ≡ Ok part → (part_reply g.part) ≡ part → g.pieces ≡ empty → Gives shown_given (Ok g) (previous_by whole m path offset)
+plain_read m path whole offset g part plain is same none =
+    plain_is m path whole offset plain ∙ ap (λ q. q >>= λ x. let p : Result Previous Refusal = Ok (record { part = x; pieces = empty }) in p) is
+    ∙ ap (λ x. let p : Result Previous Refusal = Ok (record { part = x; pieces = empty }) in p) (sym same)
+    ∙ ap (λ xs. let p : Result Previous Refusal = Ok (record { part = (part_reply g.part); pieces = xs }) in p) (sym none)
 
-pub plain_unread : (m : Files) (path name : List ℕ) (offset : ℕ) (e : Stop) (result : Result Given Stop) → IsErrAnd result (λ x. x ≡ e) → kind_named name ≡ None → Gives part_reply (Err e) (part_at m path offset)
-    → Gives shown_given result (previous_by (kind_named name) m path offset)
-plain_unread m path name offset e (Ok g) is plain gives = absurd is
-plain_unread m path name offset e (Err x) is plain gives = subst (λ y. Gives shown_given (Err y) (previous_by (kind_named name) m path offset)) (sym is) (by_error e gives)
+pub plain_unread : (m : Files) (path : List ℕ) (whole : Option IndexKind) (offset : ℕ) (e : Stop) (result : Result Given Stop) → IsErrAnd result (λ x. x ≡ e) → whole ≡ None → Gives part_reply (Err e) (part_at m path offset)
+    → Gives shown_given result (previous_by whole m path offset)
+plain_unread m path whole offset e (Ok g) is plain gives = absurd is
+plain_unread m path whole offset e (Err x) is plain gives = subst (λ y. Gives shown_given (Err y) (previous_by whole m path offset)) (sym is) (by_error e gives)
   where
-    by_error : (e : Stop) → Gives part_reply (Err e) (part_at m path offset) → Gives shown_given (Err e) (previous_by (kind_named name) m path offset)
-    by_error (Refused r) is = plain_is m path name offset plain ∙ ap (λ q. q >>= λ x. let p : Result Previous Refusal = Ok (record { part = x; pieces = [] }) in p) is
+    by_error : (e : Stop) → Gives part_reply (Err e) (part_at m path offset) → Gives shown_given (Err e) (previous_by whole m path offset)
+    by_error (Refused r) is = plain_is m path whole offset plain ∙ ap (λ q. q >>= λ x. let p : Result Previous Refusal = Ok (record { part = x; pieces = empty }) in p) is
     by_error NoMemory is = tt
     by_error DiskFailed is = tt
 
 -- an index
-pub whole_given : (m : Files) (path q : List ℕ) (kind : IndexKind) (offset : ℕ) (part : Reply) (entries : List Ended) (pieces : List Known) → q ≡ path
-    → index_at m q kind offset ≡ Ok (record { part = part; entries = entries }) → pieces ≡ lengths_from 0 entries
+pub whole_given : (m : Files) (path q : List ℕ) (kind : IndexKind) (offset : ℕ) (part : Reply) (entries : List Ended) (pieces : Lengths) → q ≡ path
+    → index_at m q kind offset ≡ Ok (record { part = part; entries = entries }) → pieces ≡ as_map (lengths_from 0 entries)
     → previous_by (Some kind) m path offset ≡ Ok (record { part = part; pieces = pieces })
 whole_given m path q kind offset part entries pieces same is are =
-    ap (λ r. r >>= λ x. let p : Result Previous Refusal = Ok (record { part = x.part; pieces = lengths_from 0 x.entries }) in p) (ap (λ p. index_at m p kind offset) (sym same) ∙ is)
+    ap (λ r. r >>= λ x. let p : Result Previous Refusal = Ok (record { part = x.part; pieces = as_map (lengths_from 0 x.entries) }) in p) (ap (λ p. index_at m p kind offset) (sym same) ∙ is)
     ∙ ap (λ ks. let p : Result Previous Refusal = Ok (record { part = part; pieces = ks }) in p) (sym are)
 
 pub index_unread : (m : Files) (path q : List ℕ) (kind : IndexKind) (offset : ℕ) (e : Stop) (result : Result Given Stop) → IsErrAnd result (λ x. x ≡ e) → q ≡ path → IfRefused (λ r. index_at m q kind offset ≡ Err r) e
@@ -564,11 +692,32 @@ index_unread m path q kind offset e (Ok g) is same gives = absurd is
 index_unread m path q kind offset e (Err x) is same gives = subst (λ y. Gives shown_given (Err y) (previous_by (Some kind) m path offset)) (sym is) (by_error e gives)
   where
     by_error : (e : Stop) → IfRefused (λ r. index_at m q kind offset ≡ Err r) e → Gives shown_given (Err e) (previous_by (Some kind) m path offset)
-    by_error (Refused r) is = ap (λ y. y >>= λ x. let p : Result Previous Refusal = Ok (record { part = x.part; pieces = lengths_from 0 x.entries }) in p) (ap (λ p. index_at m p kind offset) (sym same) ∙ is)
+    by_error (Refused r) is = ap (λ y. y >>= λ x. let p : Result Previous Refusal = Ok (record { part = x.part; pieces = as_map (lengths_from 0 x.entries) }) in p) (ap (λ p. index_at m p kind offset) (sym same) ∙ is)
     by_error NoMemory is = tt
     by_error DiskFailed is = tt
 
 -- ---- the exits
+
+no_fault : {P : Type 0} → IsErrOf {T = Given} (Err NoMemory) DiskFailed → P
+no_fault f = cc
+
+-- what the lane keeps once its row was put there
+row_left : {D : Type 0} (old new : Parts D) (lane : ℕ) → lane < 64 → (left : Indexes) → new.indexes.items ≡ set old.indexes.items lane left → row_at new lane ≡ left
+row_left old new lane lt left rows =
+    let row_there : lane < length old.indexes.items = omega (arith, old.rows, old.indexes.ok.0, lt) in
+    ap (λ xs. row_in xs lane) rows ∙ get_or-set_same old.indexes.items lane left Unread row_there
+
+module _ {D : Type 0} (old new : Parts D) (at : Place) (name : List ℕ) where
+  -- it stopped
+  pub notes_none : (stop : Stop) (result : Result Reply Stop) → IsErrAnd result (λ x. x ≡ stop) → new.indexes.items ≡ old.indexes.items → NotesPooled old new at name result
+  notes_none stop (Ok reply) is same = absurd is
+  notes_none stop (Err e) is same = record { noted = tt; stopped = ap (λ xs. row_in xs at.lane) same }
+
+  -- it is done
+  pub notes_done : at.lane < 64 → (reply : Reply) → new.indexes.items ≡ set old.indexes.items at.lane (kept_by_whole (whole_for (row_at old at.lane) name) name (row_at old at.lane)) → NotesPooled old new at name (Ok reply)
+  notes_done lt reply rows =
+      let left = row_left old new at.lane lt (kept_by_whole (whole_for (row_at old at.lane) name) name (row_at old at.lane)) rows in
+      record { noted = left; stopped = tt }
 
 module _ {D : Type 0} (d : Ghosts D) (parts : Parts D) (at : Place) (name : List ℕ) (offset : ℕ) where
   abbrev act : Act
@@ -602,21 +751,18 @@ module _ {D : Type 0} (d : Ghosts D) (parts : Parts D) (at : Place) (name : List
   no_base_leaves new same kept_so r result is = refused_leaves d parts new at act r result is same kept_so (λ closing. false_true closing)
 
   module _ (new : Parts D) (failed : Type 0) (read : OnlyReads d parts.disk new.disk failed) where
-    -- memory was wanting for what was read
-    pub unnoted_does : (result : Result Reply Stop) → IsErrAnd result (λ x. x ≡ NoMemory) → SameKept parts new → ActDoes d parts new at act result
-    unnoted_does result is kept = stopped_does d {A = Given} parts new at act (Err NoMemory) NoMemory result is refl (reads_short d parts.disk new.disk failed read) kept tt tt (λ s h. tt)
-
-    pub unnoted_leaves : (result : Result Reply Stop) → IsErrAnd result (λ x. x ≡ NoMemory) → SameKept parts new → ActLeaves d parts new at act result
-    unnoted_leaves result is kept = stopped_leaves d parts new at act NoMemory result failed is read kept refl tt (λ closing. false_true closing)
-
     pub unread_leaves : (path : List ℕ) (e : Stop) (result : Result Reply Stop) → IsErrAnd result (λ x. x ≡ e) → SameKept parts new → IfRefused (RefusesPart path) e → ActLeaves d parts new at act result
     unread_leaves path e result is kept kind =
         stopped_leaves d parts new at act e result failed is read kept refl
         (stop_as (RefusesPart path) (λ r. is_uncalled r ≡ true → new.disk ≡ parts.disk) e (λ r k t. absurd (false_true (sym (refusal_called path r k) ∙ t))) kind) (λ closing. false_true closing)
 
-    pub given_leaves : (g : Given) → IsPart (part_reply g.part) → new.catalogue.listed ≡ parts.catalogue.listed → ActLeaves d parts new at act (Ok (part_reply g.part))
-    given_leaves g kind c =
-        writes_leaves d parts new at act (part_reply g.part) (part_plain (part_reply g.part) kind) refl (λ h. read.same h) read.crash tt c (λ admin. absurd (false_true admin)) (adds_same d parts new act (Ok (part_reply g.part)) read.same) (λ ends. absurd (false_true ends)) (λ writes. absurd (false_true writes))
+    pub given_leaves : (g : Given) → IsPart (part_reply g.part) → new.catalogue.listed ≡ parts.catalogue.listed → (left : Indexes) → new.indexes.items ≡ set parts.indexes.items at.lane left → ActLeaves d parts new at act (Ok (part_reply g.part))
+    given_leaves g kind c left rows =
+        writes_leaves d parts new at act (part_reply g.part) (part_plain (part_reply g.part) kind) refl (λ h. read.same h) read.crash tt c (λ admin. absurd (false_true admin)) (adds_same d parts new act (Ok (part_reply g.part)) read.same) (λ ends. absurd (false_true ends)) (λ writes. absurd (false_true writes)) (rows_but parts new.indexes.items at.lane act left refl rows)
+
+    -- memory is wanting for what was read
+    pub unnoted_leaves : (result : Result Reply Stop) → IsErrAnd result (λ x. x ≡ NoMemory) → SameKept parts new → ActLeaves d parts new at act result
+    unnoted_leaves result is kept = unread_leaves [] NoMemory result is kept tt
 
     module _ (w : Writing) (path : List ℕ) (lt : at.lane < 64) (writes : wants.want_writer (session_at parts at.lane) ≡ Ok w) (good : is_file_name name ≡ true) (there : base_file ((w.session).writer).base name parts.catalogue.listed ≡ Ok path) where
       based : (s : Store) (v : Writer) → Holds d parts s → shown_writer v ≡ w → HasBase s at.lane name offset v path
@@ -624,22 +770,26 @@ module _ {D : Type 0} (d : Ghosts D) (parts : Parts D) (at : Place) (name : List
 
       -- it is not read
       pub unread_does : (e : Stop) (result : Result Reply Stop) → IsErrAnd result (λ x. x ≡ e) → (IsErrOf {T = Given} (Err e) DiskFailed → failed) → SameKept parts new → StopHasText e → IfRefused (RefusesPart path) e
-          → (d.honest parts.disk → Gives shown_given (Err e) (previous_by (kind_named name) (d.content parts.disk) path offset)) → ActDoes d parts new at act result
+          → (d.honest parts.disk → Gives shown_given (Err e) (previous_by (whole_for (row_at parts at.lane) name) (d.content parts.disk) path offset)) → ActDoes d parts new at act result
       unread_does e result is why kept text kind exact =
           stopped_does d {A = Given} parts new at act (Err e) e result is refl (reads_as d parts.disk new.disk failed _ why read) kept
           text (stop_as (RefusesPart path) (λ r. refuses_previous r ≡ true) e (λ r k. refusal_answers path r k) kind)
           (λ s h.
           let (v, v_at, v_is) = writer_shown parts s at.lane w h.shows lt writes in
-          stop_gives shown_given (previous_by (kind_named name) (d.content parts.disk) path offset) (λ r. outcome s at.lane at.moment (PreviousCommand name offset) ≡ Err r) e
+          stop_gives shown_given (previous_by (whole_for (row_at parts at.lane) name) (d.content parts.disk) path offset) (λ r. outcome s at.lane at.moment (PreviousCommand name offset) ≡ Err r) e
           (λ r is. part_refused d parts new s at.lane at.moment name path offset v v_at good h (based s v h v_is) r is) (exact h.honest))
 
+      pub unnoted_does : (result : Result Reply Stop) → IsErrAnd result (λ x. x ≡ NoMemory) → SameKept parts new → ActDoes d parts new at act result
+      unnoted_does result is kept = unread_does NoMemory result is (λ f. no_fault f) kept tt tt (λ honest. tt)
+
       -- it is given
-      pub given_does : (g : Given) (y found : Session) → IsPart (part_reply g.part) → ReplyHasText (part_reply g.part) → (d.honest parts.disk → previous_by (kind_named name) (d.content parts.disk) path offset ≡ Ok (shown_given g))
-          → new.catalogue.listed ≡ parts.catalogue.listed → new.sessions.items ≡ set parts.sessions.items at.lane y → new.locks ≡ parts.locks → found ≡ kept.Writer w → y ≡ with_known (map indexes.known_of g.pieces.items.items) found
+      pub given_does : (g : Given) (y found : Session) → IsPart (part_reply g.part) → ReplyHasText (part_reply g.part) → (d.honest parts.disk → previous_by (whole_for (row_at parts at.lane) name) (d.content parts.disk) path offset ≡ Ok (shown_given g))
+          → new.catalogue.listed ≡ parts.catalogue.listed → new.sessions.items ≡ set parts.sessions.items at.lane y → new.locks ≡ parts.locks
+          → new.indexes.items ≡ set parts.indexes.items at.lane (kept_by_whole (whole_for (row_at parts at.lane) name) name (row_at parts at.lane)) → found ≡ kept.Writer w → y ≡ known_by_whole (whole_for (row_at parts at.lane) name) g.pieces found
           → ActDoes d parts new at act (Ok (part_reply g.part))
-      given_does g y found kind text exact c l k found_is y_is =
+      given_does g y found kind text exact c l k rows found_is y_is =
           writes_does d parts new at act (part_reply g.part) failed read.serves text (part_answers (part_reply g.part) kind) (part_plain (part_reply g.part) kind)
           (λ safe s h.
           let (v, v_at, v_is) = writer_shown parts s at.lane w h.shows lt writes in
-          part_done d parts new s at.lane at.moment name path offset v v_at good h (based s v h v_is) (shown_given g) y lt (exact h.honest) (read.serves).kept read.same c l k
-          (λ shown pieces. y_is ∙ ap₂ with_known pieces (found_is ∙ ap (λ x. kept.Writer x) (sym v_is)) ∙ shown_known v shown))
+          part_done d parts new s at.lane at.moment name path offset v v_at good h (based s v h v_is) (shown_given g) y lt (exact h.honest) (read.serves).kept read.same c l k rows
+          (y_is ∙ ap (known_by_whole (whole_for (row_at parts at.lane) name) g.pieces) (found_is ∙ ap (λ x. kept.Writer x) (sym v_is))))

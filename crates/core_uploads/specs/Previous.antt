@@ -1,6 +1,6 @@
 -- PREVIOUS, by what the core keeps and what the disk holds.
-use Rattle.std.specs.Prelude.{◌≡◌, ◌≤◌, ℕ, List, [], map, if◌then◌else◌, Option, None, Some, Result, Ok, Err, MatchResult}
-use Rattle.std.specs.List.{AllByRecursion}
+use Rattle.std.specs.Prelude.{◌≡◌, OnOk, OnErr, ℕ, List, if◌then◌else◌, Option, None, Some, Result, Ok, Err, MatchResult}
+use Rattle.std.specs.FinMap.{empty, entries}
 use Rattle.std.specs.Borrow.{Bor}
 use Rattle.disk_trait.specs.declared.disk.Disk.{Ghosts}
 use Rattle.disk_trait.specs.Files.{Files}
@@ -10,12 +10,14 @@ use Rattle.store_types.specs.declared.refusal.Refusal.TheVariants.{NoSnapshot, N
 use Rattle.store_types.specs.Chain.Refusing.{◌>>=◌, or_else}
 use Rattle.store_types.specs.FileNames.{is_file_name}
 use Rattle.wire_commands.specs.declared.reply.Reply.{Reply}
-use Rattle.dynamic_index.specs.Writing.{Known, known_of}
+use Rattle.dynamic_index.specs.Writing.{Known}
+use Rattle.known_chunks.specs.Lengths.{Lengths, with_lengths}
 use Rattle.paged_indexes.specs.declared.kinds.IndexKind.{IndexKind}
 use Rattle.snapshot_files.specs.Indexes.{index_at, kind_named, lengths_from}
 use Rattle.snapshot_files.specs.Parts.{part_reply}
 use Rattle.store_stops.specs.Stops.{Gives}
 use Rattle.store_stops.specs.declared.stop.Stop.{Stop}
+use Rattle.backup_session.specs.Kept.{HasLengths}
 use Rattle.backup_session.specs.Session.{settled}
 use Rattle.backup_session.specs.Steps as rows
 use Rattle.core_state.specs.declared.kept.Kept.{Kept}
@@ -23,7 +25,12 @@ use Rattle.core_state.specs.declared.kept.Listed.{Listed}
 use Rattle.core_state.specs.declared.kept.Writing.{Writing}
 use Rattle.core_state.specs.declared.kept.Session.{Session}
 use Rattle.core_state.specs.declared.kept.Session.TheVariants.{Idle, Writer, Reader}
+use Rattle.core_state.specs.declared.entering.Place.{Place}
+use Rattle.core_state.specs.declared.indexes.Indexes.{Indexes}
+use Rattle.core_state.specs.declared.indexes.Indexes.TheVariants.{Pooled}
+use Rattle.core_state.specs.declared.parts.Parts.{Parts}
 use Rattle.core_state.specs.Found.{kept_named, path_named}
+use Rattle.core_state.specs.Indexed.{is_pooled, pooling, row_at}
 use Rattle.core_state.specs.Unreadables.{Asked, from_offset, read_by}
 use Rattle.core_uploads.specs.declared.previous_files.Given.{Given}
 
@@ -44,29 +51,38 @@ abbrev pub LendsPath : Option SnapshotKey → List ℕ → List Listed → Resul
 LendsPath base name catalogue result =
     MatchResult result (λ path. base_file base name catalogue ≡ Ok path.now) (λ refusal. base_file base name catalogue ≡ Err refusal)
 
-abbrev pub asked_at : List ℕ → ℕ → Result (List ℕ) Refusal → Option Asked
-asked_at name offset (Ok path) = Some (record { path = path; way = from_offset (kind_named name) offset })
-asked_at name offset (Err refusal) = None
+-- An index is read whole, unless the writer may name all its pieces.
+abbrev pub whole_for : Indexes → List ℕ → Option IndexKind
+whole_for row name = if is_pooled name row then None else kind_named name
 
--- the file that a session's writer asks for
-abbrev pub asked_of_base : List ℕ → ℕ → Session → List Listed → Option Asked
-asked_of_base name offset Idle catalogue = None
-asked_of_base name offset (Writer w) catalogue = if is_file_name name then asked_at name offset (base_file ((w.session).writer).base name catalogue) else None
-asked_of_base name offset (Reader r) catalogue = None
+abbrev pub asked_at : Option IndexKind → ℕ → Result (List ℕ) Refusal → Option Asked
+asked_at whole offset (Ok path) = Some (record { path = path; way = from_offset whole offset })
+asked_at whole offset (Err refusal) = None
+
+-- the file that a session's writer asks for, beside what the lane keeps of indexes
+abbrev pub asked_of_base : Indexes → List ℕ → ℕ → Session → List Listed → Option Asked
+asked_of_base row name offset Idle catalogue = None
+asked_of_base row name offset (Writer w) catalogue =
+    if is_file_name name then asked_at (whole_for row name) offset (base_file ((w.session).writer).base name catalogue) else None
+asked_of_base row name offset (Reader r) catalogue = None
 
 -- ---- what is read of it
 
--- a part, and the digest and length of each piece of an index
+-- the lengths of pieces by their digests
+abbrev pub as_map : List Known → Lengths
+as_map pieces = with_lengths empty pieces
+
+-- a part, and the lengths of an index's pieces by their digests
 pub record Previous : Type 0 where
   pub part : Reply
-  pub pieces : List Known
+  pub pieces : Lengths
 
 abbrev pub previous_by : Option IndexKind → Files → List ℕ → ℕ → Result Previous Refusal
-previous_by None m path offset = read_by None m path offset >>= λ part. Ok (record { part = part; pieces = [] })
-previous_by (Some kind) m path offset = index_at m path kind offset >>= λ x. Ok (record { part = x.part; pieces = lengths_from 0 x.entries })
+previous_by None m path offset = read_by None m path offset >>= λ part. Ok (record { part = part; pieces = empty })
+previous_by (Some kind) m path offset = index_at m path kind offset >>= λ x. Ok (record { part = x.part; pieces = as_map (lengths_from 0 x.entries) })
 
 abbrev pub shown_given : Given → Previous
-shown_given g = record { part = part_reply g.part; pieces = map known_of g.pieces.items.items }
+shown_given g = record { part = part_reply g.part; pieces = g.pieces }
 
 -- an honest disk gives it, or the refusal is told
 abbrev pub GivesPrevious : {D : Type 0} → Ghosts D → D → List ℕ → Option IndexKind → ℕ → Result Given Stop → Type 0
@@ -74,8 +90,8 @@ GivesPrevious d disk path whole offset result =
     d.honest disk → Gives shown_given result (previous_by whole (d.content disk) path offset)
 
 -- lengths that pieces have
-abbrev pub ArePieces : List Known → Type 0
-ArePieces pieces = AllByRecursion (λ k. (1 ≤ k.1) × (k.1 ≤ 16_777_216)) pieces
+abbrev pub ArePieces : Lengths → Type 0
+ArePieces pieces = HasLengths (entries pieces)
 
 -- ---- what the session notes of it
 
@@ -86,10 +102,25 @@ MayKnow (Writer w) = (w.session).pending ≡ None
 MayKnow (Reader r) = ⊥
 
 -- the writer may name the pieces
-abbrev pub knowing : Writing → List Known → Writing
+abbrev pub knowing : Writing → Lengths → Writing
 knowing w pieces = record w { session = settled (rows.previous (w.session).writer pieces) }
 
-abbrev pub with_known : List Known → Session → Session
+abbrev pub with_known : Lengths → Session → Session
 with_known pieces Idle = Idle
 with_known pieces (Writer w) = Writer (knowing w pieces)
 with_known pieces (Reader r) = Reader r
+
+-- of an index that was read whole the writer may name all pieces
+abbrev pub known_by_whole : Option IndexKind → Lengths → Session → Session
+known_by_whole None pieces session = session
+known_by_whole (Some of_kind) pieces session = with_known pieces session
+
+-- and the lane keeps its name
+abbrev pub kept_by_whole : Option IndexKind → List ℕ → Indexes → Indexes
+kept_by_whole None name row = row
+kept_by_whole (Some of_kind) name row = Pooled (pooling name row)
+
+-- what the lane keeps of indexes: where PREVIOUS stopped, what it kept
+pub record NotesPooled {D : Type 0} (old new : Parts D) (at : Place) (name : List ℕ) (result : Result Reply Stop) : Type 0 where
+  pub noted : OnOk result (row_at new at.lane ≡ kept_by_whole (whole_for (row_at old at.lane) name) name (row_at old at.lane))
+  pub stopped : OnErr result (row_at new at.lane ≡ row_at old at.lane)

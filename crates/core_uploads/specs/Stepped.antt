@@ -1,5 +1,6 @@
 -- What a command that makes no call of the disk does to its lane's session.
-use Rattle.std.specs.Prelude.{◌≡◌, ℕ, Bool, true, Result, Ok, Err, IfOk, OnErr, IsTrue}
+use Rattle.std.specs.Prelude.{◌≡◌, ℕ, List, Bool, true, Result, Ok, Err, IfOk, OnErr, IsTrue}
+use Rattle.std.specs.List.{Contains}
 use Rattle.disk_trait.specs.Files.{Files}
 use Rattle.wire_commands.specs.HasText.{ReplyHasText}
 use Rattle.wire_commands.specs.declared.reply.Reply.{Reply}
@@ -24,6 +25,7 @@ pub record GoesOn (s : Store) (lane : ℕ) (new : Session) (o : Outcome) (reply 
   pub shown : new ≡ kept.Writer (shown_writer after)
   pub key : after.key ≡ before.key
   pub base : after.base ≡ before.base
+  pub pool : (p : List ℕ) → Contains before.pool p → Contains after.pool p
   pub is_writer : IsWriter s.snapshots after
   pub uploads : (m : Files) → HasUploads m before → HasUploads m after
 

@@ -1,12 +1,11 @@
 //! PREVIOUS.
 
-ghost use Rattle.std.specs.Prelude.{◌≡◌, ◌<◌, map, MatchResult, IfOk, IfErr, OnOk, OnErr, IsErrOf, IsTrue, Some};
+ghost use Rattle.std.specs.Prelude.{◌≡◌, ◌<◌, MatchResult, IfOk, IfErr, OnOk, OnErr, IsErrOf, IsTrue, Some};
 ghost use Rattle.disk_trait.specs.Effects.{OnlyReads};
-ghost use Rattle.dynamic_index.specs.Writing.{known_of};
 ghost use Rattle.wire_commands.specs.HasText.{ReplyHasText};
 ghost use Rattle.wire_commands.specs.declared.command.Command.TheVariants.{Previous};
 ghost use Rattle.wire_commands.specs.declared.reply.Reply.TheVariants.{Refused};
-ghost use Rattle.snapshot_files.specs.Indexes.{kind_named, lengths_from};
+ghost use Rattle.snapshot_files.specs.Indexes.{lengths_from};
 ghost use Rattle.snapshot_files.specs.Parts.{PartHasText, RefusesPart};
 ghost use Rattle.snapshot_files.specs.Reads.{StopHasText};
 ghost use Rattle.store_stops.specs.Stops.{IfRefused};
@@ -14,30 +13,32 @@ ghost use Rattle.core_state.specs.Commands.{PlainDoes, PlainLeaves};
 ghost use Rattle.core_state.specs.Found.{lent_key};
 ghost use Rattle.core_state.specs.Replies.{refuses_previous};
 ghost use Rattle.core_state.specs.Unreadables.{ActUnreadable};
-ghost use Rattle.core_uploads.specs.Previous.{ArePieces, GivesPrevious, LendsPath, MayKnow, asked_of_base, with_known};
+ghost use Rattle.core_state.specs.Indexed.{row_at};
+ghost use Rattle.core_uploads.specs.Previous.{ArePieces, GivesPrevious, LendsPath, MayKnow, NotesPooled, as_map, asked_of_base, kept_by_whole, known_by_whole, whole_for, with_known};
 
 use crate::names::file_name;
-use core_state::{Catalogue, Parts, Place, Session, path_named};
+use core_state::{Catalogue, Indexes, Parts, Place, Session, path_named};
 use disk_trait::Disk;
+use known_chunks::Known;
 use paged_indexes::{IndexEntry, IndexKind, TakesEntries};
 use snapshot_files::{FilePart, FilePath, kind_of, read_index, read_part};
 use std::alloc::{AllocError, Global};
 use store_stops::Stop;
-use store_types::{Digest32, FileName, Refusal, SnapshotKey};
+use store_types::{FileName, Refusal, SnapshotKey};
 use wire_commands::Reply;
 
-/// The pieces of an index as they are read: of each the digest and the length in bytes.
+/// The pieces of an index as they are read: by their digests the lengths in bytes.
 #[derive(Drop)]
 struct Pieces {
-    items: Vec<(Digest32, u32)>,
+    known: Known,
 }
 
 impl TakesEntries for Pieces {
-    ghost taken = { λ p base entries. map known_of p.items.items ≡ lengths_from base entries };
+    ghost taken = { λ p base entries. p.known ≡ as_map (lengths_from base entries) };
 
     fn take(&mut self, start: u64, entry: &IndexEntry) -> Result<(), AllocError> {
-        self.items.push((entry.digest, (entry.end - start) as u32))?;
-        Ok(())
+        self.known
+            .add_new(&entry.digest, (entry.end - start) as u32)
     }
 }
 
@@ -45,7 +46,7 @@ impl TakesEntries for Pieces {
 #[derive(Drop)]
 struct Given {
     part: FilePart,
-    pieces: Pieces,
+    pieces: Known,
 }
 
 /// Where the base's file of that name stands.
@@ -76,62 +77,99 @@ fn read_whole<D: Disk>(
     ensures exact { GivesPrevious D.Disk disk.old path.now (Some kind) offset result }
     ensures kind { IfErr result (IfRefused (RefusesPart path.now)) }
     ensures text { MatchResult result (λ g. PartHasText g.part) StopHasText }
-    ensures pieces { IfOk result (λ g. ArePieces (map known_of g.pieces.items.items)) }
+    ensures pieces { IfOk result (λ g. ArePieces g.pieces) }
 {
     let mut pieces = Pieces {
-        items: Vec::new(alloc),
+        known: Known::new(alloc),
     };
     let index = read_index(disk, alloc, path.as_str(), kind, offset, &mut pieces)?;
     Ok(Given {
         part: index.part,
-        pieces,
+        pieces: pieces.known,
     })
 }
 
-/// A part of a file, and its pieces where it is an index.
+/// Whether the file is read whole, as an index of which the writer may not name all pieces yet, and then of which kind.
+fn whole_index(row: &Indexes, name: &FileName) -> Option<IndexKind>
+    ensures { result ≡ whole_for row.now name.now }
+{
+    if row.is_pooled(name) {
+        return None;
+    }
+    kind_of(name)
+}
+
+/// A part of a file, and its pieces where it is an index that is read whole.
 fn read_file<D: Disk>(
     disk: &mut D,
     alloc: Global,
     path: &FilePath,
-    name: &FileName,
+    whole: Option<IndexKind>,
     offset: u64,
 ) -> Result<Given, Stop>
     ensures reads { OnlyReads D.Disk disk.old disk.new (IsErrOf result Stop.DiskFailed) }
-    ensures exact { GivesPrevious D.Disk disk.old path.now (kind_named name.now) offset result }
+    ensures exact { GivesPrevious D.Disk disk.old path.now whole offset result }
     ensures kind { IfErr result (IfRefused (RefusesPart path.now)) }
     ensures text { MatchResult result (λ g. PartHasText g.part) StopHasText }
-    ensures pieces { IfOk result (λ g. ArePieces (map known_of g.pieces.items.items)) }
+    ensures pieces { IfOk result (λ g. ArePieces g.pieces) }
 {
-    if let Some(kind) = kind_of(name) {
+    if let Some(kind) = whole {
         return read_whole(disk, alloc, path, kind, offset);
     }
     let part = read_part(disk, alloc, path.as_str(), offset)?;
-    let pieces = Pieces {
-        items: Vec::new(alloc),
-    };
-    Ok(Given { part, pieces })
+    Ok(Given {
+        part,
+        pieces: Known::new(alloc),
+    })
 }
 
 /// The session's writer may name the pieces from now on. At want of memory the session is as before.
-fn note(session: &mut Session, alloc: Global, pieces: &[(Digest32, u32)]) -> Result<(), AllocError>
+fn note(session: &mut Session, pieces: Known) -> Result<(), AllocError>
     requires writes { MayKnow session.old }
-    requires pieces { ArePieces (map known_of pieces.now) }
-    ensures ok { OnOk result (session.new ≡ with_known (map known_of pieces.now) session.old) }
+    requires pieces { ArePieces pieces }
+    ensures ok { OnOk result (session.new ≡ with_known pieces session.old) }
     ensures err { OnErr result (session.new ≡ session.old) }
 {
     match session {
-        Session::Writer(w) => w.session.previous(alloc, pieces),
+        Session::Writer(w) => w.session.previous(pieces),
         _ => unreachable!(),
     }
+}
+
+/// Of an index that was read whole the session's writer may name all pieces from now on, and the lane keeps its name. Of a
+/// file that was read in part nothing is noted. At want of memory the session and what the lane keeps are as before.
+fn note_whole(
+    session: &mut Session,
+    row: &mut Indexes,
+    alloc: Global,
+    whole: Option<IndexKind>,
+    name: FileName,
+    pieces: Known,
+) -> Result<(), AllocError>
+    requires writes { MayKnow session.old }
+    requires pieces { ArePieces pieces }
+    ensures noted { OnOk result (session.new ≡ known_by_whole whole pieces session.old) }
+    ensures kept { OnOk result (row.new ≡ kept_by_whole whole name row.old) }
+    ensures unnoted { OnErr result (session.new ≡ session.old) }
+    ensures unkept { OnErr result (row.new ≡ row.old) }
+{
+    if whole.is_none() {
+        return Ok(());
+    }
+    let pooling = row.pooling(alloc, name)?;
+    note(session, pieces)?;
+    *row = pooling;
+    Ok(())
 }
 
 /// A part of a file of the snapshot that the lane's writer has as base. It reads the disk, and writes nothing.
 ///
 /// The part is what is left of the file's text from the offset, in bytes, and no more than 4,194,304 bytes. The writer
-/// may name the pieces of an index from then on, whatever the offset. The refusals, in the order in which they are
-/// tested: the lane has no writer; the text is no file's name; the writer has no base; the base has no such file;
-/// nothing stands where it was put; the offset is beyond its size; the file gives fewer bytes than its size says, or is
-/// no index of its name's kind. After a refusal, and at want of memory, the writer may name what it might name before.
+/// may name the pieces of an index from then on, whatever the offset: it is read whole once, and then in parts. The
+/// refusals, in the order in which they are tested: the lane has no writer; the text is no file's name; the writer has no
+/// base; the base has no such file; nothing stands where it was put; the offset is beyond its size; the file gives fewer
+/// bytes than its size says, or is no index of its name's kind, where it is read whole. After a refusal, and at want of
+/// memory, the writer may name what it might name before, and the lane keeps the names of indexes that it kept.
 pub fn previous<D: Disk>(
     parts: &mut Parts<D>,
     alloc: Global,
@@ -143,19 +181,26 @@ pub fn previous<D: Disk>(
     ensures does { PlainDoes D.Disk parts.old parts.new at (Previous name.now offset) result }
     ensures leaves { PlainLeaves D.Disk parts.old parts.new at (Previous name.now offset) result }
     // it is unreadable exactly where it is, as far as the disk tells
-    ensures unreadable { ActUnreadable D.Disk (asked_of_base name.now offset) parts.old at result }
+    ensures unreadable { ActUnreadable D.Disk
+        (asked_of_base (row_at parts.old at.lane) name.now offset) parts.old at result }
+    // what the lane keeps of indexes then
+    ensures notes { NotesPooled parts.old parts.new at name.now result }
 {
     parts.writer(at.lane)?;
     let name = file_name(alloc, name)?;
-    let Session::Writer(w) = &parts.sessions[at.lane as usize] else {
+    let lane = at.lane as usize;
+    let Session::Writer(w) = &parts.sessions[lane] else {
         unreachable!();
     };
     let path = base_file(&parts.catalogue, w.session.base(), &name)?;
-    let given = read_file(&mut parts.disk, alloc, path, &name, offset)?;
-    let session = &mut parts.sessions[at.lane as usize];
-    note(session, alloc, &given.pieces.items)?;
+    let whole = whole_index(&parts.indexes[lane], &name);
+    let given = read_file(&mut parts.disk, alloc, path, whole, offset)?;
+    let Given { part, pieces } = given;
+    let session = &mut parts.sessions[lane];
+    let row = &mut parts.indexes[lane];
+    note_whole(session, row, alloc, whole, name, pieces)?;
     Ok(Reply::Part {
-        total: given.part.total,
-        bytes: given.part.bytes,
+        total: part.total,
+        bytes: part.bytes,
     })
 }

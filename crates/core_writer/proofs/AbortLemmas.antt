@@ -1,5 +1,5 @@
 -- ABORT is the store's, and what it and a lane's end change.
-use Rattle.std.proofs.Common.{◌≡◌, ◌<◌, ℕ, true, false, List, Option, Ok, Err, IsErrAnd, refl, sym, ap, subst, ◌∙◌, inl, inr, ⊎_elim, arith}
+use Rattle.std.proofs.Common.{◌≡◌, ◌<◌, ℕ, true, false, List, Option, Ok, Err, IsErrAnd, refl, sym, ap, subst, ◌∙◌, inl, inr, ⊎_elim, arith, set}
 use Rattle.std.specs.Prelude.{IsErrOf, IsErr, IsOk, is_err, is_ok}
 use Rattle.std.specs.FinMap.{get}
 use Rattle.sha2.specs.Sha256.{sha256}
@@ -42,6 +42,8 @@ use Rattle.core_state.specs.Commands.{ActDoes, ActLeaves}
 use Rattle.core_state.specs.Holds.{Does, Holds, Shows}
 use Rattle.core_state.specs.Unchanged.{SameKept}
 use Rattle.core_state.specs.Wanted.{session_at}
+use Rattle.core_state.specs.declared.indexes.Indexes.TheVariants.{Unread}
+use Rattle.core_state.proofs.Rows.{rows_but}
 use Rattle.core_state.proofs.Commanding.{failed_does, failed_leaves, writes_does, writes_leaves, not_still}
 use Rattle.core_state.proofs.Texts.{done_has_text}
 use Rattle.core_writer.specs.Ended.{files_in}
@@ -117,14 +119,15 @@ module _ {D : Type 0} (d : Ghosts D) where
 
   pub end_leaves : (old new : Parts D) (at : Place) (removed : D) → new.disk ≡ removed → LeavesBy d old.disk removed (MayLose (put_paths (files_in (session_at old at.lane))))
       → (d.honest old.disk → d.content removed ≡ without (put_paths (files_in (session_at old at.lane))) (d.content old.disk))
-      → new.catalogue.listed ≡ old.catalogue.listed → session_at new at.lane ≡ Idle → ActLeaves d old new at acts.End (Ok Done)
-  end_leaves old new at removed same crash content c idle =
+      → new.catalogue.listed ≡ old.catalogue.listed → session_at new at.lane ≡ Idle → new.indexes.items ≡ set old.indexes.items at.lane Unread → ActLeaves d old new at acts.End (Ok Done)
+  end_leaves old new at removed same crash content c idle emptied =
       let reads : d.honest old.disk → d.content new.disk ≡ without (put_paths (files_in (session_at old at.lane))) (d.content old.disk) = λ h. ap d.content same ∙ content h in
       writes_leaves d old new at acts.End Done tt refl
       (λ h. after_end (session_at old at.lane) (d.content old.disk) (d.content new.disk) (reads h))
       (subst (λ x. LeavesChange d old.disk x (ends_by (session_at old at.lane))) (sym same) (leaves_end (session_at old at.lane) old.disk removed crash))
       (firm_end (session_at old at.lane) old.disk new.disk) c (not_still acts.End refl)
       (λ s h. adds_less (d.content old.disk) (d.content new.disk) (put_paths (files_in (session_at old at.lane))) acts.End (reads h.honest)) (λ _. idle) (λ writes. cc)
+      (rows_but old new.indexes.items at.lane acts.End Unread refl emptied)
 
   pub end_fails : (old new : Parts D) (at : Place) (removed result : Result (Unit {0}) Failed) (e f : Failed) → removed ≡ Err e → IsErrAnd result (λ x. x ≡ f) → Serves d.honest d.faults old.disk new.disk (IsErr removed) → SameKept old new
       → ActDoes d old new at acts.End (ended_as result)
@@ -179,6 +182,7 @@ module _ {D : Type 0} (d : Ghosts D) where
         closed = λ _. ends.ended refl;
         ended = λ _. ends.ended refl;
         writes = λ writes. cc;
+        rows = ends.rows;
       }
 
   -- the disk failed
@@ -216,4 +220,5 @@ module _ {D : Type 0} (d : Ghosts D) where
         closed = λ _. tt;
         ended = λ _. tt;
         writes = λ _. tt;
+        rows = ends.rows;
       })

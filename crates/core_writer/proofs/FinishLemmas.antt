@@ -72,7 +72,11 @@ use Rattle.store_history.specs.declared.act.Act.TheVariants as acts
 use Rattle.sha2.specs.Sha256.{sha256}
 use Rattle.blob_codec.specs.Blob as blobs
 use Rattle.core_state.specs.Replies.{refuses_finish}
-use Rattle.core_state.proofs.Readers.{sessions_finished}
+use Rattle.core_state.specs.declared.indexes.Indexes.{Indexes}
+use Rattle.core_state.specs.declared.indexes.Indexes.TheVariants.{Unread}
+use Rattle.core_state.specs.Indexed.{FitsRows}
+use Rattle.core_state.proofs.Readers.{finished_stays, sessions_finished}
+use Rattle.core_state.proofs.Rows.{rows_among, rows_set}
 use Rattle.core_state.proofs.Texts.{wrong_state_has_text, no_file_has_text, open_indexes_has_text, bad_manifest_has_text, mismatch_has_text}
 use Rattle.core_state.specs.Catalogue.{insert_listed, listed_of, closed}
 use Rattle.core_state.specs.Changes as changes
@@ -380,15 +384,22 @@ module _ {D : Type 0} (old : Parts D) (s : Store) (at : Place) (w : Writing) (sh
       let done : finish s at.lane ≡ Ok (finished s at.lane shown_by.0, Done) = finishes s at.lane at.moment shown_by.0 t.0 shown_by.1 t.1 in
       subst IsOk (sym done) refl
 
+-- what the other lanes keep of indexes is of their sessions then too
+finished_rows : (s : Store) (lane : ℕ) (w : Writer) (rows : List Indexes) → IsSound s → session s lane ≡ writer w → lane < length s.sessions → lane < length rows → FitsRows s rows
+    → FitsRows (finished s lane w) (set rows lane Unread)
+finished_rows s lane w rows sound at within there fit =
+    let put : Store = record s { snapshots = insert_snapshot (snapshot_of w) s.snapshots } in
+    rows_set put lane none rows within (rows_among s put rows refl (λ i key uses y found. finished_stays s lane w sound at key y found) fit) Unread there tt
+
 -- ---- the act
 
 module _ {D : Type 0} (d : Ghosts D) where
   finish_stands : (old new : Parts D) (s : Store) (lane moment number : ℕ) (w : Writer) (path text : List ℕ) (listing : Manifest) → lane < 64 → session s lane ≡ writer w → finish_check w ≡ Ok listing → kept_manifest (shown_writer w) ≡ Some (path, text)
       → (d.honest old.disk → d.content new.disk ≡ installed (d.content old.disk) path text)
-      → new.catalogue.listed ≡ closed number (session_at old lane) old.catalogue.listed → new.sessions.items ≡ set old.sessions.items lane sessions.Idle → Releases old.locks new.locks lane
+      → new.catalogue.listed ≡ closed number (session_at old lane) old.catalogue.listed → new.sessions.items ≡ set old.sessions.items lane sessions.Idle → Releases old.locks new.locks lane → new.indexes.items ≡ set old.indexes.items lane Unread
       → Holds d old s → (after : Store) × (outcome s lane moment Finish ≡ Ok (after, Done)) × plain.Shows new after × IsOnDisk (d.content new.disk) after
   unfolding shown
-  finish_stands old new s lane moment number w path text listing lt at check manifest put c l k h =
+  finish_stands old new s lane moment number w path text listing lt at check manifest put c l k rows h =
       let sound = (h.shows).sound in
       let m = has_manifest w path text manifest in
       let is : session_at old lane ≡ sessions.Writer (shown_writer w) = session_shown old s lane h.shows lt ∙ ap (shown_session s.snapshots) at in
@@ -402,6 +413,7 @@ module _ {D : Type 0} (d : Ghosts D) where
               ∙ ap (insert_kept (shown_snapshot (snapshot_of w))) (h.shows).catalogue ∙ sym (shown_listed (snapshot_of w) s.snapshots);
           sessions = l ∙ ap (λ k. set k lane sessions.Idle) ((h.shows).sessions ∙ sym (sessions_finished s lane w sound at)) ∙ sym (shown_set (insert_snapshot (snapshot_of w) s.snapshots) s lane none);
           locks = record { groups = locks.groups; shared = locks.shared };
+          indexes = subst (FitsRows (finished s lane w)) (sym rows) (finished_rows s lane w old.indexes.items sound at within (omega (arith, old.rows, old.indexes.ok.0, lt)) (h.shows).indexes);
           sound = sound_finished s lane w path text listing lt sound at m check;
         },
         subst (λ f. IsOnDisk f (finished s lane w)) (sym now) (finished_on_disk s lane w path text listing lt sound at m check (d.content old.disk) h.files),
@@ -410,12 +422,12 @@ module _ {D : Type 0} (d : Ghosts D) where
   pub finish_done : (old new : Parts D) (s : Store) (at : Place) (w : Writing) (path text : List ℕ) → Holds d old s → at.lane < 64 → want_writer (session_at old at.lane) ≡ Ok w
       → ((v : Writer) → Shows (w.session).writer v → TestedBy (finish_check v) (Ok tt)) → manifest_in (session_at old at.lane) ≡ Some (path, text)
       → (d.honest old.disk → d.content new.disk ≡ installed (d.content old.disk) path text)
-      → new.catalogue.listed ≡ closed at.number (session_at old at.lane) old.catalogue.listed → new.sessions.items ≡ set old.sessions.items at.lane sessions.Idle → Releases old.locks new.locks at.lane
+      → new.catalogue.listed ≡ closed at.number (session_at old at.lane) old.catalogue.listed → new.sessions.items ≡ set old.sessions.items at.lane sessions.Idle → Releases old.locks new.locks at.lane → new.indexes.items ≡ set old.indexes.items at.lane Unread
       → (after : Store) × (outcome s at.lane at.moment Finish ≡ Ok (after, Done)) × plain.Shows new after × IsOnDisk (d.content new.disk) after
-  finish_done old new s at w path text h lt is plainly kept put c l k =
+  finish_done old new s at w path text h lt is plainly kept put c l k rows =
       let f = shown_by old s at w h.shows lt is in
       let t = tested old s at w h.shows lt is (Ok tt) plainly in
-      finish_stands old new s at.lane at.moment at.number f.0 path text t.0 lt f.1 t.1 (sym (kept_is old s at w h.shows lt is) ∙ kept) put c l k h
+      finish_stands old new s at.lane at.moment at.number f.0 path text t.0 lt f.1 t.1 (sym (kept_is old s at w h.shows lt is) ∙ kept) put c l k rows h
 
   -- the manifest is put under no chunk's name
   pub finish_adds : (old : Parts D) (n : Files) (lane : ℕ) (path text : List ℕ) → lane < 64 → manifest_in (session_at old lane) ≡ Some (path, text)

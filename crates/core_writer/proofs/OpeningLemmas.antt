@@ -33,6 +33,8 @@ use Rattle.core_state.specs.declared.parts.Parts.{Parts}
 use Rattle.core_state.specs.Shown.{shown_snapshot}
 use Rattle.core_state.specs.Holds.{IsSound, IsWriter, Shows, IsOnDisk, HasUploads, Holds}
 use Rattle.core_state.proofs.LockLemmas.{idle_holds, locked_writer, no_holder}
+use Rattle.core_state.specs.Indexed.{FitsRows}
+use Rattle.core_state.proofs.Rows.{rows_begun}
 use Rattle.core_state.proofs.Soundness.{IsAlone, sound_writer, disk_writer, shows_changed}
 use Rattle.core_state.specs.Wanted.{session_at}
 use Rattle.core_state.proofs.Commanding.{idle_shown}
@@ -167,9 +169,9 @@ module _ {D : Type 0} (g : Ghosts D) where
   pub opens : (old new : Parts D) (s : Store) (lane moment : ℕ) (text : List ℕ) (key : SnapshotKey) (base : Option SnapshotKey) (y : Session) (reply : Reply)
       → lane < 64 → want_idle (session_at old lane) ≡ Ok tt → key_of text ≡ Some key → IsKey key
       → base_kept (map (λ x. x.kept) old.catalogue.listed) (other_than lane (book.group_holder old.locks (group_of_key key))) key ≡ Ok base
-      → new.catalogue.listed ≡ old.catalogue.listed → new.sessions.items ≡ set old.sessions.items lane y → TakesWriter old.locks new.locks lane (group_of_key key) base → y ≡ kept.Writer (new_writing key moment base) → shows.Shows (rows.opened key moment base) (new_writer key moment base) → reply ≡ Base (base_text base)
+      → new.catalogue.listed ≡ old.catalogue.listed → new.sessions.items ≡ set old.sessions.items lane y → new.indexes.items ≡ old.indexes.items → TakesWriter old.locks new.locks lane (group_of_key key) base → y ≡ kept.Writer (new_writing key moment base) → shows.Shows (rows.opened key moment base) (new_writer key moment base) → reply ≡ Base (base_text base)
       → Holds g old s → (after : Store) × (outcome s lane moment (OpenWriter text) ≡ Ok (after, reply)) × Shows new after × IsOnDisk (g.content old.disk) after
-  opens old new s lane moment text key base y reply lt idle named is_key tested c l k y_is shown reply_is h =
+  opens old new s lane moment text key base y reply lt idle named is_key tested c l rows k y_is shown reply_is h =
       let sound = (h.shows).sound in
       let within : lane < length s.sessions = omega (arith, sound.lanes, lt) in
       let none = idle_shown old s lane h.shows lt idle in
@@ -182,6 +184,7 @@ module _ {D : Type 0} (g : Ghosts D) where
       let locks = locked_writer old.locks new.locks s lane w within sound sound_after none k (h.shows).locks in (
         with_session s lane (writer w),
         opened s lane moment text key base idle2 named tested2 ∙ ap (λ r. Ok (with_session s lane (writer w), r)) (sym reply_is),
-        shows_changed old new s lane (writer w) y c l (y_is ∙ ap (λ v. kept.Writer (record { session = settled v; files = [] })) shown.same) locks sound_after h.shows,
+        shows_changed old new s lane (writer w) y c l (y_is ∙ ap (λ v. kept.Writer (record { session = settled v; files = [] })) shown.same) locks
+            (subst (FitsRows (with_session s lane (writer w))) (sym rows) (rows_begun s lane old.indexes.items within (h.shows).indexes (writer w) none)) sound_after h.shows,
         disk_writer (g.content old.disk) s lane w within (no_uploads (g.content old.disk) key moment base) h.files,
       )

@@ -13,7 +13,7 @@ ghost use Rattle.core_state.specs.Replies.{refuses_finish};
 ghost use Rattle.core_writer.specs.Finished.{ChecksPlainly, lent_file, manifest_among, manifest_in};
 ghost use Rattle.core_writer.specs.Stopping.{StopsBy};
 
-use core_state::{Catalogue, Kept, Listed, Parts, Place, Session, StoredFile, Writing};
+use core_state::{Catalogue, Indexes, Kept, Listed, Parts, Place, Session, StoredFile, Writing};
 use disk_trait::Disk;
 use snapshot_files::FilePath;
 use std::alloc::Global;
@@ -95,6 +95,7 @@ pub fn finish<D: Disk>(parts: &mut Parts<D>, alloc: Global, at: Place) -> Result
     snapshot_files::finish(&mut parts.disk, alloc, path, text)?;
     let session = &mut parts.sessions[at.lane as usize];
     close(&mut parts.catalogue, session, at.number);
+    parts.indexes[at.lane as usize] = Indexes::Unread;
     parts.locks.release(at.lane);
     Ok(Reply::Done)
 }

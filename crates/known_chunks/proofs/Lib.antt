@@ -1,2 +1,2 @@
 mod Entries
-mod Without
+pub mod Pools

@@ -67,15 +67,15 @@ module _ {T : Type 0} (taken : T → ℕ → List Ended → Type 0) where
   unfolding HandsRest
   rest_none first all initial start rest now is before = before now (hands_none start rest now is)
 
-  -- so many entries at the most were taken, and the last ends there
-  pub record SomeTaken (limit end : ℕ) (old new : T) : Type 0 where
+  -- so many entries were taken, and the last ends there
+  pub record SomeTaken (many end : ℕ) (old new : T) : Type 0 where
     pub entries : List Ended
-    pub len : length entries ≤ limit
+    pub len : length entries ≡ many
     pub steps : stepped 0 entries ≡ Some end
     pub hands : HandsOn taken 0 entries old new
 
-  pub some_none : (limit : ℕ) (a : T) → SomeTaken limit 0 a a
-  some_none limit a = record { entries = []; len = omega arith; steps = refl; hands = hands_none 0 [] a refl }
+  pub some_none : (many : ℕ) (a : T) → many ≡ 0 → SomeTaken many 0 a a
+  some_none many a none = record { entries = []; len = sym none; steps = refl; hands = hands_none 0 [] a refl }
 
   pub some_more : (count i start end : ℕ) (page : List Ended) (a b c : T) → i < page_count count → length page ≡ entries_at count i → stepped start page ≡ Some end
       → HandsOn taken start page b c → SomeTaken (min count (i * 1024)) start a b → SomeTaken (min count ((i + 1) * 1024)) end a c
@@ -91,9 +91,10 @@ module _ {T : Type 0} (taken : T → ℕ → List Ended → Type 0) where
       last_is : (es : List Ended) (last : ℕ) → stepped 0 es ≡ Some last → last ≡ last_end 0 es
       last_is es last is = stepped_last 0 last es is
 
-  pub some_all : (count limit end : ℕ) (old new : T) → count ≤ entry_limit → limit ≤ count → SomeTaken limit end old new → HandsSome taken old new
-  some_all count limit end old new most le is = record {
+  pub some_all : (count many end : ℕ) (old new : T) → count ≤ entry_limit → many ≡ count → SomeTaken many end old new → HandsSome taken count old new
+  some_all count many end old new most all is = record {
     entries = is.entries;
-    fit = record { limit = omega (arith, most, le, is.len); steps = stepped_fits 0 is.entries ∙ ap (λ o. is_some o) is.steps };
+    many = is.len ∙ all;
+    fit = record { limit = omega (arith, most, all, is.len); steps = stepped_fits 0 is.entries ∙ ap (λ o. is_some o) is.steps };
     hands = is.hands;
   }

@@ -36,10 +36,11 @@ opened m name = opened_by dynamic_of (dynamic_paged name) (get m name)
 abbrev pub OpensDynamic : {D : Type 0} → Ghosts D → D → List ℕ → Result DynamicPaged PageFault → Type 0
 OpensDynamic d disk name result = d.honest disk → Gives (λ pages. pages) result (opened (d.content disk) name)
 
--- as many ends as pages, of which none is before the one in front of it
-pub record HasEnds (count : ℕ) (ends : List ℕ) : Type 0 where
-  pub limit : count ≤ entry_limit
-  pub len : length ends ≡ page_count count
+-- an entry has 40 bytes; as many ends as pages, of which none is before the one in front of it
+pub record HasEnds (p : Paged) (ends : List ℕ) : Type 0 where
+  pub width : p.width ≡ 40
+  pub limit : p.count ≤ entry_limit
+  pub len : length ends ≡ page_count p.count
   pub rises : IsNonDecreasingBy (λ (n : ℕ). n) ends
 
 -- the archive's size: where the last page ends

@@ -1,5 +1,5 @@
 -- The entries of an index as they are handed on, page by page.
-use Rattle.std.specs.Prelude.{◌≡◌, ℕ, ◌+◌, ◌<◌, ◌≤◌, List, ◌++◌, Some, Result, Ok, Err}
+use Rattle.std.specs.Prelude.{◌≡◌, ℕ, ◌+◌, ◌<◌, ◌≤◌, List, ◌++◌, length, Some, Result, Ok, Err}
 use Rattle.std.specs.FinMap.{get}
 use Rattle.disk_trait.specs.declared.disk.Disk.{Ghosts}
 use Rattle.store_files.specs.DynamicIndex.{Ended}
@@ -21,9 +21,10 @@ IsStep start end = (start < end) × (end ≤ start + 16_777_216)
 abbrev pub HandsOn : {T : Type 0} → (T → ℕ → List Ended → Type 0) → ℕ → List Ended → T → T → Type 0
 HandsOn taken start entries old new = (base : ℕ) (before : List Ended) → taken old base before → last_end base before ≡ start → taken new base (before ++ entries)
 
--- entries that an archive may have are taken
-pub record HandsSome {T : Type 0} (taken : T → ℕ → List Ended → Type 0) (old new : T) : Type 0 where
+-- so many entries that an archive may have are taken
+pub record HandsSome {T : Type 0} (taken : T → ℕ → List Ended → Type 0) (count : ℕ) (old new : T) : Type 0 where
   pub entries : List Ended
+  pub many : length entries ≡ count
   pub fit : FitsIndex entries
   pub hands : HandsOn taken 0 entries old new
 

@@ -24,6 +24,11 @@ abbrev pub pages_by : IndexPages → Paged
 pages_by (pages.Fixed p) = p.pages
 pages_by (pages.Dynamic p) = p.pages
 
+-- the bytes of an entry are those of its kind
+abbrev pub HasWidth : IndexPages → Type 0
+HasWidth (pages.Fixed p) = (p.pages).width ≡ 32
+HasWidth (pages.Dynamic p) = (p.pages).width ≡ 40
+
 abbrev pub size_by : IndexPages → ℕ
 size_by (pages.Fixed p) = p.size
 size_by (pages.Dynamic p) = dynamics.size_by p.ends

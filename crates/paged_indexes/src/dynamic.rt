@@ -38,7 +38,7 @@ impl Model for DynamicPages {
 
     ghost view = { λ p. record { pages = p.pages; ends = p.ends.items } };
 
-    ghost invariant = { λ p. HasEnds (p.pages).count p.ends.items };
+    ghost invariant = { λ p. HasEnds p.pages p.ends.items };
 }
 
 impl DynamicPages {
@@ -67,7 +67,8 @@ impl DynamicPages {
         ensures those { IfOk result (λ _. HandsThose D.Disk disk.old name.now
             dynamic_entries T.taken taker.old taker.new) }
         // on any disk
-        ensures some { IfOk result (λ _. HandsSome T.taken taker.old taker.new) }
+        ensures some { IfOk result
+            (λ pages. HandsSome T.taken pages.pages.count taker.old taker.new) }
     {
         let mut room = Page::new(alloc)?;
         let head = read_head(disk, name, &mut room)?;
@@ -85,9 +86,11 @@ impl DynamicPages {
         })
     }
 
-    /// How many entries there are.
+    /// How many entries there are, each of 40 bytes.
     pub fn len(&self) -> u32
-        ensures { result ≡ self.now.pages.count }
+        ensures value { result ≡ self.now.pages.count }
+        ensures limit { result ≤ 1_048_576 }
+        ensures width { self.now.pages.width ≡ 40 }
     {
         self.pages.len()
     }

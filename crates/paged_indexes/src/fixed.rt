@@ -68,7 +68,8 @@ impl FixedPages {
         ensures those { IfOk result (λ _. HandsThose D.Disk disk.old name.now
             fixed_entries T.taken taker.old taker.new) }
         // on any disk
-        ensures some { IfOk result (λ _. HandsSome T.taken taker.old taker.new) }
+        ensures some { IfOk result
+            (λ pages. HandsSome T.taken pages.pages.count taker.old taker.new) }
     {
         let mut room = Page::new(alloc)?;
         let head = read_head(disk, name, &mut room)?;
@@ -95,9 +96,11 @@ impl FixedPages {
         })
     }
 
-    /// How many entries there are.
+    /// How many entries there are, each of 32 bytes.
     pub fn len(&self) -> u32
-        ensures { result ≡ self.now.pages.count }
+        ensures value { result ≡ self.now.pages.count }
+        ensures limit { result ≤ 1_048_576 }
+        ensures width { self.now.pages.width ≡ 32 }
     {
         self.pages.len()
     }
@@ -211,7 +214,7 @@ fn read_body<D: Disk, T: TakesEntries>(
         cut T.taken taker.old taker.new) }
     // on any disk
     ensures sums { IfOk result (λ b. length b.sums.items ≡ page_count count) }
-    ensures some { IfOk result (λ _. HandsSome T.taken taker.old taker.new) }
+    ensures some { IfOk result (λ _. HandsSome T.taken count taker.old taker.new) }
 {
     let pages = pages_in(count);
     let mut opening = Opening::begin(alloc, pages)?;

@@ -1,12 +1,12 @@
 //! An index of either kind.
 
-ghost use Rattle.std.specs.Prelude.{◌≡◌, ◌<◌, [], length, IfOk, IsErrOf, IsTrue, OnErr, OnOk};
+ghost use Rattle.std.specs.Prelude.{◌≡◌, ◌<◌, ◌≤◌, [], length, IfOk, IsErrOf, IsTrue, OnErr, OnOk};
 ghost use Rattle.disk_trait.specs.Disk.{TicksOnce};
 ghost use Rattle.disk_trait.specs.Effects.{OnlyReads};
 ghost use Rattle.index_pages.specs.declared.fault.PageFault.TheVariants.{Failed as ReadFailed, NoMemory as NoRoom};
 ghost use Rattle.index_pages.specs.Paged.{ReadsPage, is_kept, page_count, page_len};
 ghost use Rattle.paged_indexes.specs.Handing.{HandsSome, HandsTold};
-ghost use Rattle.paged_indexes.specs.Index.{HandsEntries, HandsKept, OpensIndex, ReadsInto, page_behind, pages_by, size_by, start_by, told_by};
+ghost use Rattle.paged_indexes.specs.Index.{HandsEntries, HandsKept, HasWidth, OpensIndex, ReadsInto, page_behind, pages_by, size_by, start_by, told_by};
 
 use crate::dynamic::DynamicPages;
 use crate::fixed::FixedPages;
@@ -38,7 +38,8 @@ impl IndexPages {
         ensures those { IfOk result (λ _. HandsEntries D.Disk disk.old name.now kind
             T.taken taker.old taker.new) }
         // on any disk
-        ensures some { IfOk result (λ _. HandsSome T.taken taker.old taker.new) }
+        ensures some { IfOk result
+            (λ pages. HandsSome T.taken (pages_by pages).count taker.old taker.new) }
     {
         match kind {
             IndexKind::Fixed => {
@@ -52,9 +53,11 @@ impl IndexPages {
         }
     }
 
-    /// How many entries there are.
+    /// How many entries there are: of a fixed index each of 32 bytes, of a dynamic one of 40.
     pub fn len(&self) -> u32
-        ensures { result ≡ (pages_by self.now).count }
+        ensures value { result ≡ (pages_by self.now).count }
+        ensures limit { result ≤ 1_048_576 }
+        ensures width { HasWidth self.now }
     {
         match self {
             IndexPages::Fixed(pages) => pages.len(),

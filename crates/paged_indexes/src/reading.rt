@@ -102,7 +102,7 @@ pub fn read_body<D: Disk, T: TakesEntries>(
     ensures sums { IfOk result (λ b. length b.body.sums.items ≡ page_count count) }
     ensures ends { IfOk result (λ b. length b.ends.items ≡ page_count count) }
     ensures rises { IfOk result (λ b. IsNonDecreasingBy (λ n. n) b.ends.items) }
-    ensures some { IfOk result (λ _. HandsSome T.taken taker.old taker.new) }
+    ensures some { IfOk result (λ _. HandsSome T.taken count taker.old taker.new) }
     ensures those { IfOk result (λ _. HandsBody D.Disk disk.old name.now count
         T.taken taker.old taker.new) }
 {

@@ -17,6 +17,8 @@ use Rattle.store_history.specs.Acts.{family_of}
 use Rattle.core_state.specs.declared.kept.Listed.{Listed}
 use Rattle.core_state.specs.declared.kept.Session.{Session}
 use Rattle.core_state.specs.declared.state.Core.{Core}
+use Rattle.core_state.specs.declared.indexes.Indexes.{Indexes}
+use Rattle.core_state.specs.Indexed.{row_at}
 use Rattle.core_state.specs.Answers.{HasCause, done, short, failed, halted, EndHasCause, ended, end_failed, StartHasCause, start_opens, start_as_any, StepHasCause, step_passes, step_ends, step_as_any, IsCaused}
 use Rattle.core_state.specs.Commands.{is_remotes}
 use Rattle.core_state.specs.Replies.{may_answer, may_end}
@@ -96,11 +98,11 @@ never_damaged (JobGroup (Prune group keep dry)) digest found other = refl
 never_damaged (JobGroup command) digest found other = refl
 never_damaged act digest found other = refl
 
-no_damage : (act : Act) (session : Session) (catalogue : List Listed) (files : Files) → (family_of act ≡ Reads → ⊥) → damage_by act session catalogue files ≡ None
-no_damage (Plain (GetChunk id)) session catalogue files other = absurd (other refl)
-no_damage (Plain (Range file offset len)) session catalogue files other = absurd (other refl)
-no_damage (ReadChunk name entry) session catalogue files other = absurd (other refl)
-no_damage act session catalogue files other = refl
+no_damage : (row : Indexes) (act : Act) (session : Session) (catalogue : List Listed) (files : Files) → (family_of act ≡ Reads → ⊥) → damage_by row act session catalogue files ≡ None
+no_damage row (Plain (GetChunk id)) session catalogue files other = absurd (other refl)
+no_damage row (Plain (Range file offset len)) session catalogue files other = absurd (other refl)
+no_damage row (ReadChunk name entry) session catalogue files other = absurd (other refl)
+no_damage row act session catalogue files other = refl
 
 some_damage : (digest : Digest32) (found : ChunkFault) → ◌≡◌ {A = Option (Digest32 × ChunkFault)} None (Some (digest, found)) → ⊥
 some_damage digest found e = cc
@@ -111,7 +113,7 @@ tells_whole d old new lane act answer other alone cause = record {
   named = λ digest found e. absurd (never digest found e);
   cause = λ digest found e h. absurd (never digest found e);
   damaged = λ digest found k h at.
-      absurd (some_damage digest found (sym (no_damage act (session_at old.parts lane) (old.parts).catalogue.listed (d.content (old.parts).disk) other) ∙ at));
+      absurd (some_damage digest found (sym (no_damage (row_at old.parts lane) act (session_at old.parts lane) (old.parts).catalogue.listed (d.content (old.parts).disk) other) ∙ at));
 }
   where
     never : (digest : Digest32) (found : ChunkFault) → answer.reply ≡ Some (Refused (Damaged digest found)) → ⊥

@@ -16,6 +16,8 @@ use Rattle.core_state.specs.declared.kept.Listed.{Listed}
 use Rattle.core_state.specs.declared.kept.Session.{Session}
 use Rattle.core_state.specs.declared.state.Core.{Core}
 use Rattle.core_state.specs.declared.entering.Admitted.TheVariants.{Answered}
+use Rattle.core_state.specs.declared.indexes.Indexes.{Indexes}
+use Rattle.core_state.specs.Indexed.{row_at}
 use Rattle.core_state.specs.Applies.{ActApplies, ActKeeps}
 use Rattle.core_state.specs.Begins.{AdmittedHasText, IsNotShort, IsShort, Refuses, short}
 use Rattle.core_state.specs.Closing.{closes, is_closing}
@@ -63,10 +65,10 @@ no_reads act is reads = off is
 no_short : {P : Type 0} (act : Act) → is_listing act ≡ true → act ≡ Short → P
 no_short act is wants = off (sym (ap is_listing wants) ∙ is)
 
-asks_none : (act : Act) (lane : ℕ) (collector : Option Collector) (session : Session) (catalogue : List Listed) → is_listing act ≡ true → asked act lane collector session catalogue ≡ None
-asks_none (Plain Finish) lane collector session catalogue is = refl
-asks_none (Plain (Forget snapshot)) lane collector session catalogue is = refl
-asks_none act lane collector session catalogue is = off is
+asks_none : (row : Indexes) (act : Act) (lane : ℕ) (collector : Option Collector) (session : Session) (catalogue : List Listed) → is_listing act ≡ true → asked row act lane collector session catalogue ≡ None
+asks_none row (Plain Finish) lane collector session catalogue is = refl
+asks_none row (Plain (Forget snapshot)) lane collector session catalogue is = refl
+asks_none row act lane collector session catalogue is = off is
 
 no_command : {P : Type 0} (kind : ℕ) → kind ≡ MEMORY_KIND → kind ≡ COMMAND_KIND → P
 no_command kind two none = absurd (apart (sym two ∙ none))
@@ -96,7 +98,7 @@ module _ {D E C : Type 0} (d : Ghosts D) (e : Ghosts E) (clock : clocks.Ghosts C
         alone = λ alone. applies;
         keeps = keeps;
         unreadable = λ alone.
-            subst (λ a. TellsUnreadable d (old.parts).disk a (answer.entry).kind answer.reply) (sym (asks_none act lane old.collector (session_at old.parts lane) (old.parts).catalogue.listed listing))
+            subst (λ a. TellsUnreadable d (old.parts).disk a (answer.entry).kind answer.reply) (sym (asks_none (row_at old.parts lane) act lane old.collector (session_at old.parts lane) (old.parts).catalogue.listed listing))
             (short_asks_none d old new (old.parts).disk answer (is.entered).reply_is);
         damaged = λ alone. tells_whole d old new lane act answer (no_reads act listing) alone applies.cause;
         from_state = answers act listing;

@@ -1,10 +1,8 @@
 mod Texts
 mod PartLemmas
-mod Entries
 pub mod Indexed
 pub mod Opened
 pub mod Archives
-pub mod EntryLemmas
 pub mod PathLengths
 pub mod Placing
 pub mod Losing

@@ -1,7 +1,6 @@
 pub mod Effects
 pub mod Forgotten
 pub mod Indexes
-pub mod Entry
 pub mod Parts
 pub mod Reads
 pub mod Scanned

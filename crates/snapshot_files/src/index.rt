@@ -75,7 +75,8 @@ pub fn open_index<D: Disk, T: TakesEntries>(
     ensures those { IfOk result
         (λ _. HandsEntries D.Disk disk.old path.now kind T.taken taker.old taker.new) }
     // on any disk
-    ensures some { IfOk result (λ _. HandsSome T.taken taker.old taker.new) }
+    ensures some { IfOk result
+        (λ pages. HandsSome T.taken (pages_by pages).count taker.old taker.new) }
     ensures refusal { IfErr result (IfRefused (λ refusal. refusal ≡ UnreadableAt path.now)) }
     ensures text { IfErr result StopHasText }
 {
@@ -140,7 +141,8 @@ pub fn read_index<D: Disk, T: TakesEntries>(
     ensures exact { ReadsIndex D.Disk disk.old path.now kind offset
         T.taken taker.old taker.new result }
     // on any disk
-    ensures some { IfOk result (λ _. HandsSome T.taken taker.old taker.new) }
+    ensures some { IfOk result
+        (λ index. HandsSome T.taken (pages_by index.pages).count taker.old taker.new) }
     ensures kind { IfErr result (IfRefused (RefusesPart path.now)) }
     ensures text { MatchResult result (λ index. PartHasText index.part) StopHasText }
 {

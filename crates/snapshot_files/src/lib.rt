@@ -3,7 +3,6 @@
 //! A snapshot is finished where its manifest stands: the manifest is put last, and goes first.
 #![tactic(auto)]
 
-mod entry;
 mod forgetting;
 mod found;
 mod grouping;
@@ -14,12 +13,11 @@ mod path;
 mod putting;
 mod scanning;
 
-pub use entry::read_entry;
 pub use forgetting::{forget, remove_files};
 pub use found::{Found, read_manifest};
 pub use grouping::keys_in_group;
 pub use index::{IndexPart, index_kind, kind_of, open_index, read_index, read_page};
-pub use parts::{FilePart, read_part};
+pub use parts::{FilePart, read_part, unreadable};
 pub use path::{FilePath, Stored, manifest_path_of, path_of};
 pub use putting::{finish, put_file};
 pub use scanning::{scan, scan_named};

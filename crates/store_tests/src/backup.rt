@@ -1,12 +1,15 @@
 //! Sessions against sizes and checksums that were made elsewhere.
 
 ghost use Rattle.std.specs.Prelude.{◌≡◌, None};
+ghost use Rattle.std.specs.FinMap.{entries as pairs};
+ghost use Rattle.backup_session.specs.Kept.{HasLengths};
 
 use crate::asserts::{must, same_at};
 use crate::faults::{Fault, refusal};
 use crate::fixtures::{ABC, DE, NINES, NOTHING, SEVENS, key, named};
 use backup_session::{Writer, open_writer};
 use blob_codec::{decode, encode};
+use known_chunks::Known;
 use std::alloc::Global;
 use std::process::Abort;
 use store_types::{CloseFault, Digest32, FileName, Refusal};
@@ -115,15 +118,26 @@ fn note_chunk(rt: &impl Abort, w: &mut Writer, digest: &Digest32, length: u32) -
     Ok(0)
 }
 
+/// The lengths of pieces by their digests.
+fn lengths_of(rt: &impl Abort, alloc: Global, pieces: &[(Digest32, u32)]) -> Known
+    ensures { HasLengths (pairs result) }
+{
+    let mut known = Known::new(alloc);
+    for piece in pieces {
+        let length = piece.1;
+        assert!(rt; length > 0 && length <= 16_777_216);
+        must(rt, known.add_new(&piece.0, length));
+    }
+    known
+}
+
 /// Pieces of the base may be appended, the second of one byte.
 fn note_short(rt: &impl Abort, w: &mut Writer, alloc: Global) -> Told
     requires { w.old.pending ≡ None }
     ensures { w.new.pending ≡ None }
 {
-    must(
-        rt,
-        w.previous(alloc, &[(SEVENS, 4096), (NINES, 1), (DE, 2)]),
-    );
+    let pieces = lengths_of(rt, alloc, &[(SEVENS, 4096), (NINES, 1), (DE, 2)]);
+    must(rt, w.previous(pieces));
     Ok(0)
 }
 
@@ -132,7 +146,8 @@ fn note_whole(rt: &impl Abort, w: &mut Writer, alloc: Global) -> Told
     requires { w.old.pending ≡ None }
     ensures { w.new.pending ≡ None }
 {
-    must(rt, w.previous(alloc, &[(SEVENS, 4096), (NINES, 4096)]));
+    let pieces = lengths_of(rt, alloc, &[(SEVENS, 4096), (NINES, 4096)]);
+    must(rt, w.previous(pieces));
     Ok(0)
 }
 

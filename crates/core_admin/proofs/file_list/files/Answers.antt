@@ -49,7 +49,7 @@ returns-in_default-named-clause-does g c =
     let parts = c.args.parts.now in
     let named : key_of c.args.snapshot.now ≡ Some c.in-Ok.key = search rules in
     let missing : kept_named c.in-Ok.key parts.catalogue.listed ≡ None = search rules in
-    refused_does g.D.Disk parts _ c.args._at (Plain (commands.Files c.args.snapshot.now)) NoSnapshot _ refl refl (record { catalogue = refl; sessions = refl; locks = refl }) no_snapshot_has_text refl
+    refused_does g.D.Disk parts _ c.args._at (Plain (commands.Files c.args.snapshot.now)) NoSnapshot _ refl refl (record { catalogue = refl; sessions = refl; locks = refl; indexes = refl }) no_snapshot_has_text refl
     (λ s shows. files_refused s _ _ c.args.snapshot.now parts.catalogue.listed shows.catalogue NoSnapshot (none_kept c.args.snapshot.now parts.catalogue.listed c.in-Ok.key named missing))
 
 pub returns-in_default-named-clause-from_state : goal.returns-in_default-named-clause-from_state
@@ -91,7 +91,7 @@ returns-in-Some-unreadable-clause-does g c =
     let there : kept_named c.in-Ok.key items ≡ Some k = search rules in
     let damage : k.unreadable ≡ Some name = search rules in
     let short = c.in-Some.ensures.short _ refl name damage in
-    refused_does g.D.Disk old _ c.args._at (Plain (commands.Files c.args.snapshot.now)) (Unreadable name) _ refl refl (record { catalogue = refl; sessions = refl; locks = refl })
+    refused_does g.D.Disk old _ c.args._at (Plain (commands.Files c.args.snapshot.now)) (Unreadable name) _ refl refl (record { catalogue = refl; sessions = refl; locks = refl; indexes = refl })
     (unreadable_has_text name (omega (arith, short))) refl
     (λ s shows. absurd (none_some k.unreadable name (kept_whole items c.in-Ok.key k there s.snapshots shows.catalogue) damage))
 
@@ -125,13 +125,13 @@ returns-in_err-rows-clause-does g c =
     let named : key_of c.args.snapshot.now ≡ Some c.in-Ok.key = search rules in
     let is = found c.args.snapshot.now old.catalogue.listed c.in-Ok.key c.in-Some.kept.now named c.in-Some.ensures.value in
     stopped_does g.D.Disk old _ c.args._at (Plain (commands.Files c.args.snapshot.now)) c.rows_read.result stop _ c.from_residual-in_err-rows.ensures.1 c.in_err-rows.was
-    c.rows_read.ensures.reads (record { catalogue = refl; sessions = refl; locks = refl }) c.in_err-rows.ensures.text (refuses_unread c.in-Some.kept.now stop c.in_err-rows.ensures.named)
+    c.rows_read.ensures.reads (record { catalogue = refl; sessions = refl; locks = refl; indexes = refl }) c.in_err-rows.ensures.text (refuses_unread c.in-Some.kept.now stop c.in_err-rows.ensures.named)
     (λ s h. files_stop g.D.Disk old s _ _ c.args.snapshot.now c.in-Some.kept.now h is stop (c.in_err-rows.ensures.bytes h.honest) (c.in_err-rows.ensures.value h.honest))
 
 pub returns-in_err-rows-clause-leaves : goal.returns-in_err-rows-clause-leaves
 returns-in_err-rows-clause-leaves g c =
     stopped_leaves g.D.Disk c.args.parts.now _ c.args._at (Plain (commands.Files c.args.snapshot.now)) c.in_err-rows.field-0.0 _ _ c.from_residual-in_err-rows.ensures.1
-    c.rows_read.ensures.reads (record { catalogue = refl; sessions = refl; locks = refl }) refl (called _ c.in-Some.kept.now c.in_err-rows.field-0.0 c.in_err-rows.ensures.named) no_end
+    c.rows_read.ensures.reads (record { catalogue = refl; sessions = refl; locks = refl; indexes = refl }) refl (called _ c.in-Some.kept.now c.in_err-rows.field-0.0 c.in_err-rows.ensures.named) no_end
 
 pub returns-in_err-rows-clause-from_state : goal.returns-in_err-rows-clause-from_state
 returns-in_err-rows-clause-from_state g c =
@@ -156,13 +156,13 @@ returns-clause-does g c =
     let old = c.args.parts.now in
     let named : key_of c.args.snapshot.now ≡ Some c.in-Ok.key = search rules in
     let is = found c.args.snapshot.now old.catalogue.listed c.in-Ok.key c.in-Some.kept.now named c.in-Some.ensures.value in
-    read_does g.D.Disk old _ c.args._at (Plain (commands.Files c.args.snapshot.now)) _ _ c.rows_read.ensures.reads (record { catalogue = refl; sessions = refl; locks = refl })
+    read_does g.D.Disk old _ c.args._at (Plain (commands.Files c.args.snapshot.now)) _ _ c.rows_read.ensures.reads (record { catalogue = refl; sessions = refl; locks = refl; indexes = refl })
     (files_has_text c.in_ok-rows.rows c.in_ok-rows.ensures.few c.in_ok-rows.ensures.fit) refl tt
     (λ s h. files_rows g.D.Disk old s _ _ c.args.snapshot.now c.in-Some.kept.now h is c.in_ok-rows.rows (c.in_ok-rows.ensures.bytes h.honest) (c.in_ok-rows.ensures.value h.honest))
 
 pub returns-clause-leaves : goal.returns-clause-leaves
 returns-clause-leaves g c =
-    read_leaves g.D.Disk c.args.parts.now _ c.args._at (Plain (commands.Files c.args.snapshot.now)) _ _ c.rows_read.ensures.reads (record { catalogue = refl; sessions = refl; locks = refl })
+    read_leaves g.D.Disk c.args.parts.now _ c.args._at (Plain (commands.Files c.args.snapshot.now)) _ _ c.rows_read.ensures.reads (record { catalogue = refl; sessions = refl; locks = refl; indexes = refl })
     (record { plain = tt; change = refl; listed = refl; goes_on = refl; writes = λ writes. cc }) (λ no_disk_call. absurd (no_end no_disk_call))
 
 pub returns-clause-from_state : goal.returns-clause-from_state

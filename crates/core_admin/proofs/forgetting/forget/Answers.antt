@@ -63,7 +63,7 @@ returns-in_default-named-clause-does g c =
     let named : key_of c.args.snapshot.now ≡ Some c.in-Ok.key = search rules in
     let none : kept_named c.in-Ok.key old.catalogue.listed ≡ None = search rules in
     let told = missing c.args.snapshot.now old.catalogue.listed old.locks (session_at old c.args.at.lane) c.in-Ok.key (c.idle.ensures.value ∙ c.in_ok-idle.was) named none in
-    refused_does g.D.Disk old _ c.args.at (Plain (Forget c.args.snapshot.now)) NoSnapshot _ refl refl (record { catalogue = refl; sessions = refl; locks = refl }) no_snapshot_has_text refl
+    refused_does g.D.Disk old _ c.args.at (Plain (Forget c.args.snapshot.now)) NoSnapshot _ refl refl (record { catalogue = refl; sessions = refl; locks = refl; indexes = refl }) no_snapshot_has_text refl
     (λ s shows. forget_refuses old s c.args.at.lane c.args.at.moment c.args.snapshot.now NoSnapshot shows c.requires told)
 
 pub returns-in_default-named-clause-from_state : goal.returns-in_default-named-clause-from_state
@@ -84,7 +84,7 @@ returns-in-Err-clause-does g c =
     let there = sym c.in-Some.ensures.value in
     let least = least_found (sharers old.locks c.in-Ok.key) holder c.in-Err.ensures.held c.in-Err.ensures.least in
     let told = held c.args.snapshot.now old.catalogue.listed old.locks (session_at old c.args.at.lane) c.in-Ok.key c.in-Some.kept.now holder (c.idle.ensures.value ∙ c.in_ok-idle.was) named there least in
-    refused_does g.D.Disk old _ c.args.at (Plain (Forget c.args.snapshot.now)) (SnapshotBusy holder) _ refl refl (record { catalogue = refl; sessions = refl; locks = refl }) (snapshot_busy_has_text holder (search rules)) refl
+    refused_does g.D.Disk old _ c.args.at (Plain (Forget c.args.snapshot.now)) (SnapshotBusy holder) _ refl refl (record { catalogue = refl; sessions = refl; locks = refl; indexes = refl }) (snapshot_busy_has_text holder (search rules)) refl
     (λ s shows. forget_refuses old s c.args.at.lane c.args.at.moment c.args.snapshot.now (SnapshotBusy holder) shows c.requires told)
 
 pub returns-in-Err-clause-from_state : goal.returns-in-Err-clause-from_state
@@ -102,7 +102,7 @@ returns-in-Err-clause-from_state g c =
 pub returns-in_err-forget-clause-does : goal.returns-in_err-forget-clause-does
 returns-in_err-forget-clause-does g c =
     failed_does g.D.Disk c.args.parts.now _ c.args.at (Plain (Forget c.args.snapshot.now)) c.forget.result c.in_err-forget.field-0.0 _ c.from_residual-in_err-forget.ensures.1 c.in_err-forget.was
-    c.forget.ensures.serves (λ short. (c.forget.ensures.unchanged short).0) (record { catalogue = refl; sessions = refl; locks = refl })
+    c.forget.ensures.serves (λ short. (c.forget.ensures.unchanged short).0) (record { catalogue = refl; sessions = refl; locks = refl; indexes = refl })
 
 pub returns-in_err-forget-clause-leaves : goal.returns-in_err-forget-clause-leaves
 returns-in_err-forget-clause-leaves g c =
@@ -113,7 +113,7 @@ returns-in_err-forget-clause-leaves g c =
     let told = free c.args.snapshot.now old.catalogue.listed old.locks (session_at old c.args.at.lane) c.in-Ok.key c.in-Some.kept.now (c.idle.ensures.value ∙ c.in_ok-idle.was) named there
     (ap (reduce min) c.in_default-free_for_removal.ensures.free) in
     undone_leaves g.D.Disk old _ c.args.at c.args.snapshot.now c.in-Ok.key c.in-Some.kept.now c.deref.result.now named there names
-    c.forget.result c.in_err-forget.field-0.0 _ c.from_residual-in_err-forget.ensures.1 c.in_err-forget.was (record { catalogue = refl; sessions = refl; locks = refl }) c.requires told
+    c.forget.result c.in_err-forget.field-0.0 _ c.from_residual-in_err-forget.ensures.1 c.in_err-forget.was (record { catalogue = refl; sessions = refl; locks = refl; indexes = refl }) c.requires told
     c.forget.ensures.crash (λ short. (c.forget.ensures.unchanged short).0) (λ short. (c.forget.ensures.unchanged short).1)
 
 -- ---- the snapshot is taken out
@@ -139,7 +139,7 @@ returns-clause-does g c =
     let none = ap (reduce min) c.in_default-free_for_removal.ensures.free in
     done_does g.D.Disk old _ c.args.at c.args.snapshot.now key c.in-Some.kept.now c.deref.result.now named there names _ c.forget.ensures.serves c.requires
     (free c.args.snapshot.now old.catalogue.listed old.locks (session_at old c.args.at.lane) key c.in-Some.kept.now (c.idle.ensures.value ∙ c.in_ok-idle.was) named there none)
-    none is_key c.in_ok-forget.ensures.removed c.take_out.ensures refl refl
+    none is_key c.in_ok-forget.ensures.removed c.take_out.ensures refl refl refl
 
 pub returns-clause-leaves : goal.returns-clause-leaves
 returns-clause-leaves g c =
@@ -148,4 +148,4 @@ returns-clause-leaves g c =
     let there = sym c.in-Some.ensures.value in
     let names = c.deref.ensures.value ∙ c.in_ok-names.ensures ∙ ap names_beside c.as_slice.ensures in
     done_leaves g.D.Disk c.args.parts.now _ c.args.at c.args.snapshot.now key c.in-Some.kept.now c.deref.result.now named there names
-    c.take_out.ensures refl refl c.in_ok-forget.ensures.removed c.forget.ensures.crash c.in_ok-forget.ensures.firm
+    c.take_out.ensures refl refl refl c.in_ok-forget.ensures.removed c.forget.ensures.crash c.in_ok-forget.ensures.firm

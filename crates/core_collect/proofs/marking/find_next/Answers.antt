@@ -1,4 +1,4 @@
-use Rattle.std.proofs.Common.{◌≡◌, true, false, Ok, None, IsSome, rules}
+use Rattle.std.proofs.Common.{◌≡◌, Ok, None, Some, IsSome, rules}
 use Rattle.gc_plan.specs.Plan.{next_mark}
 use Rattle.core_collect.proofs.Settling.{all_passed, passed_none, search_found, search_found_reads, search_kept, search_over_reads, search_passed, search_unread, search_unread_reads}
 use Rattle.core_collect.proofs.marking.find_next.Goals as goal
@@ -8,48 +8,48 @@ loop-alloc-init g c = passed_none g.D.Disk c.args.parts.now c.args.collector.now
 
 pub loop-alloc-smaller : goal.loop-alloc-smaller
 loop-alloc-smaller g c =
-    let is : c.settle_next.result ≡ Ok false = search rules in
+    let is : c.settle_next.result ≡ Ok None = search rules in
     let some : IsSome (next_mark c.loop-alloc.collector.plan) = search rules in
     (c.settle_next.ensures.next.passes is some).0.less
 
 pub loop-alloc-preserved : goal.loop-alloc-preserved
 loop-alloc-preserved g c =
-    let is : c.settle_next.result ≡ Ok false = search rules in
+    let is : c.settle_next.result ≡ Ok None = search rules in
     let some : IsSome (next_mark c.loop-alloc.collector.plan) = search rules in
     search_passed g.D.Disk c.args.parts.now c.loop-alloc.parts c.settle_next.new.parts c.args.collector.now c.loop-alloc.collector c.settle_next.new.collector c.loop-alloc.invariant c.settle_next.result
     c.settle_next.ensures.reads c.settle_next.ensures.kept c.settle_next.ensures.next is some
 
-pub returns-then-branch-clause-reads : goal.returns-then-branch-clause-reads
-returns-then-branch-clause-reads g c =
-    let is : c.settle_next.result ≡ Ok true = search rules in
+pub returns-in-Some-clause-reads : goal.returns-in-Some-clause-reads
+returns-in-Some-clause-reads g c =
+    let is : c.settle_next.result ≡ Ok (Some c.in-Some.digests) = search rules in
     search_found_reads g.D.Disk c.args.parts.now c.loop-alloc.parts c.settle_next.new.parts c.args.collector.now c.loop-alloc.collector c.settle_next.new.collector c.loop-alloc.invariant c.settle_next.result
-    c.settle_next.ensures.reads c.settle_next.ensures.kept c.settle_next.ensures.next is
+    c.settle_next.ensures.reads c.settle_next.ensures.kept c.settle_next.ensures.next c.in-Some.digests is
 
-pub returns-then-branch-clause-kept : goal.returns-then-branch-clause-kept
-returns-then-branch-clause-kept g c =
+pub returns-in-Some-clause-kept : goal.returns-in-Some-clause-kept
+returns-in-Some-clause-kept g c =
     search_kept g.D.Disk c.args.parts.now c.loop-alloc.parts c.settle_next.new.parts c.args.collector.now c.loop-alloc.collector c.settle_next.new.collector c.loop-alloc.invariant c.settle_next.result
     c.settle_next.ensures.reads c.settle_next.ensures.kept c.settle_next.ensures.next
 
-pub returns-then-branch-clause-next : goal.returns-then-branch-clause-next
-returns-then-branch-clause-next g c =
-    let is : c.settle_next.result ≡ Ok true = search rules in
+pub returns-in-Some-clause-next : goal.returns-in-Some-clause-next
+returns-in-Some-clause-next g c =
+    let is : c.settle_next.result ≡ Ok (Some c.in-Some.digests) = search rules in
     search_found g.D.Disk c.args.parts.now c.loop-alloc.parts c.settle_next.new.parts c.args.collector.now c.loop-alloc.collector c.settle_next.new.collector c.loop-alloc.invariant c.settle_next.result
-    c.settle_next.ensures.reads c.settle_next.ensures.kept c.settle_next.ensures.next is
+    c.settle_next.ensures.reads c.settle_next.ensures.kept c.settle_next.ensures.next c.in-Some.digests is
 
-pub returns-in_err-settle_next-clause-reads : goal.returns-in_err-settle_next-clause-reads
-returns-in_err-settle_next-clause-reads g c =
+pub returns-in_err-digests-clause-reads : goal.returns-in_err-digests-clause-reads
+returns-in_err-digests-clause-reads g c =
     search_unread_reads g.D.Disk c.args.parts.now c.loop-alloc.parts c.settle_next.new.parts c.args.collector.now c.loop-alloc.collector c.settle_next.new.collector c.loop-alloc.invariant c.settle_next.result
-    c.settle_next.ensures.reads c.settle_next.ensures.kept c.settle_next.ensures.next _ _ c.from_residual.ensures.1 c.in_err-settle_next.was
+    c.settle_next.ensures.reads c.settle_next.ensures.kept c.settle_next.ensures.next _ _ c.from_residual.ensures.1 c.in_err-digests.was
 
-pub returns-in_err-settle_next-clause-kept : goal.returns-in_err-settle_next-clause-kept
-returns-in_err-settle_next-clause-kept g c =
+pub returns-in_err-digests-clause-kept : goal.returns-in_err-digests-clause-kept
+returns-in_err-digests-clause-kept g c =
     search_kept g.D.Disk c.args.parts.now c.loop-alloc.parts c.settle_next.new.parts c.args.collector.now c.loop-alloc.collector c.settle_next.new.collector c.loop-alloc.invariant c.settle_next.result
     c.settle_next.ensures.reads c.settle_next.ensures.kept c.settle_next.ensures.next
 
-pub returns-in_err-settle_next-clause-next : goal.returns-in_err-settle_next-clause-next
-returns-in_err-settle_next-clause-next g c =
+pub returns-in_err-digests-clause-next : goal.returns-in_err-digests-clause-next
+returns-in_err-digests-clause-next g c =
     search_unread g.D.Disk c.args.parts.now c.loop-alloc.parts c.settle_next.new.parts c.args.collector.now c.loop-alloc.collector c.settle_next.new.collector c.loop-alloc.invariant c.settle_next.result
-    c.settle_next.ensures.reads c.settle_next.ensures.kept c.settle_next.ensures.next _ _ c.from_residual.ensures.1 c.in_err-settle_next.was
+    c.settle_next.ensures.reads c.settle_next.ensures.kept c.settle_next.ensures.next _ _ c.from_residual.ensures.1 c.in_err-digests.was
 
 pub returns-clause-reads : goal.returns-clause-reads
 returns-clause-reads g c = search_over_reads g.D.Disk c.args.parts.now c.loop-alloc.parts c.args.collector.now c.loop-alloc.collector c.loop-alloc.invariant

@@ -1,13 +1,24 @@
-use Rattle.std.proofs.Common.{◌≡◌, ◌∙◌, Some, None, Ok, Err, refl, subst, rules}
-use Rattle.snapshot_files.specs.Indexes.{kind_of_index}
-use Rattle.gc_plan.specs.Plan.{next_index}
-use Rattle.core_collect.specs.Marking.{Reads, SettlesNext, digests_read, path_at}
-use Rattle.core_collect.proofs.MarkLemmas.{fits_read, mark_there}
-use Rattle.core_collect.proofs.Settling.{empty_settles, gone_settles, handed_on, handed_reads, kept_settles, none_items, none_read, none_settles, read_settles, some_items, unread_settles}
+use Rattle.std.proofs.Common.{◌≡◌, ◌<◌, ◌-◌, ◌∙◌, min, is_some, Some, None, Err, Vec, Global, refl, sym, ap, subst, rules}
+use Rattle.store_types.specs.declared.names.Digest32.{Digest32}
+use Rattle.gc_plan.specs.Plan.{mark_limit, next_index, next_mark}
+use Rattle.paged_indexes.specs.Index.{pages_by}
+use Rattle.snapshot_files.specs.Indexes.{index_opened, kind_of_index}
+use Rattle.core_state.specs.Entries.{count_at_hand, marked_in}
+use Rattle.core_collect.specs.Entries.{AreNext, bytes_of, next_read}
+use Rattle.core_collect.specs.Marking.{SettlesNext, TellsStanding, first_standing, marked_next, path_at, standing_as, standing_by}
+use Rattle.core_collect.proofs.MarkLemmas.{fits_opened, mark_is, mark_there}
+use Rattle.core_collect.proofs.Settling.{empty_settles, gone_settles, handed_on, handed_reads, kept_settles, none_settles, read_settles, unkept_settles, unmarked_settles, unopened_settles}
 use Rattle.core_collect.proofs.marking.settle_next.Goals as goal
+
+-- ---- no index is next
 
 pub returns-in_default-clause-next : goal.returns-in_default-clause-next
 returns-in_default-clause-next g c =
+    let none : next_mark c.args.collector.now.plan ≡ None = search rules in
+    unmarked_settles g.D.Disk c.args.parts.now c.args.collector.now none
+
+pub returns-in_default-index_next-clause-next : goal.returns-in_default-index_next-clause-next
+returns-in_default-index_next-clause-next g c =
     let none : next_index c.args.collector.now.plan ≡ None = search rules in
     none_settles g.D.Disk c.args.parts.now c.args.collector.now none
 
@@ -16,83 +27,126 @@ returns-in_default-clause-next g c =
 pub pass_over-requires : goal.pass_over-requires
 pass_over-requires g c =
     let plan = c.args.collector.now.plan in
-    let at : next_index plan ≡ Some c.in-Some.index.now = search rules in
-    mark_there plan.indexes plan.stage c.in-Some.index.now at
+    let at : next_index plan ≡ Some c.in-Some-index_next.index.now = search rules in
+    mark_there plan.indexes plan.stage c.in-Some-index_next.index.now at
 
 pub returns-in_default-path_of-clause-next : goal.returns-in_default-path_of-clause-next
 returns-in_default-path_of-clause-next g c =
-    let at : next_index c.args.collector.now.plan ≡ Some c.in-Some.index.now = search rules in
-    let missing : path_at c.in-Some.index.now c.args.parts.now.catalogue.listed ≡ None = search rules in
-    gone_settles g.D.Disk c.args.parts.now c.args.collector.now c.pass_over.new.collector c.in-Some.index.now at missing c.pass_over.ensures
+    let i = c.in-Some-index_next.index.now in
+    let at : next_index c.args.collector.now.plan ≡ Some i = search rules in
+    let missing : path_at i c.args.parts.now.catalogue.listed ≡ None = search rules in
+    gone_settles g.D.Disk c.args.parts.now c.args.collector.now c.pass_over.new.collector i at missing c.pass_over.ensures
 
--- ---- its digests are at hand
+-- ---- its pages are at hand
 
-pub returns-then-not-is_empty-clause-next : goal.returns-then-not-is_empty-clause-next
-returns-then-not-is_empty-clause-next g c =
-    let at : next_index c.args.collector.now.plan ≡ Some c.in-Some.index.now = search rules in
-    let found : path_at c.in-Some.index.now c.args.parts.now.catalogue.listed ≡ Some c.in-Some-path_of.path.now = search rules in
-    kept_settles g.D.Disk c.args.parts.now c.args.collector.now c.in-Some.index.now c.in-Some-path_of.path.now at found
-    (some_items c.args.collector.now.entries c.is_empty.result c.is_empty.ensures c.if-not-is_empty.true)
+pub read_next-requires : goal.read_next-requires
+read_next-requires g c =
+    let old = c.args.collector.now in
+    let p = c.in-Some-pages.pages in
+    let at : next_mark old.plan ≡ Some (c.in-Some.field-0-0, c.in-Some.first) = search rules in
+    let had : old.pages ≡ Some p = search rules in
+    subst (λ n. n < (pages_by p).count) (sym (mark_is old.plan.indexes old.plan.stage (c.in-Some.field-0-0, c.in-Some.first) at))
+    (subst (λ o. marked_in old.plan.stage < count_at_hand o) had (old.fits.within (ap is_some had)))
 
--- ---- they are not to be had
+pub returns-in_err-digests-clause-reads : goal.returns-in_err-digests-clause-reads
+returns-in_err-digests-clause-reads g c =
+    handed_reads g.D.Disk c.args.parts.now.disk c.read_next.new.disk _ c.read_next.result _ c.from_residual.ensures.1 c.in_err-digests.was c.read_next.ensures.reads
 
-pub returns-in_err-collector-clause-reads : goal.returns-in_err-collector-clause-reads
-returns-in_err-collector-clause-reads g c =
-    handed_reads g.D.Disk c.args.parts.now.disk c.read_digests.new.disk _ c.read_digests.result _ c.from_residual.ensures.1 c.in_err-collector.was c.read_digests.ensures.reads
-
-pub returns-in_err-collector-clause-next : goal.returns-in_err-collector-clause-next
-returns-in_err-collector-clause-next g c =
+pub returns-in_err-digests-clause-next : goal.returns-in_err-digests-clause-next
+returns-in_err-digests-clause-next g c =
     let parts = c.args.parts.now in
     let old = c.args.collector.now in
-    let i = c.in-Some.index.now in
+    let i = c.in-Some-index_next.index.now in
     let path = c.in-Some-path_of.path.now in
-    let unread = c.in_err-collector.field-0.0 in
+    let p = c.in-Some-pages.pages in
+    let unread = c.in_err-digests.field-0.0 in
+    let mark : next_mark old.plan ≡ Some (c.in-Some.field-0-0, c.in-Some.first) = search rules in
+    let begins = mark_is old.plan.indexes old.plan.stage (c.in-Some.field-0-0, c.in-Some.first) mark in
     let at : next_index old.plan ≡ Some i = search rules in
     let found : path_at i parts.catalogue.listed ≡ Some path = search rules in
-    let fixed : c.index_kind-kind.result ≡ kind_of_index i.name = search rules in
+    let had : old.pages ≡ Some p = search rules in
     handed_on (SettlesNext g.D.Disk parts old old) _ unread c.from_residual.ensures.1
-    (unread_settles g.D.Disk parts old i path unread at found (none_items old.entries c.is_empty.result c.is_empty.ensures c.if-not-is_empty.false) c.in_err-collector.ensures.named
-    (λ honest. subst (λ b. Reads (digests_read ((g.D.Disk).content parts.disk) path b) (Err unread)) fixed (c.in_err-collector.ensures.exact honest)))
+    (unkept_settles g.D.Disk parts old i path p unread at found had c.in_err-digests.ensures.named
+    (λ honest.
+    subst (λ n. TellsStanding {A = Vec Digest32 Global} (λ digests. marked_next p (bytes_of digests.items)) (standing_by path p (next_read ((g.D.Disk).content parts.disk) path p n)) (Err unread)) begins
+    (c.in_err-digests.ensures.exact honest)))
 
--- ---- they are read
+pub returns-in-Some-pages-clause-next : goal.returns-in-Some-pages-clause-next
+returns-in-Some-pages-clause-next g c =
+    let parts = c.args.parts.now in
+    let old = c.args.collector.now in
+    let i = c.in-Some-index_next.index.now in
+    let path = c.in-Some-path_of.path.now in
+    let p = c.in-Some-pages.pages in
+    let digests = c.in_ok-digests.digests in
+    let mark : next_mark old.plan ≡ Some (c.in-Some.field-0-0, c.in-Some.first) = search rules in
+    let begins = mark_is old.plan.indexes old.plan.stage (c.in-Some.field-0-0, c.in-Some.first) mark in
+    let at : next_index old.plan ≡ Some i = search rules in
+    let found : path_at i parts.catalogue.listed ≡ Some path = search rules in
+    let had : old.pages ≡ Some p = search rules in
+    kept_settles g.D.Disk parts old i path p digests at found had
+    (λ honest.
+    subst (λ n. standing_by path p (next_read ((g.D.Disk).content parts.disk) path p n) ≡ marked_next p (bytes_of digests.items)) begins
+    (c.in_ok-digests.ensures.exact honest))
+    (c.in_ok-digests.ensures.many ∙ ap (λ n. min mark_limit ((pages_by p).count - n)) begins)
+    (subst (λ n. AreNext p n digests.items) begins c.in_ok-digests.ensures.kept)
+
+-- ---- it is not opened
+
+pub returns-in_err-opened-clause-reads : goal.returns-in_err-opened-clause-reads
+returns-in_err-opened-clause-reads g c =
+    handed_reads g.D.Disk c.args.parts.now.disk c.open_first.new.disk _ c.open_first.result _ c.from_residual-in_err-opened.ensures.1 c.in_err-opened.was c.open_first.ensures.reads
+
+pub returns-in_err-opened-clause-next : goal.returns-in_err-opened-clause-next
+returns-in_err-opened-clause-next g c =
+    let parts = c.args.parts.now in
+    let old = c.args.collector.now in
+    let i = c.in-Some-index_next.index.now in
+    let path = c.in-Some-path_of.path.now in
+    let unread = c.in_err-opened.field-0.0 in
+    let at : next_index old.plan ≡ Some i = search rules in
+    let found : path_at i parts.catalogue.listed ≡ Some path = search rules in
+    let none : old.pages ≡ None = search rules in
+    let kind : c.index_kind-kind.result ≡ kind_of_index i.name = search rules in
+    let m = (g.D.Disk).content parts.disk in
+    handed_on (SettlesNext g.D.Disk parts old old) _ unread c.from_residual-in_err-opened.ensures.1
+    (unopened_settles g.D.Disk parts old i path unread at found none c.in_err-opened.ensures.named
+    (λ honest. subst (λ b. TellsStanding first_standing (standing_as m path (index_opened m path b)) (Err unread)) kind (c.in_err-opened.ensures.exact honest)))
+
+-- ---- it is opened
 
 pub invariant_of-collector : goal.invariant_of-collector
 invariant_of-collector g c =
     let old = c.args.collector.now in
-    record { fits = fits_read old.plan old.entries.items _ old.fits (none_items old.entries c.is_empty.result c.is_empty.ensures c.if-not-is_empty.false) c.in_ok-collector.ensures.few }
+    let none : old.pages ≡ None = search rules in
+    record { fits = fits_opened old.plan old.pages c.in_ok-opened.opened.pages old.fits none (λ empty. absurd (c.if-len-eq0.false (c.len.ensures.value ∙ empty))) }
 
-pub pass_over-requires-then-is_empty : goal.pass_over-requires-then-is_empty
-pass_over-requires-then-is_empty g c =
-    let plan = c.args.collector.now.plan in
-    let at : next_index plan ≡ Some c.in-Some.index.now = search rules in
-    mark_there plan.indexes plan.stage c.in-Some.index.now at
-
-pub returns-then-is_empty-clause-next : goal.returns-then-is_empty-clause-next
-returns-then-is_empty-clause-next g c =
+pub returns-then-len-eq0-clause-next : goal.returns-then-len-eq0-clause-next
+returns-then-len-eq0-clause-next g c =
     let parts = c.args.parts.now in
     let old = c.args.collector.now in
-    let i = c.in-Some.index.now in
+    let i = c.in-Some-index_next.index.now in
     let path = c.in-Some-path_of.path.now in
-    let read = c.in_ok-collector.field-0 in
+    let x = c.in_ok-opened.opened in
     let at : next_index old.plan ≡ Some i = search rules in
     let found : path_at i parts.catalogue.listed ≡ Some path = search rules in
-    let fixed : c.index_kind-kind.result ≡ kind_of_index i.name = search rules in
-    let over = c.pass_over-then-is_empty.ensures in
-    empty_settles g.D.Disk parts old c.pass_over-then-is_empty.new.collector i path at found (none_items old.entries c.is_empty.result c.is_empty.ensures c.if-not-is_empty.false)
-    (λ honest. subst (λ b. Reads (digests_read ((g.D.Disk).content parts.disk) path b) (Ok read)) fixed (c.in_ok-collector.ensures.exact honest)
-    ∙ none_read read (none_items read c.is_empty-2.result c.is_empty-2.ensures c.if-is_empty.true))
-    (record { lane = over.lane; ended = over.ended; plan = over.plan; none = over.none; less = over.less })
+    let none : old.pages ≡ None = search rules in
+    let kind : c.index_kind-kind.result ≡ kind_of_index i.name = search rules in
+    let m = (g.D.Disk).content parts.disk in
+    empty_settles g.D.Disk parts old i path at found none c.pass_over-then-len-eq0.new.collector x (sym c.len.ensures.value ∙ c.if-len-eq0.true)
+    (λ honest. subst (λ b. standing_as m path (index_opened m path b) ≡ first_standing x) kind (c.in_ok-opened.ensures.exact honest)) c.pass_over-then-len-eq0.ensures
 
 pub returns-clause-next : goal.returns-clause-next
 returns-clause-next g c =
     let parts = c.args.parts.now in
     let old = c.args.collector.now in
-    let i = c.in-Some.index.now in
+    let i = c.in-Some-index_next.index.now in
     let path = c.in-Some-path_of.path.now in
-    let read = c.in_ok-collector.field-0 in
+    let x = c.in_ok-opened.opened in
     let at : next_index old.plan ≡ Some i = search rules in
     let found : path_at i parts.catalogue.listed ≡ Some path = search rules in
-    let fixed : c.index_kind-kind.result ≡ kind_of_index i.name = search rules in
-    read_settles g.D.Disk parts old _ i path at found refl refl refl (none_items old.entries c.is_empty.result c.is_empty.ensures c.if-not-is_empty.false)
-    (some_items read c.is_empty-2.result c.is_empty-2.ensures c.if-is_empty.false)
-    (λ honest. subst (λ b. Reads (digests_read ((g.D.Disk).content parts.disk) path b) (Ok read)) fixed (c.in_ok-collector.ensures.exact honest))
+    let none : old.pages ≡ None = search rules in
+    let kind : c.index_kind-kind.result ≡ kind_of_index i.name = search rules in
+    let m = (g.D.Disk).content parts.disk in
+    read_settles g.D.Disk parts old _ i path x at found refl refl refl none refl (λ empty. absurd (c.if-len-eq0.false (c.len.ensures.value ∙ empty)))
+    (λ honest. subst (λ b. standing_as m path (index_opened m path b) ≡ first_standing x) kind (c.in_ok-opened.ensures.exact honest)) c.in_ok-opened.ensures.many

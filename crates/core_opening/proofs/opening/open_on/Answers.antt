@@ -25,7 +25,7 @@ returns-in-Ok-opened_of-clause-opened g c =
     let begun = x.begins in
     let synced = c.sync.ensures.serves.kept.0 honest in
     opened_stands d g.C.Clock.readings c.args.disk _ L R
-    (record { fault = refl; collector = refl; last = c.moment.ensures; entries = begun.entries; calls = begun.calls; sessions = begun.sessions; locks = c.new.ensures })
+    (record { fault = refl; collector = refl; last = c.moment.ensures; entries = begun.entries; calls = begun.calls; sessions = begun.sessions; indexes = begun.indexes; locks = c.new.ensures })
     remote (x.serves.kept.0 synced) stands
     (subst (λ (m : Files). MayClean m m now) (c.in-Ok.ensures.same honest) (x.cleaned synced).only) (x.catalogue synced) (x.book synced)
 
@@ -66,7 +66,7 @@ returns-in-Ok-opened_of-clause-recovers g c =
 pub returns-in-Ok-opened_of-clause-records : goal.returns-in-Ok-opened_of-clause-records
 returns-in-Ok-opened_of-clause-records g c =
     let begun = c.in-Ok-opened_of.ensures.begins in
-    opened_records g.C.Clock.readings _ (record { fault = refl; collector = refl; last = c.moment.ensures; entries = begun.entries; calls = begun.calls; sessions = begun.sessions; locks = c.new.ensures }) begun.numbers begun.early
+    opened_records g.C.Clock.readings _ (record { fault = refl; collector = refl; last = c.moment.ensures; entries = begun.entries; calls = begun.calls; sessions = begun.sessions; indexes = begun.indexes; locks = c.new.ensures }) begun.numbers begun.early
 
 pub returns-in-Ok-opened_of-clause-cleaned : goal.returns-in-Ok-opened_of-clause-cleaned
 returns-in-Ok-opened_of-clause-cleaned g c =

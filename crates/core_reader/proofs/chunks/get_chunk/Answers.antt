@@ -23,7 +23,7 @@ pub returns-in_err-chunk-clause-does : goal.returns-in_err-chunk-clause-does
 returns-in_err-chunk-clause-does g c =
     let yes : c.allowed.result ≡ true = search rules in
     stopped_does g.D.Disk c.args.parts.now _ c.args.at (Plain (GetChunk c.args.digest.now)) c.read_chunk.result _ _ c.from_residual-in_err-chunk.ensures.1 c.in_err-chunk.was
-    c.read_chunk.ensures.reads (record { catalogue = refl; sessions = refl; locks = refl })
+    c.read_chunk.ensures.reads (record { catalogue = refl; sessions = refl; locks = refl; indexes = refl })
     (at_text c.args.digest.now _ c.in_err-chunk.ensures.damage) (at_got c.args.digest.now _ c.in_err-chunk.ensures.damage)
     (λ s h.
     let (p, held, named, is) = allowed_piece g.D.Disk c.args.parts.now s c.args.at.lane c.args.at.moment c.args.digest.now _ h c.requires c.in_ok-reader.ensures.value (λ files r is. sym yes ∙ c.allowed.ensures.plain files r is) in
@@ -32,14 +32,14 @@ returns-in_err-chunk-clause-does g c =
 pub returns-in_err-chunk-clause-leaves : goal.returns-in_err-chunk-clause-leaves
 returns-in_err-chunk-clause-leaves g c =
     stopped_leaves g.D.Disk c.args.parts.now _ c.args.at (Plain (GetChunk c.args.digest.now)) _ _ _ c.from_residual-in_err-chunk.ensures.1
-    c.read_chunk.ensures.reads (record { catalogue = refl; sessions = refl; locks = refl }) refl
+    c.read_chunk.ensures.reads (record { catalogue = refl; sessions = refl; locks = refl; indexes = refl }) refl
     (at_called c.args.digest.now _ _ c.in_err-chunk.ensures.damage) (λ e. cc)
 
 pub returns-clause-does : goal.returns-clause-does
 returns-clause-does g c =
     let yes : c.allowed.result ≡ true = search rules in
     let blob = c.from_vec.ensures ∙ c.into_blob.ensures in
-    read_does g.D.Disk c.args.parts.now _ c.args.at (Plain (GetChunk c.args.digest.now)) _ _ c.read_chunk.ensures.reads (record { catalogue = refl; sessions = refl; locks = refl })
+    read_does g.D.Disk c.args.parts.now _ c.args.at (Plain (GetChunk c.args.digest.now)) _ _ c.read_chunk.ensures.reads (record { catalogue = refl; sessions = refl; locks = refl; indexes = refl })
     (data_has_text c.from_vec.result (blob_short _ c.from_vec.result blob c.in_ok-chunk.ensures.size)) refl tt
     (λ s h.
     let (p, held, named, is) = allowed_piece g.D.Disk c.args.parts.now s c.args.at.lane c.args.at.moment c.args.digest.now _ h c.requires c.in_ok-reader.ensures.value (λ files r is. sym yes ∙ c.allowed.ensures.plain files r is) in

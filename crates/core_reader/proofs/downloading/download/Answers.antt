@@ -59,14 +59,14 @@ returns-in_err-part-clause-does g c =
     let path : c.as_str.result.now ≡ string_bytes a.path = c.as_str.ensures.value in
     let asked = file_is c.args.file.now c.args.offset (session_at old c.args.at.lane) old.catalogue.listed (string_bytes a.path) a.whole (c.in_ok-asked.ensures.value c.args.offset) in
     stops_does d old _ c.args.at (Plain (Download c.args.file.now c.args.offset)) c.read_part.result _ c.in_err-part.was _ c.from_residual-in_err-part.ensures.1
-    c.read_part.ensures.reads (record { catalogue = refl; sessions = refl; locks = refl }) c.in_err-part.ensures.text (read_answers c.as_str.result.now _ c.in_err-part.ensures.kind)
+    c.read_part.ensures.reads (record { catalogue = refl; sessions = refl; locks = refl; indexes = refl }) c.in_err-part.ensures.text (read_answers c.as_str.result.now _ c.in_err-part.ensures.kind)
     (λ s h. read_stops part_reply _ _ _ (c.in_err-part.ensures.exact h.honest)
     (λ r gives. asked_part_refused d old s c.args.at.lane c.args.at.moment c.args.file.now (string_bytes a.path) c.args.offset a.whole c.requires asked h c.as_str.result.now r path gives))
 
 pub returns-in_err-part-clause-leaves : goal.returns-in_err-part-clause-leaves
 returns-in_err-part-clause-leaves g c =
     stops_leaves g.D.Disk c.args.parts.now _ c.args.at (Plain (Download c.args.file.now c.args.offset)) c.read_part.result _ c.in_err-part.was _ c.as_str.result.now c.from_residual-in_err-part.ensures.1
-    c.read_part.ensures.reads (record { catalogue = refl; sessions = refl; locks = refl }) refl c.in_err-part.ensures.kind (λ e. cc)
+    c.read_part.ensures.reads (record { catalogue = refl; sessions = refl; locks = refl; indexes = refl }) refl c.in_err-part.ensures.kind (λ e. cc)
 
 pub returns-in_err-part-clause-unreadable : goal.returns-in_err-part-clause-unreadable
 returns-in_err-part-clause-unreadable g c =
@@ -87,13 +87,13 @@ returns-in_default-clause-does g c =
     let path : c.as_str.result.now ≡ string_bytes a.path = c.as_str.ensures.value in
     let none : a.whole ≡ None = search rules in
     let asked = file_is c.args.file.now c.args.offset (session_at old c.args.at.lane) old.catalogue.listed (string_bytes a.path) a.whole (c.in_ok-asked.ensures.value c.args.offset) in
-    read_does d old _ c.args.at (Plain (Download c.args.file.now c.args.offset)) (part_reply c.in_ok-part.part) _ c.read_part.ensures.reads (record { catalogue = refl; sessions = refl; locks = refl })
+    read_does d old _ c.args.at (Plain (Download c.args.file.now c.args.offset)) (part_reply c.in_ok-part.part) _ c.read_part.ensures.reads (record { catalogue = refl; sessions = refl; locks = refl; indexes = refl })
     c.in_ok-part.ensures.text (part_answers (part_reply c.in_ok-part.part) tt) (part_plain (part_reply c.in_ok-part.part) tt)
     (λ s h. asked_part_given d old s c.args.at.lane c.args.at.moment c.args.file.now (string_bytes a.path) c.args.offset a.whole c.requires asked h c.as_str.result.now (part_reply c.in_ok-part.part) path none (c.in_ok-part.ensures.exact h.honest))
 
 pub returns-in_default-clause-leaves : goal.returns-in_default-clause-leaves
 returns-in_default-clause-leaves g c =
-    read_leaves g.D.Disk c.args.parts.now _ c.args.at (Plain (Download c.args.file.now c.args.offset)) (part_reply c.in_ok-part.part) _ c.read_part.ensures.reads (record { catalogue = refl; sessions = refl; locks = refl })
+    read_leaves g.D.Disk c.args.parts.now _ c.args.at (Plain (Download c.args.file.now c.args.offset)) (part_reply c.in_ok-part.part) _ c.read_part.ensures.reads (record { catalogue = refl; sessions = refl; locks = refl; indexes = refl })
     (record { plain = part_plain (part_reply c.in_ok-part.part) tt; change = refl; listed = refl; goes_on = refl; writes = λ writes. cc }) (λ e. cc)
 
 pub returns-in_default-clause-unreadable : goal.returns-in_default-clause-unreadable
@@ -117,14 +117,14 @@ returns-in_err-index-clause-does g c =
     let some : a.whole ≡ Some c.in-Some.kind = search rules in
     let asked = file_is c.args.file.now c.args.offset (session_at old c.args.at.lane) old.catalogue.listed (string_bytes a.path) a.whole (c.in_ok-asked.ensures.value c.args.offset) in
     stops_does d old _ c.args.at (Plain (Download c.args.file.now c.args.offset)) c.read_table.result _ c.in_err-index.was _ c.from_residual-in_err-index.ensures.1
-    c.read_table.ensures.reads (record { catalogue = refl; sessions = refl; locks = refl }) c.in_err-index.ensures.text (read_answers c.as_str-2.result.now _ c.in_err-index.ensures.kind)
+    c.read_table.ensures.reads (record { catalogue = refl; sessions = refl; locks = refl; indexes = refl }) c.in_err-index.ensures.text (read_answers c.as_str-2.result.now _ c.in_err-index.ensures.kind)
     (λ s h. table_stops (d.content old.disk) c.as_str-2.result.now c.in-Some.kind c.args.offset _ _ (c.in_err-index.ensures.exact h.honest)
     (λ r gives. asked_index_refused d old s c.args.at.lane c.args.at.moment c.args.file.now (string_bytes a.path) c.args.offset a.whole c.requires asked h c.as_str-2.result.now c.in-Some.kind r path some gives))
 
 pub returns-in_err-index-clause-leaves : goal.returns-in_err-index-clause-leaves
 returns-in_err-index-clause-leaves g c =
     stops_leaves g.D.Disk c.args.parts.now _ c.args.at (Plain (Download c.args.file.now c.args.offset)) c.read_table.result _ c.in_err-index.was _ c.as_str-2.result.now c.from_residual-in_err-index.ensures.1
-    c.read_table.ensures.reads (record { catalogue = refl; sessions = refl; locks = refl }) refl c.in_err-index.ensures.kind (λ e. cc)
+    c.read_table.ensures.reads (record { catalogue = refl; sessions = refl; locks = refl; indexes = refl }) refl c.in_err-index.ensures.kind (λ e. cc)
 
 pub returns-in_err-index-clause-unreadable : goal.returns-in_err-index-clause-unreadable
 returns-in_err-index-clause-unreadable g c =
@@ -142,12 +142,12 @@ returns-in_err-index-clause-unreadable g c =
 pub returns-in_err-note-clause-does : goal.returns-in_err-note-clause-does
 returns-in_err-note-clause-does g c =
     short_does g.D.Disk c.args.parts.now _ c.args.at (Plain (Download c.args.file.now c.args.offset)) _ _ c.from_residual-in_err-note.ensures.1 c.read_table.ensures.reads
-    (record { catalogue = refl; sessions = sessions_stay _ _ _ _ c.in_err-note.ensures.err c.index_mut.ensures.value; locks = refl })
+    (record { catalogue = refl; sessions = sessions_stay _ _ _ _ c.in_err-note.ensures.err c.index_mut.ensures.value; locks = refl; indexes = refl })
 
 pub returns-in_err-note-clause-leaves : goal.returns-in_err-note-clause-leaves
 returns-in_err-note-clause-leaves g c =
     short_leaves g.D.Disk c.args.parts.now _ c.args.at (Plain (Download c.args.file.now c.args.offset)) _ _ c.from_residual-in_err-note.ensures.1 c.read_table.ensures.reads
-    (record { catalogue = refl; sessions = sessions_stay _ _ _ _ c.in_err-note.ensures.err c.index_mut.ensures.value; locks = refl }) refl (λ e. cc)
+    (record { catalogue = refl; sessions = sessions_stay _ _ _ _ c.in_err-note.ensures.err c.index_mut.ensures.value; locks = refl; indexes = refl }) refl (λ e. cc)
 
 pub returns-in_err-note-clause-unreadable : goal.returns-in_err-note-clause-unreadable
 returns-in_err-note-clause-unreadable g c = tells_unread g.D.Disk (c.args.parts.now).disk _ _ _ c.from_residual-in_err-note.ensures.1 tt
@@ -170,11 +170,11 @@ returns-clause-does g c =
     asked_index_given d old s c.args.at.lane c.args.at.moment c.args.file.now (string_bytes a.path) c.args.offset a.whole c.requires asked h _ (given_as index x.entries) c.in-Some.kind c.as_str-2.result.now a.name index.pages
     c.index_mut.result.now c.note.new.session path c.in_ok-asked.ensures.name some x.read x.opened c.index_mut.ensures.value
     (λ snapshots r b shows there ends pages. c.in_ok-note.ensures.plain snapshots r b shows there (record { entries = subst (IsTable index.table 0) ends x.table; pages = pages }))
-    c.read_table.ensures.reads.same refl refl refl)
+    c.read_table.ensures.reads.same refl refl refl refl)
 
 pub returns-clause-leaves : goal.returns-clause-leaves
 returns-clause-leaves g c =
-    noted_leaves g.D.Disk c.args.parts.now _ c.args.at c.args.file.now c.args.offset (part_reply c.in_ok-index.index.part) _ (part_plain (part_reply c.in_ok-index.index.part) tt) c.read_table.ensures.reads refl
+    noted_leaves g.D.Disk c.args.parts.now _ c.args.at c.args.file.now c.args.offset (part_reply c.in_ok-index.index.part) _ (part_plain (part_reply c.in_ok-index.index.part) tt) c.read_table.ensures.reads refl refl
 
 pub returns-clause-unreadable : goal.returns-clause-unreadable
 returns-clause-unreadable g c =

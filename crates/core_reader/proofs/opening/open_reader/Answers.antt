@@ -22,6 +22,7 @@ use Rattle.core_state.proofs.Finding.{mapped, is_some}
 use Rattle.core_state.proofs.LockLemmas.{locked_reader}
 use Rattle.core_state.proofs.NamedLemmas.{list_all-set}
 use Rattle.core_state.proofs.Naming.{kept_whole, named_is, none_kept, none_named}
+use Rattle.core_state.proofs.Rows.{rows_begun}
 use Rattle.core_state.proofs.Soundness.{shows_changed}
 use Rattle.core_state.proofs.Texts.{bad_name_has_text, no_snapshot_has_text, done_has_text, unreadable_has_text}
 use Rattle.core_reader.specs.AnsweredBy.{ActOpens}
@@ -171,7 +172,8 @@ returns-clause-does g c =
       with_session s lane (reader new),
       open_found s lane c.args.at.moment c.args.snapshot.now c.in-Ok.key shown.0 none named shown.1,
       shows_changed _ _ s lane (reader new) _ refl refl (ap (λ r. Reader r) c.open_reader.ensures.opened)
-          (locked_reader _ _ s lane new l (h.shows).sound sound none c.in_ok-shared_take.ensures.ok (h.shows).locks) sound h.shows,
+          (locked_reader _ _ s lane new l (h.shows).sound sound none c.in_ok-shared_take.ensures.ok (h.shows).locks)
+          (rows_begun s lane old.indexes.items l (h.shows).indexes (reader new) none) sound h.shows,
       disk_reader _ s lane new l h.files,
     ))
 

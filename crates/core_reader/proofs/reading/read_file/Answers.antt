@@ -47,14 +47,14 @@ returns-in_err-part-clause-does g c =
     let path = string_bytes c.in_ok-path.path in
     let placed = place_is name (session_at old c.args.at.lane) old.catalogue.listed path c.in_ok-path.ensures.value in
     stops_does d old _ c.args.at (ReadFile name c.args.offset) c.read_part.result _ c.in_err-part.was _ c.from_residual-in_err-part.ensures.1
-    c.read_part.ensures.reads (record { catalogue = refl; sessions = refl; locks = refl }) c.in_err-part.ensures.text (read_error_answers c.as_str.result.now _ c.in_err-part.ensures.kind)
+    c.read_part.ensures.reads (record { catalogue = refl; sessions = refl; locks = refl; indexes = refl }) c.in_err-part.ensures.text (read_error_answers c.as_str.result.now _ c.in_err-part.ensures.kind)
     (λ s h. read_stops part_reply _ _ _ (c.in_err-part.ensures.exact h.honest)
     (λ refusal gives. read_refused d old s c.args.at.lane name path c.as_str.result.now c.args.offset c.requires c.path_of.ensures.name placed c.as_str.ensures.value h refusal gives))
 
 pub returns-in_err-part-clause-leaves : goal.returns-in_err-part-clause-leaves
 returns-in_err-part-clause-leaves g c =
     stops_leaves g.D.Disk c.args.parts.now _ c.args.at (ReadFile c.args.name.now c.args.offset) c.read_part.result _ c.in_err-part.was _ c.as_str.result.now c.from_residual-in_err-part.ensures.1
-    c.read_part.ensures.reads (record { catalogue = refl; sessions = refl; locks = refl }) refl c.in_err-part.ensures.kind (λ e. cc)
+    c.read_part.ensures.reads (record { catalogue = refl; sessions = refl; locks = refl; indexes = refl }) refl c.in_err-part.ensures.kind (λ e. cc)
 
 pub returns-in_err-part-clause-by_disk : goal.returns-in_err-part-clause-by_disk
 returns-in_err-part-clause-by_disk g c =
@@ -80,13 +80,13 @@ returns-clause-does g c =
     let name = c.args.name.now in
     let path = string_bytes c.in_ok-path.path in
     let placed = place_is name (session_at old c.args.at.lane) old.catalogue.listed path c.in_ok-path.ensures.value in
-    read_does d old _ c.args.at (ReadFile name c.args.offset) (part_reply c.in_ok-part.part) _ c.read_part.ensures.reads (record { catalogue = refl; sessions = refl; locks = refl })
+    read_does d old _ c.args.at (ReadFile name c.args.offset) (part_reply c.in_ok-part.part) _ c.read_part.ensures.reads (record { catalogue = refl; sessions = refl; locks = refl; indexes = refl })
     c.in_ok-part.ensures.text (filled_answers c.args.offset c.in_ok-part.part c.in_ok-part.ensures.filled) (part_plain (part_reply c.in_ok-part.part) tt)
     (λ s h. read_given d old s c.args.at.lane name path c.as_str.result.now c.args.offset c.requires c.path_of.ensures.name placed c.as_str.ensures.value h (part_reply c.in_ok-part.part) (c.in_ok-part.ensures.exact h.honest))
 
 pub returns-clause-leaves : goal.returns-clause-leaves
 returns-clause-leaves g c =
-    read_leaves g.D.Disk c.args.parts.now _ c.args.at (ReadFile c.args.name.now c.args.offset) (part_reply c.in_ok-part.part) _ c.read_part.ensures.reads (record { catalogue = refl; sessions = refl; locks = refl })
+    read_leaves g.D.Disk c.args.parts.now _ c.args.at (ReadFile c.args.name.now c.args.offset) (part_reply c.in_ok-part.part) _ c.read_part.ensures.reads (record { catalogue = refl; sessions = refl; locks = refl; indexes = refl })
     (record { plain = part_plain (part_reply c.in_ok-part.part) tt; change = refl; listed = refl; goes_on = refl; writes = λ writes. cc }) (λ e. cc)
 
 pub returns-clause-by_disk : goal.returns-clause-by_disk

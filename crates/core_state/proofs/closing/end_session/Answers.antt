@@ -1,8 +1,10 @@
 use Rattle.std.proofs.Common.{◌<◌, length, refl, arith}
 use Rattle.store_model.specs.Store.{none}
 use Rattle.core_state.specs.Named.{is_named}
+use Rattle.core_state.specs.declared.indexes.Indexes.TheVariants.{Unread}
 use Rattle.core_state.specs.declared.kept.Session.TheVariants.{Idle}
 use Rattle.core_state.proofs.LockLemmas.{locked_ended}
+use Rattle.core_state.proofs.Rows.{rows_set}
 use Rattle.core_state.proofs.NamedLemmas.{list_all-set}
 use Rattle.core_state.proofs.Soundness.{sound_idle, shows_changed}
 use Rattle.core_state.proofs.closing.end_session.Goals as goal
@@ -14,4 +16,6 @@ pub returns-clause-shows : goal.returns-clause-shows
 returns-clause-shows g c = λ s h.
     let within : c.args.lane < length s.sessions = omega (arith, (h.sound).lanes, c.requires) in
     let sound = sound_idle s c.args.lane c.requires h.sound in
-    shows_changed c.args.parts.now _ s c.args.lane none Idle refl refl refl (locked_ended _ _ s c.args.lane within h.sound sound c.release.ensures h.locks) sound h
+    let there : c.args.lane < length c.args.parts.now.indexes.items = omega (arith, c.args.parts.now.rows, c.args.parts.now.indexes.ok.0, c.requires) in
+    shows_changed c.args.parts.now _ s c.args.lane none Idle refl refl refl (locked_ended _ _ s c.args.lane within h.sound sound c.release.ensures h.locks)
+    (rows_set s c.args.lane none c.args.parts.now.indexes.items within h.indexes Unread there tt) sound h

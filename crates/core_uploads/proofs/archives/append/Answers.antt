@@ -31,9 +31,9 @@ invariant_of-parts-clause-named g c =
 pub returns-clause-does : goal.returns-clause-does
 returns-clause-does g c =
     stepped_does g.D.Disk c.args.parts.now _ c.args.at (Plain (Append c.args.number c.args.entries.now)) c.index_mut-session.result.now c.append_to.new.session c.append_to.result
-    c.requires c.index_mut-session.ensures.value refl refl refl refl (c.append_to.ensures c.args.at.moment)
+    c.requires c.index_mut-session.ensures.value refl refl refl refl refl (c.append_to.ensures c.args.at.moment)
 
 pub returns-clause-leaves : goal.returns-clause-leaves
 returns-clause-leaves g c =
     stepped_leaves g.D.Disk c.args.parts.now _ c.args.at (Plain (Append c.args.number c.args.entries.now)) c.index_mut-session.result.now c.append_to.new.session c.append_to.result
-    c.requires c.index_mut-session.ensures.value refl refl refl refl refl (λ reply. refl) refl refl refl (c.append_to.ensures c.args.at.moment)
+    c.requires c.index_mut-session.ensures.value refl refl refl refl refl refl (λ reply. refl) refl refl refl (c.append_to.ensures c.args.at.moment)

@@ -34,19 +34,19 @@ take_index-requires-clause-writer g c =
 
 pub returns-in_err-new-clause-does : goal.returns-in_err-new-clause-does
 returns-in_err-new-clause-does g c =
-    unpending_does g.D.Disk c.args.parts.now _ c.args.at (Plain (CloseIndex c.args.number c.args.count c.args.size c.args.csum.now)) c.index_mut-session.result.now c.take_index.new.session (λ (w : Writing). index_put (begun_at c.args.number (w.session).writer) w) c.requires c.index_mut-session.ensures.value refl refl
+    unpending_does g.D.Disk c.args.parts.now _ c.args.at (Plain (CloseIndex c.args.number c.args.count c.args.size c.args.csum.now)) c.index_mut-session.result.now c.take_index.new.session (λ (w : Writing). index_put (begun_at c.args.number (w.session).writer) w) c.requires c.index_mut-session.ensures.value refl refl refl
     c.take_index.result _ _ c.from_residual-in_err-new.ensures.1 c.in_err-new.was (c.take_index.ensures c.args.at.moment) refl refl
 
 pub returns-in_err-new-clause-leaves : goal.returns-in_err-new-clause-leaves
 returns-in_err-new-clause-leaves g c =
-    unpending_leaves g.D.Disk c.args.parts.now _ c.args.at (Plain (CloseIndex c.args.number c.args.count c.args.size c.args.csum.now)) c.index_mut-session.result.now c.take_index.new.session (λ (w : Writing). index_put (begun_at c.args.number (w.session).writer) w) c.requires c.index_mut-session.ensures.value refl refl
+    unpending_leaves g.D.Disk c.args.parts.now _ c.args.at (Plain (CloseIndex c.args.number c.args.count c.args.size c.args.csum.now)) c.index_mut-session.result.now c.take_index.new.session (λ (w : Writing). index_put (begun_at c.args.number (w.session).writer) w) c.requires c.index_mut-session.ensures.value refl refl refl
     c.take_index.result _ _ c.from_residual-in_err-new.ensures.1 c.in_err-new.was (c.take_index.ensures c.args.at.moment) refl refl refl
 
 pub invariant_of-parts : goal.invariant_of-parts
 invariant_of-parts g c =
     let old = c.args.parts.now in
     let same = ap (set old.sessions.items c.args.at.lane) ((c.in_err-new.ensures c.args.at.moment)).same ∙ found_stays old.sessions.items c.args.at.lane c.index_mut-session.result.now c.index_mut-session.ensures.value in
-    record { lanes = old.lanes; named = ap (list_all is_named) same ∙ old.named }
+    record { lanes = old.lanes; named = ap (list_all is_named) same ∙ old.named; rows = old.rows }
 
 -- ---- it is put
 
@@ -67,7 +67,7 @@ pub returns-in_err-keep_pending-clause-does : goal.returns-in_err-keep_pending-c
 returns-in_err-keep_pending-clause-does g c =
     let old = c.args.parts.now in
     let within : c.args.at.lane < length old.sessions.items = omega (arith, old.lanes, old.sessions.ok.0, c.requires) in
-    unput_does g.D.Disk old _ c.args.at (Plain (CloseIndex c.args.number c.args.count c.args.size c.args.csum.now)) c.index_mut-session.result.now c.take_index.new.session (λ (w : Writing). index_put (begun_at c.args.number (w.session).writer) w) c.requires c.index_mut-session.ensures.value refl refl
+    unput_does g.D.Disk old _ c.args.at (Plain (CloseIndex c.args.number c.args.count c.args.size c.args.csum.now)) c.index_mut-session.result.now c.take_index.new.session (λ (w : Writing). index_put (begun_at c.args.number (w.session).writer) w) c.requires c.index_mut-session.ensures.value refl refl refl
     c.in_ok-new.new c.take_index.result c.in_ok-new.was (c.take_index.ensures c.args.at.moment) c.keep_pending.new.session refl c.keep_pending.result c.keep_pending.ensures.puts
     _ _ c.from_residual-in_err-keep_pending.ensures.1 c.in_err-keep_pending.was (list_all-at is_named old.sessions.items c.args.at.lane c.index_mut-session.result.now old.named within c.index_mut-session.ensures.value)
     c.in_err-keep_pending.ensures.err
@@ -76,19 +76,19 @@ pub returns-in_err-keep_pending-clause-leaves : goal.returns-in_err-keep_pending
 returns-in_err-keep_pending-clause-leaves g c =
     let old = c.args.parts.now in
     let within : c.args.at.lane < length old.sessions.items = omega (arith, old.lanes, old.sessions.ok.0, c.requires) in
-    unput_leaves g.D.Disk old _ c.args.at (Plain (CloseIndex c.args.number c.args.count c.args.size c.args.csum.now)) c.index_mut-session.result.now c.take_index.new.session (λ (w : Writing). index_put (begun_at c.args.number (w.session).writer) w) c.requires c.index_mut-session.ensures.value refl refl
+    unput_leaves g.D.Disk old _ c.args.at (Plain (CloseIndex c.args.number c.args.count c.args.size c.args.csum.now)) c.index_mut-session.result.now c.take_index.new.session (λ (w : Writing). index_put (begun_at c.args.number (w.session).writer) w) c.requires c.index_mut-session.ensures.value refl refl refl
     c.in_ok-new.new c.take_index.result c.in_ok-new.was (c.take_index.ensures c.args.at.moment) c.keep_pending.new.session refl c.keep_pending.result c.keep_pending.ensures.puts
     _ _ c.from_residual-in_err-keep_pending.ensures.1 c.in_err-keep_pending.was (list_all-at is_named old.sessions.items c.args.at.lane c.index_mut-session.result.now old.named within c.index_mut-session.ensures.value)
     c.in_err-keep_pending.ensures.err refl refl refl (λ s h. tt)
 
 pub returns-clause-does : goal.returns-clause-does
 returns-clause-does g c =
-    put_does g.D.Disk c.args.parts.now _ c.args.at (Plain (CloseIndex c.args.number c.args.count c.args.size c.args.csum.now)) c.index_mut-session.result.now c.take_index.new.session (λ (w : Writing). index_put (begun_at c.args.number (w.session).writer) w) c.requires c.index_mut-session.ensures.value refl refl
+    put_does g.D.Disk c.args.parts.now _ c.args.at (Plain (CloseIndex c.args.number c.args.count c.args.size c.args.csum.now)) c.index_mut-session.result.now c.take_index.new.session (λ (w : Writing). index_put (begun_at c.args.number (w.session).writer) w) c.requires c.index_mut-session.ensures.value refl refl refl
     c.in_ok-new.new c.take_index.result c.in_ok-new.was (c.take_index.ensures c.args.at.moment) c.keep_pending.new.session refl c.keep_pending.result c.keep_pending.ensures.puts
     c.in_ok-keep_pending.ensures.puts.put c.in_ok-keep_pending.ensures.ok refl
 
 pub returns-clause-leaves : goal.returns-clause-leaves
 returns-clause-leaves g c =
-    put_leaves g.D.Disk c.args.parts.now _ c.args.at (Plain (CloseIndex c.args.number c.args.count c.args.size c.args.csum.now)) c.index_mut-session.result.now c.take_index.new.session (λ (w : Writing). index_put (begun_at c.args.number (w.session).writer) w) c.requires c.index_mut-session.ensures.value refl refl
+    put_leaves g.D.Disk c.args.parts.now _ c.args.at (Plain (CloseIndex c.args.number c.args.count c.args.size c.args.csum.now)) c.index_mut-session.result.now c.take_index.new.session (λ (w : Writing). index_put (begun_at c.args.number (w.session).writer) w) c.requires c.index_mut-session.ensures.value refl refl refl
     c.in_ok-new.new c.take_index.result c.in_ok-new.was (c.take_index.ensures c.args.at.moment) c.keep_pending.new.session refl c.keep_pending.result c.keep_pending.ensures.puts
     c.in_ok-keep_pending.ensures.puts.put c.in_ok-keep_pending.ensures.ok refl refl refl refl refl

@@ -32,9 +32,9 @@ invariant_of-parts-clause-named g c =
 pub returns-clause-does : goal.returns-clause-does
 returns-clause-does g c =
     stepped_does g.D.Disk c.args.parts.now _ c.args.at (Plain (NewDynamic c.args.name.now)) c.index_mut-session.result.now c.begin_index.new.session c.begin_index.result
-    c.requires.lane c.index_mut-session.ensures.value refl refl refl refl (c.begin_index.ensures)
+    c.requires.lane c.index_mut-session.ensures.value refl refl refl refl refl (c.begin_index.ensures)
 
 pub returns-clause-leaves : goal.returns-clause-leaves
 returns-clause-leaves g c =
     stepped_leaves g.D.Disk c.args.parts.now _ c.args.at (Plain (NewDynamic c.args.name.now)) c.index_mut-session.result.now c.begin_index.new.session c.begin_index.result
-    c.requires.lane c.index_mut-session.ensures.value refl refl refl refl refl (λ reply. refl) refl refl refl (c.begin_index.ensures)
+    c.requires.lane c.index_mut-session.ensures.value refl refl refl refl refl refl (λ reply. refl) refl refl refl (c.begin_index.ensures)

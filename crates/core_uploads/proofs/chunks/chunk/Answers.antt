@@ -62,7 +62,7 @@ returns-in_err-insert_blob-clause-does g c = let d = g.D.Disk in
     let old = c.args.parts.now in
     let puts = puts_blob d old.disk c.insert_blob.new.disk c.args.digest.now.0 c.as_slice-blob.result.now c.insert_blob.result c.insert_blob.ensures.serves c.insert_blob.ensures.crash c.insert_blob.ensures.stored c.insert_blob.ensures.unchanged in
     failed_does d old _ c.args.at (Chunk c.args.digest.now c.args.checked) c.insert_blob.result _ _ c.from_residual-in_err-insert_blob.ensures.1 c.in_err-insert_blob.was puts.serves puts.same
-    (record { catalogue = refl; sessions = refl; locks = refl })
+    (record { catalogue = refl; sessions = refl; locks = refl; indexes = refl })
 
 pub returns-in_err-insert_blob-clause-leaves : goal.returns-in_err-insert_blob-clause-leaves
 returns-in_err-insert_blob-clause-leaves g c = let d = g.D.Disk in
@@ -72,7 +72,7 @@ returns-in_err-insert_blob-clause-leaves g c = let d = g.D.Disk in
     let change = chunk_change _ _ c.args.digest.now c.args.checked c.in-Ok.bytes old.catalogue.listed (is_writing _ _ c.in_ok-w.ensures.value) c.in-Ok.is ∙ ap (stores (chunk_name c.args.digest.now.0)) (sym bytes) in
     failed_leaves d old _ c.args.at (Chunk c.args.digest.now c.args.checked) c.insert_blob.result _ _ c.from_residual-in_err-insert_blob.ensures.1 c.in_err-insert_blob.was puts.same puts.unmoved
     (subst (LeavesChange d old.disk c.insert_blob.new.disk) (sym change) puts.crash)
-    (record { catalogue = refl; sessions = refl; locks = refl }) refl (λ short closing. false_true closing)
+    (record { catalogue = refl; sessions = refl; locks = refl; indexes = refl }) refl (λ short closing. false_true closing)
     (λ s h. chunk_passes c.args.digest.now c.args.checked c.as_slice-blob.result.now (sent_bytes c.as_slice-blob.result.now (search rules)) (c.in-Ok.is ∙ ap (λ b. Ok b) (sym bytes)) c.requires.checked s c.args.at.lane)
 
 pub returns-then-knows-clause-does : goal.returns-then-knows-clause-does
@@ -83,7 +83,7 @@ returns-then-knows-clause-does g c = let d = g.D.Disk in
     (λ safe s h.
     let (v, at, is) = writer_shown old s c.args.at.lane _ h.shows c.requires.lane c.in_ok-w.ensures.value in
     knows d old _ s c.args.at.lane v _ c.args.digest.now c.args.checked c.as_slice-blob.result.now c.knows.result c.requires.lane at is c.in_ok-w.ensures.value was c.requires.checked c.knows.ensures.value c.if-knows.true
-    (c.in_ok-insert_blob.ensures.stored h.honest) refl refl refl safe h)
+    (c.in_ok-insert_blob.ensures.stored h.honest) refl refl refl refl safe h)
 
 pub returns-then-knows-clause-leaves : goal.returns-then-knows-clause-leaves
 returns-then-knows-clause-leaves g c = let d = g.D.Disk in
@@ -98,7 +98,7 @@ returns-then-knows-clause-leaves g c = let d = g.D.Disk in
     (subst (IsFirm d old.disk c.insert_blob.new.disk) (sym change) tt)
     refl (λ admin. absurd (false_true admin))
     (adds_taken d old c.insert_blob.new.disk c.args.digest.now c.args.checked c.as_slice-blob.result.now (sent_bytes c.as_slice-blob.result.now (search rules)) was c.requires.checked c.in_ok-insert_blob.ensures.stored)
-    (λ ends. absurd (false_true ends)) (λ _. ap is_writer (is_writing _ _ c.in_ok-w.ensures.value))
+    (λ ends. absurd (false_true ends)) (λ _. ap is_writer (is_writing _ _ c.in_ok-w.ensures.value)) (λ i keeps. refl)
 
 -- ---- it is put
 
@@ -127,7 +127,7 @@ returns-in_err-take_chunk-clause-does g c = let d = g.D.Disk in
     let puts = c.take_chunk.ensures.puts in
     let sessions = ap (set old.sessions.items c.args.at.lane) c.in_err-take_chunk.ensures.err ∙ found_stays old.sessions.items c.args.at.lane c.index_mut-session.result.now c.index_mut-session.ensures.value in
     failed_does d old _ c.args.at (Chunk c.args.digest.now c.args.checked) c.take_chunk.result _ _ c.from_residual-in_err-take_chunk.ensures.1 c.in_err-take_chunk.was puts.serves puts.same
-    (record { catalogue = refl; sessions = sessions; locks = refl })
+    (record { catalogue = refl; sessions = sessions; locks = refl; indexes = refl })
 
 pub returns-in_err-take_chunk-clause-leaves : goal.returns-in_err-take_chunk-clause-leaves
 returns-in_err-take_chunk-clause-leaves g c = let d = g.D.Disk in
@@ -139,7 +139,7 @@ returns-in_err-take_chunk-clause-leaves g c = let d = g.D.Disk in
     let sessions = ap (set old.sessions.items c.args.at.lane) c.in_err-take_chunk.ensures.err ∙ found_stays old.sessions.items c.args.at.lane c.index_mut-session.result.now c.index_mut-session.ensures.value in
     failed_leaves d old _ c.args.at (Chunk c.args.digest.now c.args.checked) c.take_chunk.result _ _ c.from_residual-in_err-take_chunk.ensures.1 c.in_err-take_chunk.was puts.same puts.unmoved
     (subst (LeavesChange d old.disk c.take_chunk.new.disk) (sym change) puts.crash)
-    (record { catalogue = refl; sessions = sessions; locks = refl }) refl (λ short closing. false_true closing)
+    (record { catalogue = refl; sessions = sessions; locks = refl; indexes = refl }) refl (λ short closing. false_true closing)
     (λ s h. chunk_passes c.args.digest.now c.args.checked c.as_slice-blob.result.now c.take_chunk.ensures.bytes (c.in-Ok.is ∙ ap (λ b. Ok b) (sym bytes)) c.requires.checked s c.args.at.lane)
 
 pub returns-clause-does : goal.returns-clause-does
@@ -153,7 +153,7 @@ returns-clause-does g c = let d = g.D.Disk in
     (λ safe s h.
     let (v, at, shows) = writer_shown old s c.args.at.lane _ h.shows c.requires.lane c.in_ok-w.ensures.value in
     takes d old _ s c.args.at.lane v _ c.index_mut-session.result.now c.take_chunk.new.session c.args.digest.now c.args.checked c.as_slice-blob.result.now
-    c.requires.lane at shows is c.in_ok-take_chunk.ensures.ok c.take_chunk.ensures.bytes was c.requires.checked puts.serves.kept c.in_ok-take_chunk.ensures.puts.put refl refl refl safe h)
+    c.requires.lane at shows is c.in_ok-take_chunk.ensures.ok c.take_chunk.ensures.bytes was c.requires.checked puts.serves.kept c.in_ok-take_chunk.ensures.puts.put refl refl refl refl safe h)
 
 pub returns-clause-leaves : goal.returns-clause-leaves
 returns-clause-leaves g c = let d = g.D.Disk in
@@ -176,3 +176,4 @@ returns-clause-leaves g c = let d = g.D.Disk in
     ap is_writer
     (get_or-set_same old.sessions.items c.args.at.lane c.take_chunk.new.session Idle within ∙ c.in_ok-take_chunk.ensures.ok
     ∙ ap (with_blob_noted c.args.digest.now c.as_slice-blob.result.now) is))
+    (λ i keeps. refl)

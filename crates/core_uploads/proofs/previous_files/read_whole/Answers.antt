@@ -1,27 +1,28 @@
-use Rattle.std.proofs.Common.{◌≡◌, [], map, refl, sym, ap, subst}
-use Rattle.dynamic_index.specs.Writing.{known_of}
+use Rattle.std.proofs.Common.{◌≡◌, [], refl, sym, subst}
+use Rattle.std.specs.FinMap.{empty}
+use Rattle.backup_session.proofs.Pools.{has_lengths-all, no_lengths}
 use Rattle.snapshot_files.specs.Indexes.{lengths_from}
 use Rattle.snapshot_files.specs.Parts.{part_reply}
 use Rattle.snapshot_files.proofs.Archives.{lengths_fit}
 use Rattle.snapshot_files.proofs.Opened.{unread_index}
 use Rattle.core_uploads.specs.declared.previous_files.Pieces.{Pieces}
-use Rattle.core_uploads.specs.Previous.{ArePieces}
+use Rattle.core_uploads.specs.Previous.{ArePieces, as_map}
 use Rattle.core_uploads.proofs.PreviousLemmas.{index_unread, whole_given}
 use Rattle.core_uploads.proofs.previous_files.read_whole.Goals as goal
 
 pub returns-in_err-index-clause-exact : goal.returns-in_err-index-clause-exact
 returns-in_err-index-clause-exact g c = let d = g.D.Disk in λ h.
     index_unread (d.content c.args.disk.now) c.args.path.now c.as_str.result.now c.args.kind c.args.offset c.in_err-index.field-0.0 _ c.from_residual.ensures.1 c.as_str.ensures.text
-    (unread_index {T = Pieces} (d.content c.args.disk.now) c.as_str.result.now c.args.kind c.args.offset (λ p base entries. map known_of p.items.items ≡ lengths_from base entries)
-    (record { items = c.new.result }) c.read_index.new.taker c.in_err-index.field-0.0 (c.in_err-index.ensures.exact h))
+    (unread_index {T = Pieces} (d.content c.args.disk.now) c.as_str.result.now c.args.kind c.args.offset (λ p base entries. p.known ≡ as_map (lengths_from base entries))
+    (record { known = c.new.result }) c.read_index.new.taker c.in_err-index.field-0.0 (c.in_err-index.ensures.exact h))
 
 pub returns-clause-exact : goal.returns-clause-exact
 returns-clause-exact g c = let d = g.D.Disk in λ h.
     let x = c.in_ok-index.ensures.exact h in
     whole_given (d.content c.args.disk.now) c.args.path.now c.as_str.result.now c.args.kind c.args.offset (part_reply c.in_ok-index.index.part) x.entries _ c.as_str.ensures.text x.read
-    (x.hands 0 [] (ap (map known_of) c.new.ensures.items) refl)
+    (x.hands 0 [] c.new.ensures refl)
 
 pub returns-clause-pieces : goal.returns-clause-pieces
 returns-clause-pieces g c =
     let some = c.in_ok-index.ensures.some in
-    subst ArePieces (sym (some.hands 0 [] (ap (map known_of) c.new.ensures.items) refl)) (lengths_fit 0 some.entries (some.fit).steps)
+    subst ArePieces (sym (some.hands 0 [] c.new.ensures refl)) (has_lengths-all empty (lengths_from 0 some.entries) no_lengths (lengths_fit 0 some.entries (some.fit).steps))

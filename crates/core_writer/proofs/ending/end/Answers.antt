@@ -12,14 +12,14 @@ use Rattle.core_writer.proofs.ending.end.Goals as goal
 
 pub returns-in_err-remove_files-clause-does : goal.returns-in_err-remove_files-clause-does
 returns-in_err-remove_files-clause-does g c =
-    end_fails g.D.Disk c.args.parts.now _ c.args.at c.remove_files.result _ _ _ c.in_err-remove_files.was c.from_residual.ensures.1 c.remove_files.ensures.serves (record { catalogue = refl; sessions = refl; locks = refl })
+    end_fails g.D.Disk c.args.parts.now _ c.args.at c.remove_files.result _ _ _ c.in_err-remove_files.was c.from_residual.ensures.1 c.remove_files.ensures.serves (record { catalogue = refl; sessions = refl; locks = refl; indexes = refl })
 
 pub returns-in_err-remove_files-clause-leaves : goal.returns-in_err-remove_files-clause-leaves
 returns-in_err-remove_files-clause-leaves g c = let d = g.D.Disk in
     let old = c.args.parts.now in
     let files = c.files_of.ensures ∙ ap files_in (sym (session_found old c.args.at.lane c.index.result.now c.requires c.index.ensures)) in
     end_failed_leaves d old _ c.args.at _ _ c.from_residual.ensures.1
-    (subst (λ fs. LeavesBy d old.disk c.remove_files.new.disk (MayLose (put_paths fs))) files (inr c.remove_files.ensures.crash)) (record { catalogue = refl; sessions = refl; locks = refl })
+    (subst (λ fs. LeavesBy d old.disk c.remove_files.new.disk (MayLose (put_paths fs))) files (inr c.remove_files.ensures.crash)) (record { catalogue = refl; sessions = refl; locks = refl; indexes = refl })
 
 pub returns-in_err-remove_files-clause-idle : goal.returns-in_err-remove_files-clause-idle
 returns-in_err-remove_files-clause-idle g c = λ idle.
@@ -33,7 +33,7 @@ returns-clause-does g c = let d = g.D.Disk in
     let files = c.files_of.ensures ∙ ap files_in (sym (session_found old c.args.at.lane c.index.result.now c.requires c.index.ensures)) in
     end_does d old c.end_session.new.parts c.args.at c.remove_files.new.disk _ c.requires c.end_session.ensures.disk c.remove_files.ensures.serves
     (λ h. c.in_ok-remove_files.ensures.removed h ∙ ap (λ fs. without (put_paths fs) (d.content old.disk)) files)
-    (λ s shows. c.end_session.ensures.shows s (shows_same old _ s refl refl refl shows))
+    (λ s shows. c.end_session.ensures.shows s (shows_same old _ s (record { catalogue = refl; sessions = refl; locks = refl; indexes = refl }) shows))
 
 pub returns-clause-leaves : goal.returns-clause-leaves
 returns-clause-leaves g c = let d = g.D.Disk in
@@ -44,3 +44,4 @@ returns-clause-leaves g c = let d = g.D.Disk in
     (λ h. c.in_ok-remove_files.ensures.removed h ∙ ap (λ fs. without (put_paths fs) (d.content old.disk)) files)
     c.end_session.ensures.catalogue
     (ap (λ xs. slice_index_or xs c.args.at.lane Idle) c.end_session.ensures.sessions ∙ idle_set old c.args.at.lane Idle c.requires refl)
+    c.end_session.ensures.indexes

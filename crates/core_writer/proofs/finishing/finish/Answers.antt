@@ -9,6 +9,8 @@ use Rattle.core_state.specs.Changes.{IsFirm, LeavesChange, after}
 use Rattle.core_state.specs.Wanted.{session_at}
 use Rattle.core_state.specs.Named.{is_named}
 use Rattle.core_state.specs.Replies.{refuses_finish}
+use Rattle.core_state.specs.declared.indexes.Indexes.TheVariants.{Unread}
+use Rattle.core_state.proofs.Rows.{rows_but}
 use Rattle.core_state.proofs.Commanding.{failed_does, failed_leaves, not_still, refused_does, same_kept, unwritten_does, writes_does, writes_leaves}
 use Rattle.core_state.proofs.NamedLemmas.{list_all-set, list_all-at}
 use Rattle.core_state.proofs.Texts.{no_file_has_text, done_has_text}
@@ -36,13 +38,13 @@ pub returns-in_err-path-clause-does : goal.returns-in_err-path-clause-does
 returns-in_err-path-clause-does g c =
     let old = c.args.parts.now in
     let here = session_found old c.args.at.lane c.index.result.now c.requires c.index.ensures in
-    refused_does g.D.Disk old _ c.args.at (Plain Finish) NoFile _ (err_as _ _ _ c.in_err-path.ensures.refusal c.from_residual-in_err-path.ensures.1) refl (record { catalogue = refl; sessions = refl; locks = refl }) no_file_has_text refl
+    refused_does g.D.Disk old _ c.args.at (Plain Finish) NoFile _ (err_as _ _ _ c.in_err-path.ensures.refusal c.from_residual-in_err-path.ensures.1) refl (record { catalogue = refl; sessions = refl; locks = refl; indexes = refl }) no_file_has_text refl
     (λ s shows. tests_there old s c.args.at _ shows c.requires c.in_ok-writer.ensures.value c.in_ok-check.ensures.plain (ap manifest_in here ∙ sym c.in_err-path.ensures.value))
 
 pub returns-in_err-finish-clause-does : goal.returns-in_err-finish-clause-does
 returns-in_err-finish-clause-does g c =
     failed_does g.D.Disk c.args.parts.now _ c.args.at (Plain Finish) c.finish.result _ _ c.from_residual-in_err-finish.ensures.1 c.in_err-finish.was
-    c.finish.ensures.serves (λ none h. (c.finish.ensures.unchanged none).0 h) (record { catalogue = c.reserve.ensures.same; sessions = refl; locks = refl })
+    c.finish.ensures.serves (λ none h. (c.finish.ensures.unchanged none).0 h) (record { catalogue = c.reserve.ensures.same; sessions = refl; locks = refl; indexes = refl })
 
 pub returns-in_err-finish-clause-leaves : goal.returns-in_err-finish-clause-leaves
 returns-in_err-finish-clause-leaves g c = let d = g.D.Disk in
@@ -52,7 +54,7 @@ returns-in_err-finish-clause-leaves g c = let d = g.D.Disk in
     let change = finish_change (session_at old c.args.at.lane) _ _ (ap manifest_in here ∙ told) in
     failed_leaves d old _ c.args.at (Plain Finish) c.finish.result _ _ c.from_residual-in_err-finish.ensures.1 c.in_err-finish.was
     (λ none h. (c.finish.ensures.unchanged none).0 h) (λ none. inr (c.finish.ensures.unchanged none).1)
-    (subst (LeavesChange d old.disk _) (sym change) (inr c.finish.ensures.crash)) (record { catalogue = c.reserve.ensures.same; sessions = refl; locks = refl }) refl (λ none closing. cc)
+    (subst (LeavesChange d old.disk _) (sym change) (inr c.finish.ensures.crash)) (record { catalogue = c.reserve.ensures.same; sessions = refl; locks = refl; indexes = refl }) refl (λ none closing. cc)
     (λ s h. tests_done old s c.args.at _ h.shows c.requires c.in_ok-writer.ensures.value c.in_ok-check.ensures.plain)
 
 pub returns-clause-does : goal.returns-clause-does
@@ -65,7 +67,7 @@ returns-clause-does g c =
     (λ safe s h. finish_done g.D.Disk old _ s c.args.at _ _ _ h c.requires c.in_ok-writer.ensures.value c.in_ok-check.ensures.plain (ap manifest_in here ∙ told)
     c.in_ok-finish.ensures.installed
     (c.close.ensures.catalogue ∙ ap (closed c.args.at.number c.index_mut-session.result.now) c.reserve.ensures.same ∙ ap (λ x. closed c.args.at.number x old.catalogue.listed) (sym session))
-    (ap (set old.sessions.items c.args.at.lane) c.close.ensures.session) c.release.ensures)
+    (ap (set old.sessions.items c.args.at.lane) c.close.ensures.session) c.release.ensures refl)
 
 pub returns-clause-leaves : goal.returns-clause-leaves
 returns-clause-leaves g c = let d = g.D.Disk in
@@ -81,6 +83,7 @@ returns-clause-leaves g c = let d = g.D.Disk in
     (not_still (Plain Finish) refl)
     (finish_adds d old _ c.args.at.lane _ _ c.requires (ap manifest_in here ∙ told) c.in_ok-finish.ensures.installed)
     (λ _. idle_set old c.args.at.lane _ c.requires c.close.ensures.session) (λ writes. absurd (false_true writes))
+    (rows_but old _ c.args.at.lane (Plain Finish) Unread refl refl)
 
 pub close-requires-clause-named : goal.close-requires-clause-named
 close-requires-clause-named g c =

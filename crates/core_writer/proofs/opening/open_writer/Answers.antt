@@ -56,7 +56,7 @@ pub returns-in_err-begun-clause-does : goal.returns-in_err-begun-clause-does
 returns-in_err-begun-clause-does g c =
     let old = c.args.parts.now in
     let named : key_of c.args.snapshot.now ≡ Some c.in-Ok.key = search rules in
-    early_does g.D.Disk refuses_writer old _ c.args.at (Plain (OpenWriter c.args.snapshot.now)) _ _ c.from_residual-in_err-begun.ensures.1 refl (record { catalogue = refl; sessions = refl; locks = c.in_err-begun.ensures.err }) c.in_err-begun.ensures.stop (λ refusal is. is)
+    early_does g.D.Disk refuses_writer old _ c.args.at (Plain (OpenWriter c.args.snapshot.now)) _ _ c.from_residual-in_err-begun.ensures.1 refl (record { catalogue = refl; sessions = refl; locks = c.in_err-begun.ensures.err; indexes = refl }) c.in_err-begun.ensures.stop (λ refusal is. is)
     (λ s h. opening_refuses old s c.args.at.lane c.args.at.moment c.args.snapshot.now c.in-Ok.key _ c.requires.lane c.in_ok-idle.ensures.value named c.in_err-begun.ensures.value h.shows)
 
 pub returns-in_err-begun-clause-from_state : goal.returns-in_err-begun-clause-from_state
@@ -85,7 +85,7 @@ returns-clause-does g c =
     let told = c.in_ok-begun.ensures.value in
     changed_does g.D.Disk old _ c.args.at (Plain (OpenWriter c.args.snapshot.now)) _ refl (base_has_text begun.text c.in_ok-begun.ensures.short) refl tt
     (λ s h. opens g.D.Disk old _ s c.args.at.lane c.args.at.moment c.args.snapshot.now c.in-Ok.key begun.base _ _ c.requires.lane c.in_ok-idle.ensures.value named key
-    told.0 refl refl c.in_ok-begun.ensures.taken
+    told.0 refl refl refl c.in_ok-begun.ensures.taken
     (ap (λ v. Writer (record { session = v; files = c.new.result })) c.open_writer.ensures.opened ∙ ap (λ fs. writing c.in-Ok.key c.args.at.moment begun.base fs) c.new.ensures)
     (subst (λ (x : backups.Session). Shows x.writer (new_writer c.in-Ok.key c.args.at.moment begun.base)) c.open_writer.ensures.opened c.open_writer.ensures.plain)
     (ap (λ t. Base t) told.1) h)

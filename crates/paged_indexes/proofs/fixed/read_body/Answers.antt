@@ -21,7 +21,7 @@ loop-i-init g c = record {
   pages = c.pages_in-pages.ensures;
   progress = λ h text there len. none_read 32 (drop 4096 text) c.in_ok-opening.opening c.in_ok-opening.ensures.begins;
   cuts = let all : c.args.count ≡ c.args.count - 0 = omega arith in subst (Cuts c.args.cut 0) all c.requires.cuts;
-  some = some_none g.T.TakesEntries.taken (min c.args.count 0) c.args.taker.now;
+  some = some_none g.T.TakesEntries.taken (min c.args.count 0) c.args.taker.now (omega arith);
   those = λ h text there len. rest_whole g.T.TakesEntries.taken 0 (ends_in c.args.cut 0 (drop 4096 text)) c.args.taker.now;
 }
 
@@ -85,7 +85,8 @@ returns-in_err-start-clause-reads g c =
 
 pub returns-clause-some : goal.returns-clause-some
 returns-clause-some g c =
-    some_all g.T.TakesEntries.taken c.args.count (min c.args.count (c.loop-i.i * 1024)) c.loop-i.start c.args.taker.now c.loop-i.taker c.requires.limit (omega arith) c.loop-i.invariant.some
+    let past : page_count c.args.count ≤ c.loop-i.i = omega (arith, c.loop-i-test.false, c.loop-i.auto.i-end, c.loop-i.invariant.pages) in
+    some_all g.T.TakesEntries.taken c.args.count (min c.args.count (c.loop-i.i * 1024)) c.loop-i.start c.args.taker.now c.loop-i.taker c.requires.limit (omega (arith, past)) c.loop-i.invariant.some
 
 pub returns-clause-those : goal.returns-clause-those
 returns-clause-those g c = λ h text there len.

@@ -24,7 +24,7 @@ loop-i-init g c =
       rises = none_rise c.in_ok-reading.reading made.ends;
       pages = c.pages_in-pages.ensures;
       progress = λ h text there len. begins (drop 4096 text) c.in_ok-reading.reading made.begins made.ends made.start;
-      some = subst (λ n. SomeTaken taken (min c.args.count 0) n taker taker) (sym made.start) (some_none taken (min c.args.count 0) taker);
+      some = subst (λ n. SomeTaken taken (min c.args.count 0) n taker taker) (sym made.start) (some_none taken (min c.args.count 0) taker (omega arith));
       those = λ h text there len.
           subst (λ n. HandsRest taken 0 (entries_of (drop 4096 text)) taker n (entries_of (drop 4096 text)) taker) (sym made.start)
           (rest_whole taken 0 (entries_of (drop 4096 text)) taker);
@@ -88,7 +88,8 @@ loop-i-preserved g c = let d = g.D.Disk in
 
 pub returns-clause-some : goal.returns-clause-some
 returns-clause-some g c =
-    some_all g.T.TakesEntries.taken c.args.count (min c.args.count (c.loop-i.i * 1024)) c.loop-i.reading.end c.args.taker.now c.loop-i.taker c.requires (omega arith) c.loop-i.invariant.some
+    let past : page_count c.args.count ≤ c.loop-i.i = omega (arith, c.loop-i-test.false, c.loop-i.auto.i-end, c.loop-i.invariant.pages) in
+    some_all g.T.TakesEntries.taken c.args.count (min c.args.count (c.loop-i.i * 1024)) c.loop-i.reading.end c.args.taker.now c.loop-i.taker c.requires (omega (arith, past)) c.loop-i.invariant.some
 
 pub returns-clause-those : goal.returns-clause-those
 returns-clause-those g c = λ h text there len.

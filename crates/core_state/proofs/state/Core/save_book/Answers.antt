@@ -26,5 +26,5 @@ returns-clause-history g c =
     let put : OkInstalls d c.args.self.now.parts.disk c.install.new.disk book_name (text_of_book c.args.self.now) c.install.result =
     subst (λ b. OkInstalls d c.args.self.now.parts.disk c.install.new.disk book_name b c.install.result) bytes c.install.ensures.installed in
     saves_book d c.args.self.now _ c.install.result c.install.ensures.serves
-    (record { clock = refl; journal = refl; upkeep = refl; collector = refl; last = refl; fault = refl; remote = refl; catalogue = refl; sessions = refl; locks = refl })
+    (record { clock = refl; journal = refl; upkeep = refl; collector = refl; last = refl; fault = refl; remote = refl; catalogue = refl; sessions = refl; locks = refl; indexes = refl })
     crash put (c.in_ok-text.ensures.fits (record { touches = c.requires.early; in_time = c.args.self.now.in_time })) c.install.ensures.unchanged

@@ -7,12 +7,13 @@ use Rattle.index_pages.specs.declared.fault.PageFault.TheVariants.{BadIndex}
 use Rattle.index_pages.specs.declared.head.Head.{Head}
 use Rattle.index_pages.specs.Gives.{Gives}
 use Rattle.index_pages.specs.Opening.{front_in, opened_by}
+use Rattle.index_pages.specs.Paged.{Paged}
 use Rattle.index_pages.proofs.Carried.{by_err, ok_not, short_not_failed, told_not_failed}
 use Rattle.index_pages.proofs.Filled.{gives_err, gives_told}
 use Rattle.disk_trait.proofs.OnlyReading.{reads_then}
 use Rattle.index_pages.proofs.Opened.{has_count, has_front, no_count, no_front}
-use Rattle.paged_indexes.specs.Dynamic.{DynamicPaged, dynamic_entries, dynamic_paged, opened}
-use Rattle.paged_indexes.specs.Handing.{HandsOn}
+use Rattle.paged_indexes.specs.Dynamic.{DynamicPaged, HasEnds, dynamic_entries, dynamic_paged, opened}
+use Rattle.paged_indexes.specs.Handing.{HandsOn, HandsSome}
 use Rattle.paged_indexes.proofs.Handed.{same_some}
 use Rattle.paged_indexes.proofs.Opened.{dynamic_by, dynamic_rest, no_body, paged_is, summed}
 use Rattle.paged_indexes.proofs.dynamic.DynamicPages.open_into.Goals as goal
@@ -105,3 +106,12 @@ returns-clause-those g c = let d = g.D.Disk in λ h text at.
     let there : get (d.content c.read_head.new.disk) name ≡ Some f.text = ap (λ x. get x name) (reads.same h) ∙ f.there in
     subst (λ t. HandsOn g.T.TakesEntries.taken 0 (dynamic_entries t) c.args.taker.now c.read_body.new.taker) (same_some f.text text (sym f.there ∙ at))
     (c.in_ok-read.ensures.those (reads.serves.kept.0 h) f.text there n.len)
+
+pub returns-clause-some : goal.returns-clause-some
+returns-clause-some g c =
+    subst (λ (p : Paged). HandsSome g.T.TakesEntries.taken p.count c.args.taker.now c.read_body.new.taker) (sym c.in_ok-pages.ensures) c.in_ok-read.ensures.some
+
+pub invariant_of-result : goal.invariant_of-result
+invariant_of-result g c =
+    subst (λ (p : Paged). HasEnds p c.in_ok-read.read.ends.items) (sym c.in_ok-pages.ensures)
+    (record { width = refl; limit = c.in_ok-count.ensures.limit; len = c.in_ok-read.ensures.ends; rises = c.in_ok-read.ensures.rises })

@@ -17,7 +17,7 @@ use Rattle.std.specs.Prelude.{◌==◌}
 use Rattle.std.proofs.lemmas.Bool.{and_parts, eqb-true}
 use Rattle.index_pages.specs.Paged.{Paged}
 use Rattle.paged_indexes.specs.Fixed.{FixedPaged, HasSizes, fixed_ends_from, fixed_entries, fixed_paged, opened}
-use Rattle.paged_indexes.specs.Handing.{HandsOn}
+use Rattle.paged_indexes.specs.Handing.{HandsOn, HandsSome}
 use Rattle.paged_indexes.proofs.Handed.{same_some}
 use Rattle.paged_indexes.proofs.Opened.{bad_sizes, chunk_size_is, fixed_by, fixed_paged_is, fixed_rest, fixed_summed, no_fixed_body, size_is, sizes_are}
 use Rattle.paged_indexes.proofs.fixed.FixedPages.open_into.Goals as goal
@@ -139,3 +139,7 @@ invariant_of-result g c =
     let both = and_parts (is_chunk_size chunk_size) (c.in_ok-count.count == piece_count size chunk_size) (sym c.if-not-has_sizes.ensures) in
     subst (λ (p : Paged). HasSizes p size chunk_size) (sym c.in_ok-pages.ensures)
     (record { width = refl; limit = c.in_ok-count.ensures.limit; allowed = both.0; pieces = eqb-true _ _ both.1 })
+
+pub returns-clause-some : goal.returns-clause-some
+returns-clause-some g c =
+    subst (λ (p : Paged). HandsSome g.T.TakesEntries.taken p.count c.args.taker.now c.read_body.new.taker) (sym c.in_ok-pages.ensures) c.in_ok-body.ensures.some
