@@ -180,8 +180,8 @@ SCENARIOS = [
     swept("a fixed archive that is restored and listed", RESTORES, 28, RESTORES_FOUND),
     swept("two backups of an archive, and a restore", archives.AGAIN, 45, AGAIN_FOUND),
     swept("a FORGET, and a PRUNE behind it", prunes.GONE, 27, GONE_FOUND),
-    # VERIFY has one for FILES, two for each file, four to open the index and read its page, and two for each chunk
-    swept("a backup that is verified", VERIFIES, 34, VERIFIES_FOUND),
+    # VERIFY has one for FILES, two for each file, three to open the index, of which one has its page, and two for each chunk
+    swept("a backup that is verified", VERIFIES, 33, VERIFIES_FOUND),
     *flat(stopped_last("a FINISH", BACKUP, BEFORE_FINISH, count, 4, found_behind) for count, found_behind in FINISHES),
     *flat(stopped_last("a FORGET", [*BACKUP, (forget(A), DONE)], BEFORE_FORGET, count, 3, found_behind) for count, found_behind in FORGETS),
     scenario(PUT_FAILS, fails(BEFORE_FORGET + 1), talk(CHUNK_FAILS, "DiskFault"), first_found(True)),

@@ -52,7 +52,7 @@ READS = [
 ]
 
 # The calls of a VERIFY: the manifest at FILES; of each file its size and a part; the size of the index, its front and its page as it is
-# opened, and the page again; of each chunk its size and its file.
+# opened, from which the page of the first entry is taken; of each chunk its size and its file.
 VERIFIED = [
     ("the manifest at FILES: nothing is read", 0, unreadable(PLAIN)),
     ("the blob's size", 1, verified(3, 2, 5, file_fault("a.conf.blob", 24))),
@@ -64,11 +64,10 @@ VERIFIED = [
     ("the index's size as it is opened: no chunks are read", 7, verified(3, 2, 5, file_fault("root.didx", 24))),
     ("the front of the index as it is opened: no chunks are read", 8, verified(3, 2, 5, file_fault("root.didx", 24))),
     ("a page of the index as it is opened: no chunks are read", 9, verified(3, 2, 5, file_fault("root.didx", 24))),
-    ("the page of the first entry: no chunks are read", 10, verified(3, 2, 5, file_fault("root.didx", 24))),
-    ("the first chunk's size", 11, verified(3, 2, 5, file_fault("root.didx", 23, sha256(b"abc")))),
-    ("the first chunk", 12, verified(3, 2, 5, file_fault("root.didx", 23, sha256(b"abc")))),
-    ("the second chunk's size", 13, verified(3, 2, 5, file_fault("root.didx", 23, sha256(b"de")))),
-    ("the second chunk", 14, verified(3, 2, 5, file_fault("root.didx", 23, sha256(b"de")))),
+    ("the first chunk's size", 10, verified(3, 2, 5, file_fault("root.didx", 23, sha256(b"abc")))),
+    ("the first chunk", 11, verified(3, 2, 5, file_fault("root.didx", 23, sha256(b"abc")))),
+    ("the second chunk's size", 12, verified(3, 2, 5, file_fault("root.didx", 23, sha256(b"de")))),
+    ("the second chunk", 13, verified(3, 2, 5, file_fault("root.didx", 23, sha256(b"de")))),
 ]
 
 

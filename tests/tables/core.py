@@ -233,12 +233,12 @@ TABLES = {
         "WRITTEN": [open_writer("host/b/2020-01-15T06:30:04Z")],
     },
     "core_tests/src/pages.rt": {
+        "RANGE_OF_FIRST": [range_of("root.didx", 0, 2)],
+        "RANGE_OF_SECOND": [range_of("root.didx", 2 * 1024, 2)],
+        "RANGE_OF_LAST": [range_of("root.didx", 2 * 2048, 3)],
+        "RANGE_OF_TWO": [range_of("root.didx", 2 * 1024 - 2, 4)],
+        "GIVEN_TWO": [frame(rest(b"dede"))],
         "BY_RANGE": [
-            range_of("root.didx", 0, 2),
-            range_of("root.didx", 2 * 1024, 2),
-            range_of("root.didx", 2 * 2048, 3),
-            range_of("root.didx", 2 * 1024 - 2, 4),
-            frame(rest(b"dede")),
             frame(rest(b"deabc")),
             range_of("root.didx", 2 * 1024 + 1, 0),
             range_of("root.didx", 2 * 2048 + 3, 0),

@@ -13,20 +13,19 @@ use Rattle.std.proofs.lemmas.Slice.Eq.{bytes_eq-Decides}
 use Rattle.std.proofs.lemmas.List.{append-nil}
 use Rattle.sha2.specs.Sha256.{sha256}
 use Rattle.store_types.specs.declared.names.Digest32.{Digest32}
+use Rattle.store_types.specs.declared.piece.Piece.{Piece}
 use Rattle.store_types.specs.Names.{text_cmp}
 use Rattle.store_types.specs.declared.refusal.Refusal.{Refusal}
 use Rattle.store_types.specs.declared.refusal.Refusal.TheVariants.{UnknownChunk, BadOffset, WrongSize}
 use Rattle.store_types.specs.Chain.Refusing.{◌>>=◌, unless, or_else}
 use Rattle.store_files.specs.Archive.{Layout, piece_with}
 use Rattle.store_model.specs.Archives.{fits_layout, piece_named}
-use Rattle.dynamic_index.specs.Writing.{Known}
-use Rattle.dynamic_index.specs.Writing as indexes
 use Rattle.known_chunks.specs.Lengths.{Lengths}
 use Rattle.known_chunks.specs.Lengths as chunks
 use Rattle.known_chunks.proofs.Pools.{found_joined, joined_listed}
 use Rattle.backup_session.specs.Session.{Pool, IsPool, IsLength, lengths_in, length_at, with_length, with_lengths, without_length}
 use Rattle.backup_session.specs.Steps.{known_in}
-use Rattle.backup_session.specs.Shown.{known_of, lengths_of, pool_of}
+use Rattle.backup_session.specs.Shown.{known_of, lengths_of, piece_of, pool_of}
 use Rattle.backup_session.specs.Kept.{HasLengths}
 
 text_same : (a b : List ℕ) → eq_by_cmp text_cmp a b ≡ bytes_eq a b
@@ -149,27 +148,30 @@ forgotten pool digest len (m, is) none =
 
 -- ---- of pieces
 
-found_alike : (digest : Digest32) (pieces : List (List ℕ)) → option_map (λ len. (digest.0, len)) (find text_cmp digest.0 (map known_of pieces)) ≡ option_map known_of (piece_with digest pieces)
+abbrev pub piece_at : Digest32 → ℕ → Piece
+piece_at digest len = record { digest = digest; length = len }
+
+found_alike : (digest : Digest32) (pieces : List (List ℕ)) → option_map (piece_at digest) (find text_cmp digest.0 (map known_of pieces)) ≡ option_map piece_of (piece_with digest pieces)
 found_alike digest [] = refl
 found_alike digest (p ∷ ps) = by_test (bytes_eq (sha256 p) digest.0) refl (found_alike digest ps)
   where
     by_test : (b : Bool) → bytes_eq (sha256 p) digest.0 ≡ b
-        → option_map (λ len. (digest.0, len)) (find text_cmp digest.0 (map known_of ps)) ≡ option_map known_of (piece_with digest ps)
-        → option_map (λ len. (digest.0, len)) (cond (eq_by_cmp text_cmp digest.0 (sha256 p)) (Some (length p)) (find text_cmp digest.0 (map known_of ps)))
-        ≡ option_map known_of (cond (bytes_eq (sha256 p) digest.0) (Some p) (piece_with digest ps))
+        → option_map (piece_at digest) (find text_cmp digest.0 (map known_of ps)) ≡ option_map piece_of (piece_with digest ps)
+        → option_map (piece_at digest) (cond (eq_by_cmp text_cmp digest.0 (sha256 p)) (Some (length p)) (find text_cmp digest.0 (map known_of ps)))
+        ≡ option_map piece_of (cond (bytes_eq (sha256 p) digest.0) (Some p) (piece_with digest ps))
     by_test true e rest =
-        ap (λ b. option_map (λ len. (digest.0, len)) (cond b (Some (length p)) (find text_cmp digest.0 (map known_of ps)))) (text_same digest.0 (sha256 p) ∙ turned (sha256 p) digest.0 true e)
-        ∙ ap (λ q. Some (q, length p)) (sym (same_text (sha256 p) digest.0 e))
-        ∙ sym (ap (λ b. option_map known_of (cond b (Some p) (piece_with digest ps))) e)
+        ap (λ b. option_map (piece_at digest) (cond b (Some (length p)) (find text_cmp digest.0 (map known_of ps)))) (text_same digest.0 (sha256 p) ∙ turned (sha256 p) digest.0 true e)
+        ∙ ap (λ q. Some (piece_at (record { 0 = q }) (length p))) (sym (same_text (sha256 p) digest.0 e))
+        ∙ sym (ap (λ b. option_map piece_of (cond b (Some p) (piece_with digest ps))) e)
     by_test false e rest =
-        ap (λ b. option_map (λ len. (digest.0, len)) (cond b (Some (length p)) (find text_cmp digest.0 (map known_of ps)))) (text_same digest.0 (sha256 p) ∙ turned (sha256 p) digest.0 false e)
+        ap (λ b. option_map (piece_at digest) (cond b (Some (length p)) (find text_cmp digest.0 (map known_of ps)))) (text_same digest.0 (sha256 p) ∙ turned (sha256 p) digest.0 false e)
         ∙ rest
-        ∙ sym (ap (λ b. option_map known_of (cond b (Some p) (piece_with digest ps))) e)
+        ∙ sym (ap (λ b. option_map piece_of (cond b (Some p) (piece_with digest ps))) e)
 
 -- what the pool knows is what its first piece of the digest shows
-pub known_in-pool : (pieces : List (List ℕ)) (digest : Digest32) → known_in (pool_of pieces) digest ≡ option_map known_of (piece_with digest pieces)
+pub known_in-pool : (pieces : List (List ℕ)) (digest : Digest32) → known_in (pool_of pieces) digest ≡ option_map piece_of (piece_with digest pieces)
 known_in-pool pieces digest =
-    ap (λ o. option_map (λ len. (digest.0, len)) o) (sym (get-entries (lengths_of pieces) digest.0) ∙ get-from_entries nat_list_cmp_total (map known_of pieces) digest.0)
+    ap (option_map (piece_at digest)) (sym (get-entries (lengths_of pieces) digest.0) ∙ get-from_entries nat_list_cmp_total (map known_of pieces) digest.0)
     ∙ found_alike digest pieces
 
 -- ---- one more piece
@@ -230,24 +232,24 @@ pool_of-all pieces (p ∷ ps) =
 -- ---- one entry of an APPEND
 
 module _ (m : Lengths) (layout : Layout) (place end : ℕ) (entry : Digest32 × ℕ) where
-  known_is : (o : Option ℕ) → get m (entry.0).0 ≡ o → known_in (entries m) entry.0 ≡ option_map (λ len. ((entry.0).0, len)) o
-  known_is o e = ap (λ x. option_map (λ len. ((entry.0).0, len)) x) (sym (get-entries m (entry.0).0) ∙ e)
+  known_is : (o : Option ℕ) → get m (entry.0).0 ≡ o → known_in (entries m) entry.0 ≡ option_map (piece_at entry.0) o
+  known_is o e = ap (option_map (piece_at entry.0)) (sym (get-entries m (entry.0).0) ∙ e)
 
-  fitting : Known → Bool → Result Known Refusal
-  fitting piece fits = unless (WrongSize place piece.1) fits >>= λ _. Ok piece
+  fitting : Piece → Bool → Result Piece Refusal
+  fitting piece fits = unless (WrongSize place piece.length) fits >>= λ _. Ok piece
 
-  tests : Option Known → Bool → Result Known Refusal
-  tests o at = or_else (UnknownChunk place) o >>= λ piece. unless (BadOffset place end) at >>= λ _. fitting piece (fits_layout layout end piece.1)
+  tests : Option Piece → Bool → Result Piece Refusal
+  tests o at = or_else (UnknownChunk place) o >>= λ piece. unless (BadOffset place end) at >>= λ _. fitting piece (fits_layout layout end piece.length)
 
-  tested : piece_named (known_in (entries m)) (λ k. k.1) layout place end entry ≡ tests (known_in (entries m) entry.0) (entry.1 == end)
+  tested : piece_named (known_in (entries m)) (λ p. p.length) layout place end entry ≡ tests (known_in (entries m) entry.0) (entry.1 == end)
   unfolding piece_named tests fitting
   tested = refl
 
-  pub entry_unknown : get m (entry.0).0 ≡ None → piece_named (known_in (entries m)) (λ k. k.1) layout place end entry ≡ Err (UnknownChunk place)
+  pub entry_unknown : get m (entry.0).0 ≡ None → piece_named (known_in (entries m)) (λ p. p.length) layout place end entry ≡ Err (UnknownChunk place)
   unfolding tests
   entry_unknown e = tested ∙ ap (λ o. tests o (entry.1 == end)) (known_is None e)
 
-  pub entry_misplaced : (n : ℕ) → get m (entry.0).0 ≡ Some n → (entry.1 ≡ end → ⊥) → piece_named (known_in (entries m)) (λ k. k.1) layout place end entry ≡ Err (BadOffset place end)
+  pub entry_misplaced : (n : ℕ) → get m (entry.0).0 ≡ Some n → (entry.1 ≡ end → ⊥) → piece_named (known_in (entries m)) (λ p. p.length) layout place end entry ≡ Err (BadOffset place end)
   unfolding tests
   entry_misplaced n e apart = tested ∙ ap₂ tests (known_is (Some n) e) (not_equal (entry.1 == end) refl)
     where
@@ -256,16 +258,16 @@ module _ (m : Lengths) (layout : Layout) (place end : ℕ) (entry : Digest32 × 
       not_equal false is = is
 
   placed : (n : ℕ) (b : Bool) → get m (entry.0).0 ≡ Some n → entry.1 ≡ end → fits_layout layout end n ≡ b
-      → piece_named (known_in (entries m)) (λ k. k.1) layout place end entry ≡ fitting ((entry.0).0, n) b
+      → piece_named (known_in (entries m)) (λ p. p.length) layout place end entry ≡ fitting (piece_at entry.0 n) b
   unfolding tests
-  placed n b e at fits = tested ∙ ap₂ tests (known_is (Some n) e) (eq-eqb entry.1 end at) ∙ ap (fitting ((entry.0).0, n)) fits
+  placed n b e at fits = tested ∙ ap₂ tests (known_is (Some n) e) (eq-eqb entry.1 end at) ∙ ap (fitting (piece_at entry.0 n)) fits
 
   pub entry_unfit : (n : ℕ) → get m (entry.0).0 ≡ Some n → entry.1 ≡ end → fits_layout layout end n ≡ false
-      → piece_named (known_in (entries m)) (λ k. k.1) layout place end entry ≡ Err (WrongSize place n)
+      → piece_named (known_in (entries m)) (λ p. p.length) layout place end entry ≡ Err (WrongSize place n)
   unfolding fitting
   entry_unfit n e at fits = placed n false e at fits
 
   pub entry_named : (n : ℕ) → get m (entry.0).0 ≡ Some n → entry.1 ≡ end → fits_layout layout end n ≡ true
-      → piece_named (known_in (entries m)) (λ k. k.1) layout place end entry ≡ Ok (indexes.known_of (entry.0, n))
+      → piece_named (known_in (entries m)) (λ p. p.length) layout place end entry ≡ Ok (piece_at entry.0 n)
   unfolding fitting
   entry_named n e at fits = placed n true e at fits

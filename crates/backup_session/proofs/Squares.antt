@@ -9,6 +9,7 @@ use Rattle.std.proofs.lemmas.List.{length-append, map-append}
 use Rattle.sha2.specs.Sha256.{sha256}
 use Rattle.store_types.specs.declared.names.Digest32.{Digest32}
 use Rattle.store_types.specs.declared.names.SnapshotKey.{SnapshotKey}
+use Rattle.store_types.specs.declared.piece.Piece.{Piece}
 use Rattle.store_types.specs.declared.refusal.Refusal.{Refusal}
 use Rattle.store_types.specs.declared.refusal.Refusal.TheVariants.{BadName, NoFile, Exists, TooMany}
 use Rattle.store_types.specs.Chain.Refusing.{◌>>=◌, unless, or_else}
@@ -24,7 +25,7 @@ use Rattle.store_model.proofs.FileInsertions.{is_free}
 use Rattle.store_model.proofs.PiecesNamed.{pieces_named-alike}
 use Rattle.manifest.specs.declared.facts.FileFact.{FileFact}
 use Rattle.dynamic_index.specs.Pieces.{last_end}
-use Rattle.dynamic_index.specs.Writing.{Known, ends_behind}
+use Rattle.dynamic_index.specs.Writing.{ends_behind}
 use Rattle.dynamic_index.specs.Writing as dynamic_indexes
 use Rattle.fixed_index.specs.Writing as fixed_indexes
 use Rattle.backup_session.specs.declared.index.OpenIndex.{OpenIndex}
@@ -33,7 +34,7 @@ use Rattle.backup_session.specs.Indexes.{layout_of, count_of, end_of, size_of, c
 use Rattle.backup_session.specs.Session.{Open, Writing}
 use Rattle.backup_session.specs.Steps as steps
 use Rattle.backup_session.specs.Answers.{takes_blob}
-use Rattle.backup_session.specs.Shown.{known_of, pool_of, shown_begun, shown_file, manifest_text, fits_from, IsOpen, shown}
+use Rattle.backup_session.specs.Shown.{piece_of, pool_of, shown_begun, shown_file, manifest_text, fits_from, IsOpen, shown}
 use Rattle.backup_session.proofs.Places.{find-map, change_first-map, without_first-map}
 use Rattle.backup_session.proofs.Pools.{known_in-pool}
 use Rattle.backup_session.proofs.FileLemmas.{shown-insert, manifest-other, no_index, manifest-blob}
@@ -182,7 +183,7 @@ new_fixed-agrees name size cut moment small w all =
 
 -- ---- ends
 
-ends_same : (start : ℕ) (ps : List (List ℕ)) → ends_from start ps ≡ ends_behind start (map known_of ps)
+ends_same : (start : ℕ) (ps : List (List ℕ)) → ends_from start ps ≡ ends_behind start (map piece_of ps)
 ends_same start [] = refl
 ends_same start (p ∷ ps) = ap (λ (es : List Ended). record { end = start + length p; digest = sha256 p } ∷ es) (ends_same (start + length p) ps)
 
@@ -198,7 +199,7 @@ last_same : (start : ℕ) (ps : List (List ℕ)) → last_end start (ends_from s
 last_same start [] = omega arith
 last_same start (p ∷ ps) = omega (arith, last_same (start + length p) ps, length-append p (concat ps))
 
-digests_same : (ps : List (List ℕ)) → map sha256 ps ≡ map (λ k. k.0) (map known_of ps)
+digests_same : (ps : List (List ℕ)) → map sha256 ps ≡ fixed_indexes.piece_digests (map piece_of ps)
 digests_same [] = refl
 digests_same (p ∷ ps) = ap (λ (ds : List (List ℕ)). sha256 p ∷ ds) (digests_same ps)
 
@@ -260,7 +261,7 @@ module _ (a : Archive) where
   text_same dynamic = refl
   text_same (fixed size cut) = refl
 
-  grown_same : (layout : Layout) (ps : List (List ℕ)) → index_by layout (record a { pieces = a.pieces ++ ps }) ≡ with_pieces (map known_of ps) (index_by layout a)
+  grown_same : (layout : Layout) (ps : List (List ℕ)) → index_by layout (record a { pieces = a.pieces ++ ps }) ≡ with_pieces (map piece_of ps) (index_by layout a)
   grown_same dynamic ps =
       ap (λ es. Dynamic (record { uuid = a.uuid; ctime = a.ctime; reserved = a.reserved; entries = es }))
       (ends_append 0 a.pieces ps ∙ ap (λ es. ends_from 0 a.pieces ++ es) (ends_same (last_end 0 (ends_from 0 a.pieces)) ps))
@@ -268,7 +269,7 @@ module _ (a : Archive) where
       ap (λ ds. Fixed (record { uuid = a.uuid; ctime = a.ctime; reserved = a.reserved; size = size; chunk_size = cut; digests = ds }))
       (map-append sha256 a.pieces ps ∙ ap (λ ds. map sha256 a.pieces ++ ds) (digests_same ps))
 
-grows_alike : (ps : List (List ℕ)) (b : Begun) → shown_begun (plain.with_pieces ps b) ≡ steps.grown (map known_of ps) (shown_begun b)
+grows_alike : (ps : List (List ℕ)) (b : Begun) → shown_begun (plain.with_pieces ps b) ≡ steps.grown (map piece_of ps) (shown_begun b)
 grows_alike ps b =
     let a = b.archive in
     ap (λ x. record { number = b.number; name = b.name; index = x }) (grown_same a a.layout ps)
@@ -297,15 +298,15 @@ begun_alike number w = find-map shown_begun (steps.has_number number) w.begun
 pieces_alike : (w : Writer) (b : Begun) (entries : List (Digest32 × ℕ)) → IsOpen b
     → steps.pieces_for (pool_of w.pool) (index_by (b.archive).layout b.archive) entries
     ≡ (want_entries (length (b.archive).pieces) (length entries) >>= λ _.
-    (pieces_named (λ digest. piece_with digest w.pool) (λ p. length p) (b.archive).layout 0 (length (content_of b.archive)) entries >>= λ ps. Ok (map known_of ps)))
+    (pieces_named (λ digest. piece_with digest w.pool) (λ p. length p) (b.archive).layout 0 (length (content_of b.archive)) entries >>= λ ps. Ok (map piece_of ps)))
 unfolding steps.pieces_for
 pieces_alike w b entries is =
     let a = b.archive in
-    let named = λ (layout : Layout) (end : ℕ). pieces_named (steps.known_in (pool_of w.pool)) (λ k. k.1) layout 0 end entries in
+    let named = λ (layout : Layout) (end : ℕ). pieces_named (steps.known_in (pool_of w.pool)) (λ p. p.length) layout 0 end entries in
     ap₂ (λ n end. want_entries n (length entries) >>= λ _. named (layout_of (index_by a.layout a)) end) (count_same a a.layout) (end_same a a.layout is.pieces)
     ∙ ap (λ layout. want_entries (length a.pieces) (length entries) >>= λ _. named layout (length (content_of a))) (layout_same a a.layout)
     ∙ ap (λ r. want_entries (length a.pieces) (length entries) >>= λ _. r)
-    (pieces_named-alike known_of (λ digest. piece_with digest w.pool) (λ p. length p) (steps.known_in (pool_of w.pool)) (λ k. k.1) (λ p. refl) (known_in-pool w.pool) a.layout 0 (length (content_of a)) entries)
+    (pieces_named-alike piece_of (λ digest. piece_with digest w.pool) (λ p. length p) (steps.known_in (pool_of w.pool)) (λ p. p.length) (λ p. refl) (known_in-pool w.pool) a.layout 0 (length (content_of a)) entries)
 
 still_open : (b : Begun) (ps : List (List ℕ)) → IsOpen b → FitsAt (λ p. length p) (b.archive).layout (length (content_of b.archive)) ps → IsOpen (plain.with_pieces ps b)
 still_open b ps is fits =
@@ -322,7 +323,7 @@ unfolding steps.append plain.append shown
 append-agrees number entries w all =
     subst (λ o. Agrees (or_else NoFile o >>= here) (plain.append w number entries)) (sym (begun_alike number w)) (by_begun (plain.begun_at number w) refl)
   where
-    grown_here : List Known → Writing × Unit {0}
+    grown_here : List Piece → Writing × Unit {0}
     grown_here known = (record (shown w) { begun = change_first (steps.has_number number) (steps.grown known) (map shown_begun w.begun) }, tt)
 
     grown_there : List (List ℕ) → Writer × Unit {0}
@@ -335,13 +336,13 @@ append-agrees number entries w all =
     named b = pieces_named (λ digest. piece_with digest w.pool) (λ p. length p) (b.archive).layout 0 (length (content_of b.archive)) entries
 
     by_pieces : (b : Begun) → plain.begun_at number w ≡ Some b → IsOpen b → (fit : Result (Unit {0}) Refusal) (pieces : Result (List (List ℕ)) Refusal) → named b ≡ pieces
-        → Agrees ((fit >>= λ _. (pieces >>= λ ps. Ok (map known_of ps))) >>= λ known. Ok (grown_here known)) (fit >>= λ _. pieces >>= λ ps. Ok (grown_there ps))
+        → Agrees ((fit >>= λ _. (pieces >>= λ ps. Ok (map piece_of ps))) >>= λ known. Ok (grown_here known)) (fit >>= λ _. pieces >>= λ ps. Ok (grown_there ps))
     by_pieces b found is (Err r) pieces e = refl
     by_pieces b found is (Ok u) (Err r) e = refl
     by_pieces b found is (Ok u) (Ok ps) e =
         let fits = named_fits (λ digest. piece_with digest w.pool) (λ p. length p) (b.archive).layout 0 (length (content_of b.archive)) entries ps e in (
           ap (λ l. Ok (record (shown w) { begun = l }, tt))
-              (sym (change_first-map shown_begun (steps.has_number number) (plain.with_pieces ps) (steps.grown (map known_of ps)) (grows_alike ps) w.begun)),
+              (sym (change_first-map shown_begun (steps.has_number number) (plain.with_pieces ps) (steps.grown (map piece_of ps)) (grows_alike ps) w.begun)),
           all_changed (plain.has_number number) (plain.with_pieces ps) w.begun b all found (still_open b ps is fits),
         )
 

@@ -7,6 +7,7 @@ use Rattle.std.specs.Str.{bytes_eq}
 use Rattle.std.proofs.lemmas.Bool.{leb-true, ltb-true, eqb-true}
 use Rattle.std.proofs.lemmas.List.{length-map}
 use Rattle.store_types.specs.declared.names.Digest32.{Digest32}
+use Rattle.store_types.specs.declared.piece.Piece.{Piece}
 use Rattle.store_stops.specs.Outcomes.{IfAnswered}
 use Rattle.store_types.specs.declared.refusal.Refusal.{Refusal}
 use Rattle.store_types.specs.declared.refusal.Refusal.TheVariants.{BadName, NoFile, Exists, WrongSize, TooMany}
@@ -17,18 +18,18 @@ use Rattle.store_files.specs.Cells.{entry_limit}
 use Rattle.store_files.specs.FixedIndex.{is_chunk_size, piece_count, piece_len}
 use Rattle.store_model.specs.Archives.{want_sizes, want_entries, pieces_named, change_first, without_first, free_number}
 use Rattle.manifest.specs.declared.facts.FileFact.{FileFact}
-use Rattle.dynamic_index.specs.Writing.{Known}
 use Rattle.fixed_index.specs.Writing.{FitsSizes, FitsFrom}
 use Rattle.fixed_index.specs.Writing.{end_of as fixed_end_of}
 use Rattle.backup_session.specs.declared.index.OpenIndex.{OpenIndex}
 use Rattle.backup_session.specs.declared.index.OpenIndex.TheVariants.{Dynamic, Fixed}
 use Rattle.backup_session.specs.declared.state.Begun.{Begun}
 use Rattle.backup_session.specs.Indexes.{layout_of, count_of, end_of, text_of, FitsPieces}
-use Rattle.backup_session.specs.Session.{Pool, IsLength, length_at, Open, Writing}
+use Rattle.backup_session.specs.Session.{Pool, length_at, Open, Writing}
 use Rattle.backup_session.specs.Steps as steps
 use Rattle.backup_session.specs.Kept.{open_of, opens_of, HasLengths}
 use Rattle.backup_session.proofs.Naming.{FitsAt, named_found, named_fits}
 use Rattle.backup_session.proofs.Numbers.{name_open}
+use Rattle.backup_session.proofs.Pools.{piece_at}
 use Rattle.backup_session.proofs.Places.{First, first_found, find-map}
 
 -- ---- room
@@ -67,7 +68,7 @@ pub append_refused : (w : Writing) (number : ℕ) (es : List (Digest32 × ℕ)) 
 append_refused w number es b r e f =
     append_by w number es (Some b) e ∙ ap (λ x. x >>= λ known. Ok (record w { begun = change_first (steps.has_number number) (steps.grown known) w.begun }, tt)) f
 
-pub append_done : (w : Writing) (number : ℕ) (es : List (Digest32 × ℕ)) (b : Open) (known : List Known) → find (steps.has_number number) w.begun ≡ Some b
+pub append_done : (w : Writing) (number : ℕ) (es : List (Digest32 × ℕ)) (b : Open) (known : List Piece) → find (steps.has_number number) w.begun ≡ Some b
     → steps.pieces_for w.pool b.index es ≡ Ok known
     → steps.append w number es ≡ Ok (record w { begun = change_first (steps.has_number number) (steps.grown known) w.begun }, tt)
 append_done w number es b known e f =
@@ -75,14 +76,14 @@ append_done w number es b known e f =
 
 pub for_refused : (pool : Pool) (x : OpenIndex) (es : List (Digest32 × ℕ)) (r : Refusal) → want_entries (count_of x) (length es) ≡ Err r → steps.pieces_for pool x es ≡ Err r
 unfolding steps.pieces_for
-for_refused pool x es r e = ap (λ t. t >>= λ _. pieces_named (steps.known_in pool) (λ k. k.1) (layout_of x) 0 (end_of x) es) e
+for_refused pool x es r e = ap (λ t. t >>= λ _. pieces_named (steps.known_in pool) (λ p. p.length) (layout_of x) 0 (end_of x) es) e
 
 pub for_passed : (pool : Pool) (x : OpenIndex) (es : List (Digest32 × ℕ)) (u : Unit {0}) (layout : Layout) (start : ℕ) → want_entries (count_of x) (length es) ≡ Ok u
-    → layout ≡ layout_of x → start ≡ end_of x → pieces_named (steps.known_in pool) (λ k. k.1) layout 0 start es ≡ steps.pieces_for pool x es
+    → layout ≡ layout_of x → start ≡ end_of x → pieces_named (steps.known_in pool) (λ p. p.length) layout 0 start es ≡ steps.pieces_for pool x es
 unfolding steps.pieces_for
 for_passed pool x es u layout start e cut at =
-    ap₂ (λ l n. pieces_named (steps.known_in pool) (λ k. k.1) l 0 n es) cut at
-    ∙ sym (ap (λ t. t >>= λ _. pieces_named (steps.known_in pool) (λ k. k.1) (layout_of x) 0 (end_of x) es) e)
+    ap₂ (λ l n. pieces_named (steps.known_in pool) (λ p. p.length) l 0 n es) cut at
+    ∙ sym (ap (λ t. t >>= λ _. pieces_named (steps.known_in pool) (λ p. p.length) (layout_of x) 0 (end_of x) es) e)
 
 pub entries_room : (pieces es : ℕ) (u : Unit {0}) → want_entries pieces es ≡ Ok u → pieces + es ≤ entry_limit
 entries_room pieces es u is = by_tests (nat_le es 4096) (nat_le (pieces + es) entry_limit) refl is
@@ -93,40 +94,43 @@ entries_room pieces es u is = by_tests (nat_le es 4096) (nat_le (pieces + es) en
     by_tests true true e go = leb-true (pieces + es) entry_limit e
 
 -- pieces that a fixed archive takes
-fits_fixed : (size cut end : ℕ) (ks : List Known) → FitsAt (λ k. k.1) (fixed size cut) end ks → AllByRecursion IsLength ks → FitsFrom size cut end ks
+abbrev IsLong : Piece → Type 0
+IsLong p = (1 ≤ p.length) × (p.length ≤ 16_777_216)
+
+fits_fixed : (size cut end : ℕ) (ps : List Piece) → FitsAt (λ p. p.length) (fixed size cut) end ps → AllByRecursion IsLong ps → FitsFrom size cut end ps
 fits_fixed size cut end [] fits all = tt
-fits_fixed size cut end (k ∷ ks) fits all =
-    let exact : k.1 ≡ piece_len size cut end = eqb-true k.1 (piece_len size cut end) fits.0 in
-    let some : 1 ≤ k.1 = (all.0).0 in (
+fits_fixed size cut end (p ∷ ps) fits all =
+    let exact : p.length ≡ piece_len size cut end = eqb-true p.length (piece_len size cut end) fits.0 in
+    let some : 1 ≤ p.length = (all.0).0 in (
       omega (arith, exact, some),
       exact,
-      fits_fixed size cut (end + k.1) ks fits.1 all.1,
+      fits_fixed size cut (end + p.length) ps fits.1 all.1,
     )
 
-fits_index : (x : OpenIndex) (ks : List Known) → count_of x + length ks ≤ entry_limit → FitsAt (λ k. k.1) (layout_of x) (end_of x) ks → AllByRecursion IsLength ks → FitsPieces x ks
-fits_index (Dynamic x) ks room fits all = record { room = room; lengths = all }
-fits_index (Fixed x) ks room fits all = fits_fixed x.size x.chunk_size (fixed_end_of x) ks fits all
+fits_index : (x : OpenIndex) (ps : List Piece) → count_of x + length ps ≤ entry_limit → FitsAt (λ p. p.length) (layout_of x) (end_of x) ps → AllByRecursion IsLong ps → FitsPieces x ps
+fits_index (Dynamic x) ps room fits all = record { room = room; lengths = all }
+fits_index (Fixed x) ps room fits all = fits_fixed x.size x.chunk_size (fixed_end_of x) ps fits all
 
-pub fits_told : {V : Type 0} (items : V → List Known) (pool : Pool) (x : OpenIndex) (es : List (Digest32 × ℕ)) (layout : Layout) (start : ℕ) → HasLengths pool
+pub fits_told : {V : Type 0} (items : V → List Piece) (pool : Pool) (x : OpenIndex) (es : List (Digest32 × ℕ)) (layout : Layout) (start : ℕ) → HasLengths pool
     → count_of x + length es ≤ entry_limit → layout ≡ layout_of x → start ≡ end_of x → (result : Result V Refusal)
-    → IfAnswered result (λ told. MatchResult told (λ v. pieces_named (steps.known_in pool) (λ k. k.1) layout 0 start es ≡ Ok (items v)) (λ r. pieces_named (steps.known_in pool) (λ k. k.1) layout 0 start es ≡ Err r))
+    → IfAnswered result (λ told. MatchResult told (λ v. pieces_named (steps.known_in pool) (λ p. p.length) layout 0 start es ≡ Ok (items v)) (λ r. pieces_named (steps.known_in pool) (λ p. p.length) layout 0 start es ≡ Err r))
     → IfOk result (λ v. FitsPieces x (items v))
 fits_told items pool x es layout start has room cut at (Err e) is = tt
 fits_told items pool x es layout start has room cut at (Ok v) is =
-    let found = named_found (steps.known_in pool) (λ k. k.1) layout IsLength in_range 0 start es (items v) is in
-    let fits = named_fits (steps.known_in pool) (λ k. k.1) layout 0 start es (items v) is in
-    let there : FitsAt (λ k. k.1) (layout_of x) (end_of x) (items v) =
-    subst (λ l. FitsAt (λ k. k.1) l (end_of x) (items v)) cut (subst (λ n. FitsAt (λ k. k.1) layout n (items v)) at fits) in
+    let found = named_found (steps.known_in pool) (λ p. p.length) layout IsLong in_range 0 start es (items v) is in
+    let fits = named_fits (steps.known_in pool) (λ p. p.length) layout 0 start es (items v) is in
+    let there : FitsAt (λ p. p.length) (layout_of x) (end_of x) (items v) =
+    subst (λ l. FitsAt (λ p. p.length) l (end_of x) (items v)) cut (subst (λ n. FitsAt (λ p. p.length) layout n (items v)) at fits) in
     fits_index x (items v) (omega (arith, room, found.0)) there found.1
   where
-    by_length : (d : Digest32) (k : Known) (o : Option ℕ) → length_at pool d.0 ≡ o → option_map (λ len. (d.0, len)) o ≡ Some k → (1 ≤ k.1) × (k.1 ≤ 16_777_216)
-    by_length d k None e f = cc
-    by_length d k (Some n) e f =
-        let pair : (d.0, n) ≡ k = cc in
-        subst (λ m. (1 ≤ m) × (m ≤ 16_777_216)) (ap (λ p. p.1) pair) (has d.0 n e)
+    by_length : (d : Digest32) (p : Piece) (o : Option ℕ) → length_at pool d.0 ≡ o → option_map (piece_at d) o ≡ Some p → IsLong p
+    by_length d p None e f = cc
+    by_length d p (Some n) e f =
+        let same : piece_at d n ≡ p = cc in
+        subst IsLong same (has d.0 n e)
 
-    in_range : (d : Digest32) (k : Known) → steps.known_in pool d ≡ Some k → IsLength k
-    in_range d k f = by_length d k (length_at pool d.0) refl f
+    in_range : (d : Digest32) (p : Piece) → steps.known_in pool d ≡ Some p → IsLong p
+    in_range d p f = by_length d p (length_at pool d.0) refl f
 
 -- ---- CLOSE_INDEX
 

@@ -3,6 +3,7 @@ use Rattle.std.specs.Prelude.{◌≡◌, ℕ, List, map, length, None, Result, O
 use Rattle.std.specs.declared.alloc.Global.{Global}
 use Rattle.sha2.specs.Sha256.{sha256}
 use Rattle.store_types.specs.declared.names.Digest32.{Digest32}
+use Rattle.store_types.specs.declared.piece.Piece.{Piece}
 use Rattle.store_stops.specs.Outcomes.{IfAnswered}
 use Rattle.store_types.specs.declared.refusal.Refusal.{Refusal}
 use Rattle.store_types.specs.declared.refusal.Refusal.TheVariants.{BadName}
@@ -15,7 +16,6 @@ use Rattle.store_model.specs.Store.{Writer}
 use Rattle.store_model.specs.Uploads.{want_room}
 use Rattle.store_model.specs.WriterCalls as calls
 use Rattle.store_model.specs.WriterSteps.{with_pool}
-use Rattle.dynamic_index.specs.Writing.{Known, known_of}
 use Rattle.backup_session.specs.declared.index.OpenIndex.{OpenIndex}
 use Rattle.std.specs.FinMap.{empty}
 use Rattle.known_chunks.specs.Lengths.{Lengths, with_lengths}
@@ -45,16 +45,12 @@ TellsManifest step told = MatchResult told (λ m. step ≡ Ok (manifest_view m))
 abbrev pub GivesManifest : Result listing.Manifest Refusal → Result Manifest Refusal → Type 0
 GivesManifest step result = IfAnswered result (TellsManifest step)
 
--- the answer is the length of the piece that the entry names, or the refusal
-abbrev pub TellsPiece : Digest32 × ℕ → Result Known Refusal → Result ℕ Refusal → Type 0
-TellsPiece entry step told = MatchResult told (λ len. step ≡ Ok (known_of (entry.0, len))) (λ refusal. step ≡ Err refusal)
-
 -- the answer is the pieces, or the refusal
-abbrev pub TellsPieces : Result (List Known) Refusal → Result (Vec (Digest32 × ℕ) Global) Refusal → Type 0
-TellsPieces step told = MatchResult told (λ pieces. step ≡ Ok (map known_of pieces.items)) (λ refusal. step ≡ Err refusal)
+abbrev pub TellsPieces : Result (List Piece) Refusal → Result (Vec Piece Global) Refusal → Type 0
+TellsPieces step told = MatchResult told (λ pieces. step ≡ Ok pieces.items) (λ refusal. step ≡ Err refusal)
 
 -- so it is of the entries of an APPEND to an index, where memory is not wanting
-abbrev pub NamesPieces : Pool → OpenIndex → List (Digest32 × ℕ) → Result (Vec (Digest32 × ℕ) Global) Refusal → Type 0
+abbrev pub NamesPieces : Pool → OpenIndex → List (Digest32 × ℕ) → Result (Vec Piece Global) Refusal → Type 0
 NamesPieces pool index entries result = IfAnswered result (TellsPieces (steps.pieces_for pool index entries))
 
 -- ---- pieces that may be named

@@ -1,12 +1,12 @@
 -- An open index, by its layout.
 use Rattle.std.specs.Prelude.{◌≡◌, ℕ, List, length}
 use Rattle.store_types.specs.declared.names.Digest32.{Digest32}
+use Rattle.store_types.specs.declared.piece.Piece.{Piece}
 use Rattle.store_files.specs.Archive.{dynamic, fixed, Archive, dynamic_of_archive, fixed_of_archive}
 use Rattle.store_files.specs.Archive as archives
 use Rattle.store_files.specs.DynamicIndex as dynamic_files
 use Rattle.store_files.specs.FixedIndex as fixed_files
 use Rattle.dynamic_index.specs.Pieces as dynamic_pieces
-use Rattle.dynamic_index.specs.Writing.{Known}
 use Rattle.dynamic_index.specs.Writing as dynamic_indexes
 use Rattle.fixed_index.specs.Writing as fixed_indexes
 use Rattle.backup_session.specs.declared.index.Layout.{Layout}
@@ -44,14 +44,14 @@ abbrev pub text_of : OpenIndex → List ℕ
 text_of (Dynamic x) = dynamic_files.dynamic_text x
 text_of (Fixed x) = fixed_files.fixed_text x
 
--- ---- several pieces at once, each by its digest and its length
+-- ---- several pieces at once
 
-abbrev pub with_pieces : List Known → OpenIndex → OpenIndex
+abbrev pub with_pieces : List Piece → OpenIndex → OpenIndex
 with_pieces pieces (Dynamic x) = Dynamic (dynamic_indexes.with_pieces x pieces)
 with_pieces pieces (Fixed x) = Fixed (fixed_indexes.with_pieces x pieces)
 
 -- there is room for them
-abbrev pub FitsPieces : OpenIndex → List Known → Type 0
+abbrev pub FitsPieces : OpenIndex → List Piece → Type 0
 FitsPieces (Dynamic x) pieces = dynamic_indexes.FitsPieces x pieces
 FitsPieces (Fixed x) pieces = fixed_indexes.FitsPieces x pieces
 

@@ -5,18 +5,23 @@ use Rattle.std.specs.List.{AllByRecursion}
 use Rattle.std.specs.FinMap.{FinMap, from_entries, entries}
 use Rattle.sha2.specs.Sha256.{sha256}
 use Rattle.store_types.specs.FileNames.{manifest_name}
+use Rattle.store_types.specs.declared.piece.Piece.{Piece}
 use Rattle.store_types.specs.Names.{text_cmp}
-use Rattle.store_files.specs.Archive.{Layout, dynamic, fixed, archive, File, file_text, file_named, size_of, csum_of}
+use Rattle.store_files.specs.Archive.{Layout, dynamic, fixed, archive, digest_of, File, file_text, file_named, size_of, csum_of}
 use Rattle.manifest.specs.declared.facts.FileFact.{FileFact}
 use Rattle.store_model.specs.Archives.{fits_layout}
 use Rattle.store_model.specs.Stands.{names_content}
 use Rattle.store_model.specs.Store.{Begun, Writer}
-use Rattle.dynamic_index.specs.Writing.{Known}
 use Rattle.fixed_index.specs.Writing.{FitsSizes}
 use Rattle.backup_session.specs.Indexes.{index_by}
 use Rattle.backup_session.specs.Session.{Pool, Open, Writing}
 
-abbrev pub known_of : List ℕ → Known
+-- of a piece the digest and the length
+abbrev pub piece_of : List ℕ → Piece
+piece_of bytes = record { digest = digest_of bytes; length = length bytes }
+
+-- so in a pool
+abbrev pub known_of : List ℕ → List ℕ × ℕ
 known_of piece = (sha256 piece, length piece)
 
 abbrev pub lengths_of : List (List ℕ) → FinMap text_cmp ℕ

@@ -7,13 +7,13 @@ use Rattle.std.specs.Str.{bytes_eq}
 use Rattle.sha2.specs.Sha256.{sha256}
 use Rattle.store_types.specs.declared.names.Digest32.{Digest32}
 use Rattle.store_types.specs.declared.names.SnapshotKey.{SnapshotKey}
+use Rattle.store_types.specs.declared.piece.Piece.{Piece}
 use Rattle.store_types.specs.declared.refusal.Refusal.{Refusal}
 use Rattle.store_types.specs.declared.refusal.Refusal.TheVariants.{BadName, NoFile, Exists, TooMany}
 use Rattle.store_types.specs.Chain.Refusing.{◌>>=◌, unless, or_else}
 use Rattle.store_types.specs.FileNames.{is_fixed_name, is_dynamic_name, is_blob_name, manifest_name}
 use Rattle.store_types.specs.Names.{name_lt, text_cmp}
 use Rattle.manifest.specs.declared.facts.FileFact.{FileFact}
-use Rattle.dynamic_index.specs.Writing.{Known}
 use Rattle.dynamic_index.specs.Writing as dynamic_indexes
 use Rattle.fixed_index.specs.Writing as fixed_indexes
 use Rattle.store_model.specs.Archives.{uuid_of, want_sizes, want_number, free_number, change_first, without_first, want_entries, piece_named, pieces_named, want_facts}
@@ -115,31 +115,31 @@ abbrev pub name_at : ℕ → Writing → Option (List ℕ)
 name_at number w = option_map (λ b. b.name) (begun_at number w)
 
 -- what the pool knows under a digest
-abbrev pub known_in : Pool → Digest32 → Option Known
-known_in pool digest = option_map (λ len. (digest.0, len)) (length_at pool digest.0)
+abbrev pub known_in : Pool → Digest32 → Option Piece
+known_in pool digest = option_map (λ len. record { digest = digest; length = len }) (length_at pool digest.0)
 
 -- the piece that the entry at a place names, where it begins at the end reached so far
-abbrev pub piece_in : FinMap text_cmp ℕ → Layout → ℕ → ℕ → Digest32 × ℕ → Result Known Refusal
-piece_in pool layout place end entry = piece_named (known_in (entries_of pool)) (λ k. k.1) (layout_view layout) place end entry
+abbrev pub piece_in : FinMap text_cmp ℕ → Layout → ℕ → ℕ → Digest32 × ℕ → Result Piece Refusal
+piece_in pool layout place end entry = piece_named (known_in (entries_of pool)) (λ p. p.length) (layout_view layout) place end entry
 
 -- the pieces that the entries name, of which the first begins at the start
-abbrev pub pieces_in : FinMap text_cmp ℕ → Layout → ℕ → List (Digest32 × ℕ) → Result (List Known) Refusal
-pieces_in pool layout start entries = pieces_named (known_in (entries_of pool)) (λ k. k.1) (layout_view layout) 0 start entries
+abbrev pub pieces_in : FinMap text_cmp ℕ → Layout → ℕ → List (Digest32 × ℕ) → Result (List Piece) Refusal
+pieces_in pool layout start entries = pieces_named (known_in (entries_of pool)) (λ p. p.length) (layout_view layout) 0 start entries
 
 -- the pieces of an APPEND to an index
-unfoldable pub pieces_for : Pool → OpenIndex → List (Digest32 × ℕ) → Result (List Known) Refusal
+unfoldable pub pieces_for : Pool → OpenIndex → List (Digest32 × ℕ) → Result (List Piece) Refusal
 pieces_for pool x entries = do
   _ ← want_entries (count_of x) (length entries)
-  pieces_named (known_in pool) (λ k. k.1) (layout_of x) 0 (end_of x) entries
+  pieces_named (known_in pool) (λ p. p.length) (layout_of x) 0 (end_of x) entries
 
-abbrev pub grown : List Known → Open → Open
-grown known b = record b { index = with_pieces known b.index }
+abbrev pub grown : List Piece → Open → Open
+grown pieces b = record b { index = with_pieces pieces b.index }
 
 unfoldable pub append : Writing → ℕ → List (Digest32 × ℕ) → Result (Writing × Unit {0}) Refusal
 append w number entries = do
   b ← or_else NoFile (begun_at number w)
-  known ← pieces_for w.pool b.index entries
-  Ok (record w { begun = change_first (has_number number) (grown known) w.begun }, tt)
+  pieces ← pieces_for w.pool b.index entries
+  Ok (record w { begun = change_first (has_number number) (grown pieces) w.begun }, tt)
 
 -- ---- CLOSE_INDEX and BLOB
 

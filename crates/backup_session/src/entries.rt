@@ -1,12 +1,11 @@
 //! The entries of an APPEND.
 
-ghost use Rattle.std.specs.Prelude.{◌≡◌, ◌≤◌, ◌*◌, length, map, IfErr, IfOk};
+ghost use Rattle.std.specs.Prelude.{◌≡◌, ◌≤◌, ◌*◌, length, IfErr, IfOk};
 ghost use Rattle.std.specs.FinMap.{entries as pairs};
 ghost use Rattle.store_stops.specs.Outcomes.{IfAnswered};
 ghost use Rattle.store_model.specs.Archives.{want_entries as entries_fit};
-ghost use Rattle.dynamic_index.specs.Writing.{known_of};
 ghost use Rattle.wire_commands.specs.HasText.{FitsRefusal};
-ghost use Rattle.backup_session.specs.Answers.{NamesPieces, TellsPiece, TellsPieces};
+ghost use Rattle.backup_session.specs.Answers.{NamesPieces, TellsPieces};
 ghost use Rattle.backup_session.specs.Indexes.{FitsPieces};
 ghost use Rattle.backup_session.specs.Steps.{piece_in, pieces_in};
 ghost use Rattle.backup_session.specs.Kept.{HasLengths};
@@ -14,7 +13,7 @@ ghost use Rattle.backup_session.specs.Kept.{HasLengths};
 use crate::index::{Layout, OpenIndex};
 use known_chunks::Pool;
 use std::alloc::Global;
-use store_types::{Digest32, Refusal};
+use store_types::{Digest32, Piece, Refusal};
 
 /// So many entries fit a command, and an index that has so many pieces.
 fn want_entries(pieces: u32, entries: usize) -> Result<(), Refusal>
@@ -30,18 +29,18 @@ fn want_entries(pieces: u32, entries: usize) -> Result<(), Refusal>
     Ok(())
 }
 
-/// The length of the piece that the entry at a place names, where it begins at the end reached so far and has a length
-/// that the layout takes there.
+/// The piece that the entry at a place names, where it begins at the end reached so far and has a length that the layout
+/// takes there.
 fn piece_named(
     pool: &Pool,
     layout: Layout,
     place: u32,
     end: u64,
     entry: &(Digest32, u64),
-) -> Result<u32, Refusal>
+) -> Result<Piece, Refusal>
     requires { HasLengths (pairs pool.now) }
-    ensures exact { TellsPiece entry.now (piece_in pool.now layout place end entry.now) result }
-    ensures short { IfOk result (λ length. length ≤ 16_777_216) }
+    ensures exact { result ≡ piece_in pool.now layout place end entry.now }
+    ensures short { IfOk result (λ piece. piece.length ≤ 16_777_216) }
     ensures text { IfErr result FitsRefusal }
 {
     let Some(length) = pool.find(&entry.0) else {
@@ -59,7 +58,10 @@ fn piece_named(
             size: length as u64,
         });
     }
-    Ok(length)
+    Ok(Piece {
+        digest: entry.0,
+        length,
+    })
 }
 
 /// The pieces that the entries name, where the first begins at a start.
@@ -69,7 +71,7 @@ fn pieces_named(
     layout: Layout,
     start: u64,
     entries: &[(Digest32, u64)],
-) -> Result<Vec<(Digest32, u32)>, Refusal>
+) -> Result<Vec<Piece>, Refusal>
     requires count { length entries.now ≤ 4096 }
     requires start { start ≤ 1_048_576 * 16_777_216 }
     requires lengths { HasLengths (pairs pool.now) }
@@ -80,9 +82,9 @@ fn pieces_named(
     let mut end = start;
     for entry in entries {
         let place = pieces.len() as u32;
-        let length = piece_named(pool, layout, place, end, entry)?;
-        pieces.push((entry.0, length))?;
-        end += length as u64;
+        let piece = piece_named(pool, layout, place, end, entry)?;
+        pieces.push(piece)?;
+        end += piece.length as u64;
     }
     Ok(pieces)
 }
@@ -95,10 +97,10 @@ pub fn pieces_for(
     pool: &Pool,
     index: &OpenIndex,
     entries: &[(Digest32, u64)],
-) -> Result<Vec<(Digest32, u32)>, Refusal>
+) -> Result<Vec<Piece>, Refusal>
     requires { HasLengths (pairs pool.now) }
     ensures exact { NamesPieces (pairs pool.now) index.now entries.now result }
-    ensures fits { IfOk result (λ pieces. FitsPieces index.now (map known_of pieces.items)) }
+    ensures fits { IfOk result (λ pieces. FitsPieces index.now pieces.items) }
     ensures text { IfErr result FitsRefusal }
 {
     want_entries(index.len(), entries.len())?;

@@ -1,14 +1,13 @@
 //! An open index, of a dynamic or of a fixed archive.
 
-ghost use Rattle.std.specs.Prelude.{◌≡◌, ◌*◌, ◌≤◌, map, IfOk, OnOk, OnErr};
+ghost use Rattle.std.specs.Prelude.{◌≡◌, ◌*◌, ◌≤◌, IfOk, OnOk, OnErr};
 ghost use Rattle.store_model.specs.Archives.{fits_layout};
-ghost use Rattle.dynamic_index.specs.Writing.{known_of};
 ghost use Rattle.backup_session.specs.Indexes.{layout_view, layout_of, count_of, end_of, csum_of, text_of, with_pieces, FitsPieces, IsFull};
 
 use dynamic_index::DynamicWriter;
 use fixed_index::FixedWriter;
 use std::alloc::{AllocError, Global};
-use store_types::Digest32;
+use store_types::{Digest32, Piece};
 
 /// How an archive is cut into pieces.
 #[derive(Clone, Copy)]
@@ -74,14 +73,10 @@ impl OpenIndex {
         }
     }
 
-    /// The digests and lengths of the next pieces, for which there is room. At want of memory nothing has changed.
-    pub fn append_all(
-        &mut self,
-        alloc: Global,
-        pieces: &[(Digest32, u32)],
-    ) -> Result<(), AllocError>
-        requires { FitsPieces self.old (map known_of pieces.now) }
-        ensures ok { OnOk result (self.new ≡ with_pieces (map known_of pieces.now) self.old) }
+    /// The next pieces, for which there is room. At want of memory nothing has changed.
+    pub fn append_all(&mut self, alloc: Global, pieces: &[Piece]) -> Result<(), AllocError>
+        requires { FitsPieces self.old pieces.now }
+        ensures ok { OnOk result (self.new ≡ with_pieces pieces.now self.old) }
         ensures err { OnErr result (self.new ≡ self.old) }
     {
         match self {

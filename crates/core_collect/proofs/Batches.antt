@@ -1,5 +1,5 @@
 -- The digests that are marked next, as the entries of one page or two are read.
-use Rattle.std.proofs.Common.{◌≡◌, ◌<◌, ◌≤◌, ◌+◌, ◌-◌, ◌*◌, ◌/◌, ◌%◌, ℕ, min, Bool, true, false, cond, nat_lt, List, [], ◌∷◌, ◌++◌, append-nil, append_assoc, drop, length, length-append, length-drop, length-take, map, replicate, take, Result, Ok, Err, refl, sym, ap, subst, ◌∙◌, arith}
+use Rattle.std.proofs.Common.{◌≡◌, ◌<◌, ◌≤◌, ◌+◌, ◌-◌, ◌*◌, ◌/◌, ◌%◌, ℕ, min, Bool, true, false, cond, nat_lt, List, [], ◌∷◌, ◌++◌, append-nil, append_assoc, drop, length, length-append, length-drop, length-take, map, replicate, take, Option, None, Result, Ok, Err, refl, sym, ap, subst, ◌∙◌, arith}
 use Rattle.std.proofs.lemmas.Bool.{ltb-false, ltb-true}
 use Rattle.std.proofs.lemmas.List.{drop-append-le, drop-drop, drop-map, drop-take, drop_all, length-map, length-replicate, map_push, take-append-le, take-map, take-take, take_all}
 use Rattle.std.proofs.lemmas.Nat.{div-add-mod'}
@@ -10,15 +10,16 @@ use Rattle.store_types.specs.declared.names.Digest32.{Digest32}
 use Rattle.store_types.specs.declared.refusal.Refusal.{Refusal}
 use Rattle.store_files.specs.DynamicIndex.{Ended}
 use Rattle.dynamic_index.specs.Pieces.{last_end}
-use Rattle.index_pages.specs.Paged.{page_count}
+use Rattle.index_pages.specs.Paged.{page_at, page_count}
 use Rattle.gc_plan.specs.Plan.{mark_limit}
 use Rattle.paged_indexes.specs.declared.index.IndexPages.{IndexPages}
 use Rattle.paged_indexes.specs.Handing.{HandsOn}
-use Rattle.paged_indexes.specs.Index.{HandsKept, pages_by}
+use Rattle.paged_indexes.specs.Index.{entries_read, pages_by, told_at, told_by}
 use Rattle.paged_indexes.specs.Laws.{IsIndex}
-use Rattle.snapshot_files.specs.Indexes.{IsPage, entries_or, page_entries}
+use Rattle.snapshot_files.specs.Indexes.{entries_or}
+use Rattle.core_state.specs.declared.marked.MarkedPage.{MarkedPage}
 use Rattle.core_collect.specs.declared.marking.Batch.{Batch}
-use Rattle.core_collect.specs.Entries.{AreKept, IsBatch, TakesAll, bytes_of, entry_digests, marked_from, next_entries, next_read, reaches_on}
+use Rattle.core_collect.specs.Entries.{IsBatch, TakesAll, bytes_at, bytes_of, entry_digests, marked_from, next_entries, next_read, page_told, reaches_on}
 
 -- ---- entries that are taken
 
@@ -138,50 +139,54 @@ whole_batch old new k entries few skip none takes =
 
 -- ---- one page or two
 
-module _ (m : Files) (path : List ℕ) (p : IndexPages) (first : ℕ) where
+-- the entries that a page's bytes spell
+pub told_is : (m : Files) (path : List ℕ) (p : IndexPages) (at_hand : Option MarkedPage) (i : ℕ) (bytes : List ℕ) (es : List Ended) → bytes_at m p at_hand i ≡ Ok bytes → told_by p i bytes ≡ Ok es
+    → page_told m path p at_hand i ≡ Ok es
+unfolding page_told
+told_is m path p at_hand i bytes es read told = ap (λ r. entries_or path (entries_read p i r)) read ∙ ap (entries_or path) told
+
+-- what is at hand is not the page
+pub told_anew : (m : Files) (path : List ℕ) (p : IndexPages) (at_hand : Option MarkedPage) (i : ℕ) → bytes_at m p at_hand i ≡ page_at m (pages_by p) i → page_told m path p at_hand i ≡ page_told m path p None i
+unfolding page_told
+told_anew m path p at_hand i same = ap (λ r. entries_or path (entries_read p i r)) same
+
+module _ (m : Files) (path : List ℕ) (p : IndexPages) (at_hand : Option MarkedPage) (first : ℕ) where
   abbrev i : ℕ
   i = first / 1024
 
   abbrev reach : Bool
   reach = reaches_on (pages_by p).count first
 
-  abbrev page : ℕ → Result (List Ended) Refusal
-  page j = page_entries m path p j
+  abbrev page : Result (List Ended) Refusal
+  page = page_told m path p at_hand i
+
+  abbrev following : Result (List Ended) Refusal
+  following = page_told m path p None (i + 1)
 
   abbrev behind : List Ended → Bool → Result (List Ended) Refusal
-  behind xs b = (cond b (page (i + 1)) (Ok [])) >>= λ ys. Ok (xs ++ ys)
+  behind xs b = (cond b following (Ok [])) >>= λ ys. Ok (xs ++ ys)
 
-  by_first : (r : Result (List Ended) Refusal) → page i ≡ r → next_entries m path p first ≡ (r >>= λ xs. behind xs reach)
+  by_first : (r : Result (List Ended) Refusal) → page ≡ r → next_entries m path p at_hand first ≡ (r >>= λ xs. behind xs reach)
   unfolding next_entries
   by_first r is = ap (λ q. q >>= λ xs. behind xs reach) is
 
-  pub next_one : (xs : List Ended) → page i ≡ Ok xs → reach ≡ false → next_entries m path p first ≡ Ok (xs ++ [])
+  pub next_one : (xs : List Ended) → page ≡ Ok xs → reach ≡ false → next_entries m path p at_hand first ≡ Ok (xs ++ [])
   next_one xs is off = by_first (Ok xs) is ∙ ap (behind xs) off
 
-  pub next_two : (xs ys : List Ended) → page i ≡ Ok xs → reach ≡ true → page (i + 1) ≡ Ok ys → next_entries m path p first ≡ Ok (xs ++ ys)
+  pub next_two : (xs ys : List Ended) → page ≡ Ok xs → reach ≡ true → following ≡ Ok ys → next_entries m path p at_hand first ≡ Ok (xs ++ ys)
   next_two xs ys is on next = by_first (Ok xs) is ∙ ap (behind xs) on ∙ ap (λ r. r >>= λ zs. let q : Result (List Ended) Refusal = Ok (xs ++ zs) in q) next
 
-  pub next_none : (refusal : Refusal) → page i ≡ Err refusal → next_entries m path p first ≡ Err refusal
+  pub next_none : (refusal : Refusal) → page ≡ Err refusal → next_entries m path p at_hand first ≡ Err refusal
   next_none refusal is = by_first (Err refusal) is
 
-  pub next_stops : (xs : List Ended) (refusal : Refusal) → page i ≡ Ok xs → reach ≡ true → page (i + 1) ≡ Err refusal → next_entries m path p first ≡ Err refusal
+  pub next_stops : (xs : List Ended) (refusal : Refusal) → page ≡ Ok xs → reach ≡ true → following ≡ Err refusal → next_entries m path p at_hand first ≡ Err refusal
   next_stops xs refusal is on next = by_first (Ok xs) is ∙ ap (behind xs) on ∙ ap (λ r. r >>= λ zs. let q : Result (List Ended) Refusal = Ok (xs ++ zs) in q) next
 
   -- their digests
-  pub read_of : (r : Result (List Ended) Refusal) → next_entries m path p first ≡ r
-      → next_read m path p first ≡ (r >>= λ es. Ok (marked_from (first % 1024) (entry_digests es)))
+  pub read_of : (r : Result (List Ended) Refusal) → next_entries m path p at_hand first ≡ r
+      → next_read m path p at_hand first ≡ (r >>= λ es. Ok (marked_from (first % 1024) (entry_digests es)))
   unfolding next_read
   read_of r is = ap (λ q. q >>= λ es. let x : Result (List (List ℕ)) Refusal = Ok (marked_from (first % 1024) (entry_digests es)) in x) is
-
--- ---- a page as it is read
-
-pub page_taken : (m : Files) (path : List ℕ) (p : IndexPages) (i : ℕ) (old new : Batch) (x : IsPage m path p i Taken old new) → TakesAll old new x.entries
-page_taken m path p i old new x = hands_all _ x.entries old new x.hands
-
--- on any disk
-pub page_kept : (p : IndexPages) (i : ℕ) (old new : Batch) → HandsKept p i Taken old new → (entries : List Ended) × AreKept p i entries × TakesAll old new entries
-page_kept p i old new kept =
-    ((kept.hands).entries, record { bytes = kept.bytes; kept = kept.kept; told = (kept.hands).told_is }, hands_all _ (kept.hands).entries old new (kept.hands).hands)
 
 -- ---- of the index that stands there
 
@@ -223,22 +228,27 @@ module _ {A : Type 0} (es : List A) (first i k : ℕ) (at : i * 1024 + k ≡ fir
           let long : length (drop k xs) ≡ length es - first = ap length from_first ∙ length-drop first es in
           ap (take mark_limit) (take_all (1024 - k) (drop k xs) (omega (arith, less, long, ends, at, few)))
 
-module _ (m : Files) (path : List ℕ) (p : IndexPages) (es : List Ended) (is : IsIndex m p es) (first : ℕ) (below : first < length es) where
-  pages_are : (j : ℕ) → j < page_count (length es) → page_entries m path p j ≡ Ok (take 1024 (drop (j * 1024) es))
-  unfolding page_entries
+pub digests_as : (es ys : List Ended) (first k : ℕ) → take mark_limit (drop k ys) ≡ take mark_limit (drop first es) → marked_from k (entry_digests ys) ≡ marked_from first (entry_digests es)
+digests_as es ys first k same =
+    ap (take mark_limit) (drop-map digest_in k ys) ∙ take-map digest_in mark_limit (drop k ys)
+    ∙ ap (map digest_in) same
+    ∙ sym (ap (take mark_limit) (drop-map digest_in first es) ∙ take-map digest_in mark_limit (drop first es))
+
+-- those of the first page are the first of all
+pub first_page : (es : List Ended) → marked_from 0 (entry_digests (take 1024 (drop 0 es) ++ [])) ≡ marked_from 0 (entry_digests es)
+first_page es = digests_as es (take 1024 (drop 0 es) ++ []) 0 0 (one_page es 0 0 0 refl (omega arith) (omega arith))
+
+module _ (m : Files) (path : List ℕ) (p : IndexPages) (es : List Ended) (is : IsIndex m p es) (at_hand : Option MarkedPage) (first : ℕ) (below : first < length es)
+    (same : bytes_at m p at_hand (first / 1024) ≡ page_at m (pages_by p) (first / 1024)) where
+  pages_are : (j : ℕ) → j < page_count (length es) → page_told m path p None j ≡ Ok (take 1024 (drop (j * 1024) es))
+  unfolding page_told told_at
   pages_are j low = ap (entries_or path) (is.pages j low).read
 
-  here : page_entries m path p (first / 1024) ≡ Ok (take 1024 (drop (first / 1024 * 1024) es))
-  here = pages_are (first / 1024) (omega (arith, below))
-
-  digests_of : (ys : List Ended) → take mark_limit (drop (first % 1024) ys) ≡ take mark_limit (drop first es) → marked_from (first % 1024) (entry_digests ys) ≡ marked_from first (entry_digests es)
-  digests_of ys same =
-      ap (take mark_limit) (drop-map digest_in (first % 1024) ys) ∙ take-map digest_in mark_limit (drop (first % 1024) ys)
-      ∙ ap (map digest_in) same
-      ∙ sym (ap (take mark_limit) (drop-map digest_in first es) ∙ take-map digest_in mark_limit (drop first es))
+  here : page_told m path p at_hand (first / 1024) ≡ Ok (take 1024 (drop (first / 1024 * 1024) es))
+  here = told_anew m path p at_hand (first / 1024) same ∙ pages_are (first / 1024) (omega (arith, below))
 
   -- the next digests are the index's
-  pub next_is : next_read m path p first ≡ Ok (marked_from first (entry_digests es))
+  pub next_is : next_read m path p at_hand first ≡ Ok (marked_from first (entry_digests es))
   next_is = by_reach (reaches_on (pages_by p).count first) refl
     where
       at : first / 1024 * 1024 + first % 1024 ≡ first
@@ -247,17 +257,17 @@ module _ (m : Files) (path : List ℕ) (p : IndexPages) (es : List Ended) (is : 
       few : first % 1024 < 1024
       few = omega arith
 
-      by_reach : (b : Bool) → reaches_on (pages_by p).count first ≡ b → next_read m path p first ≡ Ok (marked_from first (entry_digests es))
+      by_reach : (b : Bool) → reaches_on (pages_by p).count first ≡ b → next_read m path p at_hand first ≡ Ok (marked_from first (entry_digests es))
       by_reach true on =
           let xs = take 1024 (drop (first / 1024 * 1024) es) in
           let ys = take 1024 (drop ((first / 1024 + 1) * 1024) es) in
           let less = ltb-true ((first / 1024 + 1) * 1024) (min (first + mark_limit) (pages_by p).count) on in
-          let next : page_entries m path p (first / 1024 + 1) ≡ Ok ys = pages_are (first / 1024 + 1) (omega (arith, less, is.count)) in
-          read_of m path p first (Ok (xs ++ ys)) (next_two m path p first xs ys here on next)
-          ∙ ap (λ ds. let r : Result (List (List ℕ)) Refusal = Ok ds in r) (digests_of (xs ++ ys) (two_pages es first (first / 1024) (first % 1024) at few))
+          let next : page_told m path p None (first / 1024 + 1) ≡ Ok ys = pages_are (first / 1024 + 1) (omega (arith, less, is.count)) in
+          read_of m path p at_hand first (Ok (xs ++ ys)) (next_two m path p at_hand first xs ys here on next)
+          ∙ ap (λ ds. let r : Result (List (List ℕ)) Refusal = Ok ds in r) (digests_as es (xs ++ ys) first (first % 1024) (two_pages es first (first / 1024) (first % 1024) at few))
       by_reach false off =
           let xs = take 1024 (drop (first / 1024 * 1024) es) in
           let ends = ltb-false ((first / 1024 + 1) * 1024) (min (first + mark_limit) (pages_by p).count) off in
-          read_of m path p first (Ok (xs ++ [])) (next_one m path p first xs here off)
+          read_of m path p at_hand first (Ok (xs ++ [])) (next_one m path p at_hand first xs here off)
           ∙ ap (λ ds. let r : Result (List (List ℕ)) Refusal = Ok ds in r)
-          (digests_of (xs ++ []) (one_page es first (first / 1024) (first % 1024) at few (subst (λ n. min (first + mark_limit) n ≤ (first / 1024 + 1) * 1024) is.count ends)))
+          (digests_as es (xs ++ []) first (first % 1024) (one_page es first (first / 1024) (first % 1024) at few (subst (λ n. min (first + mark_limit) n ≤ (first / 1024 + 1) * 1024) is.count ends)))

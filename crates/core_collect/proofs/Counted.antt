@@ -1,7 +1,5 @@
 -- How many digests are marked next, on any disk.
 use Rattle.std.proofs.Common.{◌≡◌, ◌<◌, ◌+◌, ◌-◌, ◌*◌, ◌/◌, ◌%◌, ◌==◌, ℕ, Bool, true, false, cond, min, List, drop, length, length-append, length-drop, length-take, Result, Ok, Err, IsTrue, refl, sym, ap, ◌∙◌, arith}
-use Rattle.std.specs.Str.{bytes_eq}
-use Rattle.sha2.specs.Sha256.{sha256}
 use Rattle.std.proofs.lemmas.Bool.{and_parts, eqb-true, ltb-false, ltb-true}
 use Rattle.std.proofs.lemmas.List.{length-map}
 use Rattle.std.proofs.lemmas.Nat.{div-add-mod'}
@@ -10,7 +8,7 @@ use Rattle.store_files.specs.Cells.{cells}
 use Rattle.store_files.specs.DynamicIndex.{Ended}
 use Rattle.index_pages.specs.declared.fault.PageFault.{PageFault}
 use Rattle.index_pages.specs.declared.fault.PageFault.TheVariants.{Changed}
-use Rattle.index_pages.specs.Paged.{entries_at, is_kept, page_len, sum_at}
+use Rattle.index_pages.specs.Paged.{entries_at, has_sum, is_kept, page_len, sum_at}
 use Rattle.gc_plan.specs.Plan.{mark_limit}
 use Rattle.paged_indexes.specs.declared.index.IndexPages.{IndexPages}
 use Rattle.paged_indexes.specs.declared.index.IndexPages.TheVariants as pages
@@ -30,9 +28,9 @@ told_same i start stop spelled es told = by_end (ends_at stop (stepped start spe
     by_end true e = cc
     by_end false e = cc
 
-kept_len : (p : IndexPages) (i : ℕ) (bytes : List ℕ) → IsTrue (is_kept (pages_by p) i bytes) → length bytes ≡ page_len (pages_by p) i
+pub kept_len : (p : IndexPages) (i : ℕ) (bytes : List ℕ) → IsTrue (is_kept (pages_by p) i bytes) → length bytes ≡ page_len (pages_by p) i
 kept_len p i bytes kept =
-    eqb-true (length bytes) (page_len (pages_by p) i) (and_parts (length bytes == page_len (pages_by p) i) (bytes_eq (sha256 bytes) (sum_at (pages_by p) i)) kept).0
+    eqb-true (length bytes) (page_len (pages_by p) i) (and_parts (length bytes == page_len (pages_by p) i) (has_sum (sum_at (pages_by p) i) bytes) kept).0
 
 -- as many as the page has
 kept_many : (p : IndexPages) (i : ℕ) (es : List Ended) → HasWidth p → AreKept p i es → length es ≡ entries_at (pages_by p).count i

@@ -3,7 +3,7 @@ use Rattle.disk_trait.specs.declared.disk.Disk.{Ghosts}
 use Rattle.std.proofs.Common.{◌≡◌, ◌<◌, ◌≤◌, ◌⊎◌, ℕ, [], ◌∷◌, Option, inl, inr, refl, sym, subst, arith}
 use Rattle.std.specs.Prelude.{IsSome}
 use Rattle.gc_plan.specs.Plan.{Plan, Stage, behind_visit, entry_limit, marking, sweeping, visited, with_removal}
-use Rattle.paged_indexes.specs.declared.index.IndexPages.{IndexPages}
+use Rattle.core_state.specs.declared.marked.MarkedPages.{MarkedPages}
 use Rattle.core_state.specs.Entries.{FitsPages, count_at_hand, marked_in}
 use Rattle.core_collect.specs.Visiting.{IsListed}
 
@@ -18,7 +18,7 @@ none_marked some = omega (arith, some)
 some_left : (marked count : ℕ) → marked < count → 0 < count
 some_left marked count lt = omega (arith, lt)
 
-module _ (pages : Option IndexPages) where
+module _ (pages : Option MarkedPages) where
   pub visited_fits : (p : Plan) → FitsPages p pages → FitsPages (visited p) pages
   visited_fits p fits = record {
     named = fits.named;

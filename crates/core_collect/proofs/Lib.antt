@@ -7,6 +7,7 @@ pub mod StartRefused
 pub mod StartActs
 pub mod Batches
 pub mod Counted
+pub mod LastPages
 pub mod ReadLemmas
 pub mod Reading
 pub mod MarkLemmas

@@ -2,6 +2,7 @@
 use Rattle.std.proofs.Common.{◌≡◌, ◌<◌, ◌≤◌, ◌+◌, ◌-◌, ◌==◌, ◌++◌, ℕ, zero, suc, min, Bool, true, false, cond, List, [], ◌∷◌, drop, length, Option, Some, None, IfSome, IsSome, is_some, IsSomeAnd, length-drop, nat_lt, true≢false, refl, sym, ap, ap₂, subst, ◌∙◌, arith}
 use Rattle.std.specs.Prelude.{slice_get}
 use Rattle.std.specs.List.{All}
+use Rattle.std.proofs.Props.{props}
 use Rattle.std.proofs.lemmas.Bool.{eq-eqb, eqb-true, le-ltb, lt-ltb, ltb-false, ne_eqb}
 use Rattle.std.proofs.lemmas.List.{drop-drop, drop_all}
 use Rattle.store_types.specs.declared.names.Digest32.{Digest32}
@@ -10,12 +11,12 @@ use Rattle.store_files.specs.Archive.{Snapshot}
 use Rattle.store_files.specs.Book.{Book}
 use Rattle.gc_plan.specs.Plan.{FitsMark, Plan, Stage, entry_limit, index_in, left_of, mark_in, mark_limit, marked_at, marking, next_index, next_mark, sweeping, with_mark}
 use Rattle.gc_plan.specs.declared.IndexAt.{IndexAt}
-use Rattle.paged_indexes.specs.declared.index.IndexPages.{IndexPages}
 use Rattle.paged_indexes.specs.Index.{pages_by}
 use Rattle.store_history.specs.Sweeping.{Sweep, Swept, Unmarked, passed, unmarked_of}
 use Rattle.core_state.specs.declared.collector.Collector.{Collector}
 use Rattle.core_state.specs.declared.kept.Kept.{Kept}
 use Rattle.core_state.specs.declared.kept.Listed.{Listed}
+use Rattle.core_state.specs.declared.marked.MarkedPages.{MarkedPages}
 use Rattle.core_state.specs.Entries.{FitsPages, count_at_hand, marked_in}
 use Rattle.core_state.specs.Sweeps.{ArePages, FitsRemoved, HasNumber, HasPages, ShowsSweep, digests_named, kept_at, left_at, left_in, left_of_kept, unmarked_by, visits_by}
 use Rattle.core_state.specs.Upkeeps.{TouchesEach}
@@ -121,7 +122,7 @@ at_hand_mark c digests hand none = by_index (next_index c.plan) refl hand.next
     by_index (Some i) is some = none_is (sym (ap is_some none) ∙ mark_there (c.plan).indexes (c.plan).stage i is)
 
 -- a plan may pass over the index that is next
-pub fits_pass : (p : Plan) (pages : Option IndexPages) → FitsPages p pages → IsSome (next_mark p) → FitsMark p 0 0
+pub fits_pass : (p : Plan) (pages : Option MarkedPages) → FitsPages p pages → IsSome (next_mark p) → FitsMark p 0 0
 fits_pass p pages fits some = by_mark (next_mark p) refl some
   where
     none_is : false ≡ true → ⊥
@@ -141,7 +142,7 @@ over_zero (sweeping names) = refl
 none_pages : false ≡ true → ⊥
 none_pages e = cc
 
-pub fits_none : (p q : Plan) (pages : Option IndexPages) → FitsPages p pages → q ≡ with_mark p 0 0 → FitsPages q None
+pub fits_none : (p q : Plan) (pages : Option MarkedPages) → FitsPages p pages → q ≡ with_mark p 0 0 → FitsPages q None
 fits_none p q pages fits is = subst (λ x. FitsPages x None) (sym is) (record {
   named = fits.named;
   begun = λ some. absurd (omega (arith, some, over_zero p.stage));
@@ -149,8 +150,24 @@ fits_none p q pages fits is = subst (λ x. FitsPages x None) (sym is) (record {
   few = omega (arith, over_zero p.stage);
 })
 
+-- what is known of its pages has one proof
+fits_one : (plan : Plan) (pages : Option MarkedPages) → IsProp (FitsPages plan pages)
+fits_one plan pages = hlevel props
+
+pub same_fits : (c : Collector) (fits : FitsPages c.plan c.pages) → ◌≡◌ {A = Collector} (record c { fits = fits }) c
+same_fits c fits = ap (λ f. record c { fits = f }) (fits_one c.plan c.pages fits c.fits)
+
+-- another page is at hand
+pub fits_kept : (p : Plan) (before : Option MarkedPages) (q r : MarkedPages) → FitsPages p before → before ≡ Some q → r.kept ≡ q.kept → FitsPages p (Some r)
+fits_kept p before q r fits is same = record {
+  named = fits.named;
+  begun = λ _. refl;
+  within = λ _. subst (λ x. marked_in p.stage < (pages_by x).count) (sym same) (subst (λ o. marked_in p.stage < count_at_hand o) is (fits.within (ap is_some is)));
+  few = fits.few;
+}
+
 -- none were at hand, and it is opened
-pub fits_opened : (p : Plan) (before : Option IndexPages) (x : IndexPages) → FitsPages p before → before ≡ None → ((pages_by x).count ≡ 0 → ⊥) → FitsPages p (Some x)
+pub fits_opened : (p : Plan) (before : Option MarkedPages) (x : MarkedPages) → FitsPages p before → before ≡ None → ((pages_by x.kept).count ≡ 0 → ⊥) → FitsPages p (Some x)
 fits_opened p before x fits none some = record {
   named = fits.named;
   begun = λ _. refl;
@@ -158,12 +175,12 @@ fits_opened p before x fits none some = record {
   few = fits.few;
 }
   where
-    by_marked : (n : ℕ) → (0 < n → IsSome before) → n < (pages_by x).count
+    by_marked : (n : ℕ) → (0 < n → IsSome before) → n < (pages_by x.kept).count
     by_marked zero begun = omega (arith, some)
-    by_marked (suc n) begun = absurd (none_pages (subst (λ (o : Option IndexPages). IsSome o) none (begun (omega arith))))
+    by_marked (suc n) begun = absurd (none_pages (subst (λ (o : Option MarkedPages). IsSome o) none (begun (omega arith))))
 
 -- some entries were marked, and some are left
-pub fits_marked : (p q : Plan) (pages : Option IndexPages) (count left : ℕ) → FitsPages p pages → IsSome pages → q ≡ with_mark p count left → (left ≡ 0 → ⊥) → marked_in p.stage + count + left ≡ count_at_hand pages
+pub fits_marked : (p q : Plan) (pages : Option MarkedPages) (count left : ℕ) → FitsPages p pages → IsSome pages → q ≡ with_mark p count left → (left ≡ 0 → ⊥) → marked_in p.stage + count + left ≡ count_at_hand pages
     → count_at_hand pages ≤ entry_limit → FitsPages q pages
 fits_marked p q pages count left fits some is more all few = subst (λ x. FitsPages x pages) (sym is) (record {
   named = fits.named;
@@ -178,17 +195,17 @@ fits_marked p q pages count left fits some is more all few = subst (λ x. FitsPa
     by_stage (sweeping names) below whole = below
 
 -- all of an index were marked
-pub fits_over : (p q : Plan) (pages : Option IndexPages) (count left : ℕ) → FitsPages p pages → q ≡ with_mark p count left → left ≡ 0 → FitsPages q None
+pub fits_over : (p q : Plan) (pages : Option MarkedPages) (count left : ℕ) → FitsPages p pages → q ≡ with_mark p count left → left ≡ 0 → FitsPages q None
 fits_over p q pages count left fits is none =
     fits_none p q pages fits (is ∙ ap (λ stage. record p { stage = stage }) (over_left p.stage count left (eq-eqb left 0 none)))
 
 -- ---- what a mark does
 
-pub never_none : (o : Option IndexPages) → o ≡ None → IsSome o → ⊥
-never_none o is some = none_pages (subst (λ (q : Option IndexPages). IsSome q) is some)
+pub never_none : (o : Option MarkedPages) → o ≡ None → IsSome o → ⊥
+never_none o is some = none_pages (subst (λ (q : Option MarkedPages). IsSome q) is some)
 
 -- how many are left of the index
-pub left_is : (c : Collector) (q : IndexPages) (first count : ℕ) → c.pages ≡ Some q → first ≡ marked_in (c.plan).stage → count ≡ (pages_by q).count → count - first ≡ entries_left c
+pub left_is : (c : Collector) (q : MarkedPages) (first count : ℕ) → c.pages ≡ Some q → first ≡ marked_in (c.plan).stage → count ≡ (pages_by q.kept).count → count - first ≡ entries_left c
 left_is c q first count had begins many = ap₂ (λ n k. n - k) (many ∙ sym (ap count_at_hand had)) begins
 
 module _ (before after_ : Book) (old new : Collector) (digests : List Digest32) (moment count rest : ℕ) (rest_is : rest ≡ entries_left old) (count_is : count ≡ min rest mark_limit) where
@@ -266,13 +283,13 @@ module _ (catalogue : List Listed) (snapshots : List Snapshot) where
         to_visit = ap (λ (q : Plan). visits_by q.stage) over.plan ∙ visits_marked p.stage 0 0 ∙ h.to_visit;
         removed = ap (λ (q : Plan). q.removed) over.plan ∙ h.removed;
         few = subst (λ (q : Plan). FitsRemoved q.stage q.removed) (sym over.plan) (few_marked p.stage 0 0 p.removed h.few);
-        pages = subst (λ (o : Option IndexPages). IfSome o (λ q. HasPages catalogue snapshots q (next_index new.plan))) (sym over.none) tt;
+        pages = subst (λ (o : Option MarkedPages). IfSome o (λ q. HasPages catalogue snapshots q (next_index new.plan))) (sym over.none) tt;
         numbers = subst (λ (q : Plan). All (HasNumber acts) q.indexes) (sym over.plan) h.numbers;
       }
 
   -- ---- an index whose pages are at hand
 
-  pub begins_with : (c : Collector) (i : IndexAt) (k : Kept) (q : IndexPages) (digests : List Digest32) (us : List Unmarked) → next_index c.plan ≡ Some i → kept_at i.snapshot catalogue ≡ Some k → c.pages ≡ Some q
+  pub begins_with : (c : Collector) (i : IndexAt) (k : Kept) (q : MarkedPages) (digests : List Digest32) (us : List Unmarked) → next_index c.plan ≡ Some i → kept_at i.snapshot catalogue ≡ Some k → c.pages ≡ Some q
       → HasAll snapshots k i q → bytes_of digests ≡ marked_from (marked_in (c.plan).stage) (all_of k i snapshots) → unmarked (c.plan).indexes (c.plan).stage ≡ us → BeginsWith catalogue snapshots c digests us
   begins_with c i k q digests us at there had all are shown =
       let first = marked_in (c.plan).stage in
@@ -286,7 +303,7 @@ module _ (catalogue : List Listed) (snapshots : List Snapshot) where
         kept = k;
         next = at;
         there = there;
-        all = subst (λ (o : Option IndexPages). IsSomeAnd o (HasAll snapshots k i)) (sym had) all;
+        all = subst (λ (o : Option MarkedPages). IsSomeAnd o (HasAll snapshots k i)) (sym had) all;
         digests_are = are;
         begins = sym shown ∙ first_left (c.plan).indexes (c.plan).stage i at ∙ ap (λ xs. xs ++ behind_next catalogue snapshots c.plan) left;
       }
@@ -314,7 +331,7 @@ module _ (catalogue : List Listed) (snapshots : List Snapshot) where
     left = left_then e
 
     -- the pages at hand are those of the index
-    had : (o : Option IndexPages) → IsSomeAnd o (HasAll snapshots b.kept b.index) → (count_at_hand o ≡ length ds) × IfSome o (λ q. ArePages snapshots (b.index).name q (Some b.kept))
+    had : (o : Option MarkedPages) → IsSomeAnd o (HasAll snapshots b.kept b.index) → (count_at_hand o ≡ length ds) × IfSome o (λ q. ArePages snapshots (b.index).name q (Some b.kept))
     had None none = absurd none
     had (Some q) all = (all.count, all.pages)
 
@@ -342,10 +359,10 @@ module _ (catalogue : List Listed) (snapshots : List Snapshot) where
 
     pages_then : (t : Bool) → (left == 0) ≡ t → IfSome f.pages (λ q. HasPages catalogue snapshots q (next_index f.plan))
     pages_then true over =
-        subst (λ (o : Option IndexPages). IfSome o (λ q. HasPages catalogue snapshots q (next_index f.plan))) (sym (marks.pages ∙ ap (λ t. cond t None e.pages) over)) tt
+        subst (λ (o : Option MarkedPages). IfSome o (λ q. HasPages catalogue snapshots q (next_index f.plan))) (sym (marks.pages ∙ ap (λ t. cond t None e.pages) over)) tt
     pages_then false some =
         let next : next_index f.plan ≡ Some b.index = ap next_index marks.plan ∙ same_index p.indexes p.stage count left some ∙ b.next in
-        subst (λ (o : Option IndexPages). IfSome o (λ q. HasPages catalogue snapshots q (next_index f.plan))) (sym (marks.pages ∙ ap (λ t. cond t None e.pages) some))
+        subst (λ (o : Option MarkedPages). IfSome o (λ q. HasPages catalogue snapshots q (next_index f.plan))) (sym (marks.pages ∙ ap (λ t. cond t None e.pages) some))
         (subst (λ (i : Option IndexAt). IfSome e.pages (λ q. HasPages catalogue snapshots q i)) (sym next)
         (subst (λ (k : Option Kept). IfSome e.pages (λ q. ArePages snapshots (b.index).name q k)) (sym b.there) (had e.pages b.all).1))
 

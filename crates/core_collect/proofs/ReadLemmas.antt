@@ -1,5 +1,5 @@
 -- What is read of an index: its next digests, or that it is unreadable.
-use Rattle.std.proofs.Common.{◌≡◌, ◌<◌, ◌+◌, ◌==◌, ◌||◌, inl, inr, ℕ, zero, suc, Bool, true, false, cond, List, [], ◌∷◌, get_or, length, map, option_map, Option, Some, None, IsSomeAnd, Result, Ok, Err, refl, sym, ap, subst, ◌∙◌, arith}
+use Rattle.std.proofs.Common.{◌≡◌, ⊎_elim, ◌<◌, ◌+◌, ◌/◌, ◌==◌, ◌||◌, ℕ, zero, suc, Bool, true, false, cond, List, [], ◌∷◌, get_or, length, map, option_map, Option, Some, None, IfSome, IsSomeAnd, Result, Ok, Err, refl, sym, ap, subst, ◌∙◌, arith}
 use Rattle.std.specs.FinMap.{get}
 use Rattle.std.specs.List.{find}
 use Rattle.std.proofs.lemmas.List.{length-map}
@@ -12,10 +12,12 @@ use Rattle.store_files.specs.DynamicIndex.{Ended}
 use Rattle.store_files.specs.Folder.{file_path}
 use Rattle.store_model.specs.Stands.{FitsContent, StandsFor, keys_rise, names_content}
 use Rattle.store_model.specs.Store.{snapshot_named}
-use Rattle.store_stops.specs.declared.stop.Stop.{Stop}
-use Rattle.store_stops.specs.declared.stop.Stop.TheVariants as stops
+use Rattle.index_pages.specs.Paged.{page_at, page_text, paged}
 use Rattle.paged_indexes.specs.declared.kinds.IndexKind.{IndexKind}
 use Rattle.paged_indexes.specs.declared.index.IndexPages.{IndexPages}
+use Rattle.paged_indexes.specs.declared.index.IndexPages.TheVariants as pages
+use Rattle.paged_indexes.specs.Dynamic.{dynamic_paged}
+use Rattle.paged_indexes.specs.Fixed.{fixed_paged}
 use Rattle.paged_indexes.specs.Index.{entries_in, pages_by}
 use Rattle.paged_indexes.specs.Laws.{IsIndex}
 use Rattle.paged_indexes.proofs.PagesRead.{opened_is_index}
@@ -28,17 +30,20 @@ use Rattle.store_history.specs.Sweeping.{digests_of}
 use Rattle.store_history.proofs.Found.{each_named}
 use Rattle.core_state.specs.declared.kept.Kept.{Kept}
 use Rattle.core_state.specs.declared.kept.Listed.{Listed}
+use Rattle.core_state.specs.declared.marked.MarkedPages.{MarkedPages}
+use Rattle.core_state.specs.declared.marked.MarkedPage.{MarkedPage}
+use Rattle.core_state.specs.MarkedPage.{IsPageOfText}
 use Rattle.core_state.specs.Found.{kept_named, path_in, path_of_kept}
 use Rattle.core_state.specs.Shown.{files_named, shown_snapshot}
-use Rattle.core_state.specs.Sweeps.{ArePages, digests_in, digests_named, kept_at}
+use Rattle.core_state.specs.Sweeps.{AreOfText, ArePages, digests_in, digests_named, kept_at}
 use Rattle.core_state.proofs.Finding.{found_in, mapped}
 use Rattle.core_state.proofs.Found.{IsThere, is_there, kept_is, not_there, there_fits, there_kind, there_named, there_text}
-use Rattle.core_state.proofs.KeptPages.{index_is_kept, kept_is as pages_kept, opens_as}
-use Rattle.core_collect.specs.Entries.{bytes_of, entry_digests, marked_from, next_read}
-use Rattle.core_collect.specs.Marking.{Standing, TellsStanding, UnreadBy, first_standing, marked_next, passed_over, path_at, standing_as, standing_by, unreadable}
+use Rattle.core_state.proofs.KeptPages.{index_is_kept, kept_is as pages_kept, opens_as, there_path}
+use Rattle.core_collect.specs.Entries.{IsHad, bytes_at, bytes_of, entry_digests, marked_from, next_read}
+use Rattle.core_collect.specs.Marking.{first_standing, marked_next, passed_over, path_at, standing_as, standing_by}
 use Rattle.core_collect.specs.declared.marking.Opened.{Opened}
-use Rattle.core_collect.specs.declared.marking.Unread.{Unread}
 use Rattle.core_collect.proofs.Batches.{next_is}
+use Rattle.core_collect.proofs.LastPages.{read_is, reads_again, same_bytes}
 use Rattle.core_collect.proofs.Lists.{each_like}
 
 -- ---- an index of the plain store
@@ -55,16 +60,22 @@ no_blob name kind index = by_tests (is_fixed_name name) (is_dynamic_name name) (
     by_tests false true e f h = cc
     by_tests true b e f h = cc
 
+-- what an opening keeps is that of the index's file
+abbrev pub IsOfFile : List Snapshot → List ℕ → Kept → IndexPages → Type 0
+IsOfFile snapshots name k p = IsSomeAnd (file_named name (files_named k.key snapshots)) (λ f. p ≡ pages_of name (file_path k.key name) (file_text f.content))
+
 -- What stands there is an index, with the digests of the snapshot's file. What an opening keeps of it is what is kept of that file, and its
 -- pages are read by that.
 pub record IsPlain (m : Files) (snapshots : List Snapshot) (k : Kept) (name path : List ℕ) : Type 0 where
   pub text : List ℕ
   pub entries : List Ended
   pub there : get m path ≡ Some text
+  pub path_is : path ≡ file_path k.key name
+  pub is_text : IsSomeAnd (file_named name (files_named k.key snapshots)) (λ f. file_text f.content ≡ text)
   pub read : entries_in (kind_of_index name) text ≡ Some entries
   pub digests : entry_digests entries ≡ digests_named k.key name snapshots
-  pub opens : (p : IndexPages) → index_opened m path (kind_of_index name) ≡ Ok p → ArePages snapshots name p (Some k)
-  pub is_index : (p : IndexPages) → ArePages snapshots name p (Some k) → IsIndex m p entries
+  pub opens : (p : IndexPages) → index_opened m path (kind_of_index name) ≡ Ok p → IsOfFile snapshots name k p
+  pub is_index : (p : IndexPages) → IsOfFile snapshots name k p → IsIndex m p entries
 
 module _ (m : Files) (snapshots : List Snapshot) (k : Kept) (name path : List ℕ) (t : IsThere snapshots k.key name path) where
   abbrev IsOf : IndexPages → File → Type 0
@@ -79,6 +90,8 @@ module _ (m : Files) (snapshots : List Snapshot) (k : Kept) (name path : List �
         text = archive_text a;
         entries = ends_from 0 a.pieces;
         there = there;
+        path_is = there_path snapshots k.key name path t;
+        is_text = subst (λ o. IsSomeAnd o (λ f. file_text f.content ≡ archive_text a)) (sym named) text;
         read = ap (λ q. entries_in q (archive_text a)) (layout_index a name kind) ∙ archive_read a fits;
         digests = digests_end 0 a.pieces ∙ sym (ap digests_in named ∙ ap digests_of is);
         opens = λ p opened.
@@ -134,28 +147,87 @@ pub plain_opens : (m : Files) (snapshots : List Snapshot) (k : Kept) (name path 
 plain_opens m snapshots k name path refusal plain is =
     some_none plain.entries (sym plain.read ∙ (unopened_there m path (kind_of_index name) refusal plain.text plain.there is).0)
 
--- the pages at hand are as many entries' as there are, of which the next are its digests
-pub plain_count : (m : Files) (snapshots : List Snapshot) (k : Kept) (name path : List ℕ) (p : IndexPages) → IsPlain m snapshots k name path → ArePages snapshots name p (Some k)
+-- what it keeps is of as many entries as there are, of which the next are its digests, where what is at hand is what would be read
+pub plain_count : (m : Files) (snapshots : List Snapshot) (k : Kept) (name path : List ℕ) (p : IndexPages) → IsPlain m snapshots k name path → IsOfFile snapshots name k p
     → (pages_by p).count ≡ length (digests_named k.key name snapshots)
 plain_count m snapshots k name path p plain are =
     (plain.is_index p are).count ∙ sym (length-map plain.entries (λ (e : Ended). e.digest)) ∙ ap length plain.digests
 
-pub plain_next : (m : Files) (snapshots : List Snapshot) (k : Kept) (name path : List ℕ) (p : IndexPages) (first : ℕ) → IsPlain m snapshots k name path → ArePages snapshots name p (Some k) → first < (pages_by p).count
-    → next_read m path p first ≡ Ok (marked_from first (digests_named k.key name snapshots))
-plain_next m snapshots k name path p first plain are below =
+pub plain_next : (m : Files) (snapshots : List Snapshot) (k : Kept) (name path : List ℕ) (p : IndexPages) (at_hand : Option MarkedPage) (first : ℕ) → IsPlain m snapshots k name path → IsOfFile snapshots name k p
+    → ((i : ℕ) → bytes_at m p at_hand i ≡ page_at m (pages_by p) i) → first < (pages_by p).count → next_read m path p at_hand first ≡ Ok (marked_from first (digests_named k.key name snapshots))
+plain_next m snapshots k name path p at_hand first plain are same below =
     let is = plain.is_index p are in
-    next_is m path p plain.entries is first (subst (λ n. first < n) is.count below)
+    next_is m path p plain.entries is at_hand first (subst (λ n. first < n) is.count below) (same (first / 1024))
     ∙ ap (λ ds. let r : Result (List (List ℕ)) Refusal = Ok (marked_from first ds) in r) plain.digests
 
--- ---- by what was read
+-- ---- the pages at hand of a plain store's index
 
--- why it is not read is handed on
-pub told_unread : {A : Type 0} (how : A → Standing) (stands : Standing) (path : List ℕ) (stop : Stop) (unread : Unread) → UnreadBy path stop unread
-    → ((refusal : Refusal) → stop ≡ stops.Refused refusal → stands ≡ unreadable path) → TellsStanding how stands (Err unread)
-told_unread how stands path (stops.Refused refusal) unread (inl is) told = subst (λ u. TellsStanding how stands (Err u)) (sym is) tt
-told_unread how stands path (stops.Refused refusal) unread (inr is) told = subst (λ u. TellsStanding how stands (Err u)) (sym is) (told refusal refl)
-told_unread how stands path stops.NoMemory unread is told = subst (λ u. TellsStanding how stands (Err u)) (sym is) tt
-told_unread how stands path stops.DiskFailed unread is told = subst (λ u. TellsStanding how stands (Err u)) (sym is) tt
+both_of : {A : Type 0} {P Q : A → Type 0} (o : Option A) → IsSomeAnd o P → IsSomeAnd o Q → (x : A) × P x × Q x
+both_of None p q = absurd p
+both_of (Some x) p q = (x, p, q)
+
+each_of : {A : Type 0} {P Q : A → Type 0} (o : Option A) → ((x : A) → P x → Q x) → IsSomeAnd o P → IsSomeAnd o Q
+each_of None go p = absurd p
+each_of (Some x) go p = go x p
+
+-- where it is said to stand
+named_there : (name path text : List ℕ) → (pages_by (pages_of name path text)).name ≡ path
+unfolding paged
+named_there name path text = by_kind (is_fixed_name name)
+  where
+    by_kind : (b : Bool) → (pages_by (cond b (pages.Fixed (fixed_paged path text)) (pages.Dynamic (dynamic_paged path text)))).name ≡ path
+    by_kind true = refl
+    by_kind false = refl
+
+pub file_of : (snapshots : List Snapshot) (k : Kept) (name : List ℕ) (p : MarkedPages) → ArePages snapshots name p (Some k) → IsOfFile snapshots name k p.kept
+file_of snapshots k name p are = each_of (file_named name (files_named k.key snapshots)) (λ f has. has.kept) are
+
+-- none was read yet
+pub first_pages : (snapshots : List Snapshot) (k : Kept) (name : List ℕ) (p : MarkedPages) → p.last ≡ None → IsOfFile snapshots name k p.kept → ArePages snapshots name p (Some k)
+first_pages snapshots k name p none are =
+    each_of (file_named name (files_named k.key snapshots))
+    (λ f has. record { kept = has; last = subst (λ o. IfSome o (IsPageOfText p.kept (file_text f.content))) (sym none) tt }) are
+
+module _ (m : Files) (snapshots : List Snapshot) (k : Kept) (name path : List ℕ) (plain : IsPlain m snapshots k name path) where
+  stands_at : (p : IndexPages) (f : File) → file_text f.content ≡ plain.text → p ≡ pages_of name (file_path k.key name) (file_text f.content) → get m (pages_by p).name ≡ Some (file_text f.content)
+  stands_at p f text kept =
+      ap (λ q. get m (pages_by q).name) kept ∙ ap (get m) (named_there name (file_path k.key name) (file_text f.content) ∙ sym plain.path_is) ∙ plain.there ∙ ap Some (sym text)
+
+  -- what is at hand is what would be read
+  pub plain_bytes : (p : MarkedPages) → ArePages snapshots name p (Some k) → (i : ℕ) → bytes_at m p.kept p.last i ≡ page_at m (pages_by p.kept) i
+  plain_bytes p are i =
+      let (f, has, text) = both_of (file_named name (files_named k.key snapshots)) are plain.is_text in
+      let there = stands_at p.kept f text has.kept in
+      same_bytes m p.kept p.last (λ q is.
+      let same : q.bytes ≡ page_text (pages_by p.kept) q.number (file_text f.content) = subst (λ o. IfSome o (IsPageOfText p.kept (file_text f.content))) is has.last in
+      reads_again m (pages_by p.kept) q.number (file_text f.content) there q.bytes same ((p.fits).read q is).kept) i
+
+  -- and so it is of the page that is read next
+  pub plain_pages : (p r : MarkedPages) → r.kept ≡ p.kept → IfSome r.last (IsHad m p.kept p.last) → ArePages snapshots name p (Some k) → ArePages snapshots name r (Some k)
+  plain_pages p r same had are = each_of (file_named name (files_named k.key snapshots)) (λ f both. page_now f both.0 both.1) both
+    where
+      both : IsSomeAnd (file_named name (files_named k.key snapshots)) (λ f. AreOfText name (file_path k.key name) (file_text f.content) p × (file_text f.content ≡ plain.text))
+      both = pair (file_named name (files_named k.key snapshots)) are plain.is_text
+        where
+          pair : (o : Option File) → IsSomeAnd o (λ f. AreOfText name (file_path k.key name) (file_text f.content) p) → IsSomeAnd o (λ f. file_text f.content ≡ plain.text)
+              → IsSomeAnd o (λ f. AreOfText name (file_path k.key name) (file_text f.content) p × (file_text f.content ≡ plain.text))
+          pair None a b = absurd a
+          pair (Some f) a b = (a, b)
+
+      page_now : (f : File) → AreOfText name (file_path k.key name) (file_text f.content) p → file_text f.content ≡ plain.text → AreOfText name (file_path k.key name) (file_text f.content) r
+      page_now f has text = record { kept = same ∙ has.kept; last = by_last r.last had }
+        where
+          there : get m (pages_by p.kept).name ≡ Some (file_text f.content)
+          there = stands_at p.kept f text has.kept
+
+          by_last : (o : Option MarkedPage) → IfSome o (IsHad m p.kept p.last) → IfSome o (IsPageOfText r.kept (file_text f.content))
+          by_last None had = tt
+          by_last (Some q) had =
+              let read : page_at m (pages_by p.kept) q.number ≡ Ok q.bytes =
+              ⊎_elim {C = page_at m (pages_by p.kept) q.number ≡ Ok q.bytes} (λ at. sym (plain_bytes p are q.number) ∙ at) (λ at. at) had in
+              subst (λ x. q.bytes ≡ page_text (pages_by x) q.number (file_text f.content)) (sym same) (read_is m (pages_by p.kept) q.number (file_text f.content) there q.bytes read)
+
+-- ---- by what was read
 
 some_more : (n : ℕ) → (n == 0) ≡ false → 0 < n
 some_more zero e = cc
@@ -173,13 +245,13 @@ opened_stands m path kind x opened taken =
     ap (standing_as m path) opened ∙ by_count p es is (taken there.text es there.there there.read) ((pages_by p).count == 0) refl
   where
     by_count : (p : IndexPages) (es : List Ended) → IsIndex m p es → bytes_of x.digests.items ≡ marked_from 0 (entry_digests es) → (b : Bool) → ((pages_by p).count == 0) ≡ b
-        → cond ((pages_by p).count == 0) passed_over (standing_by path p (next_read m path p 0)) ≡ cond ((pages_by p).count == 0) passed_over (marked_next p (bytes_of x.digests.items))
+        → cond ((pages_by p).count == 0) passed_over (standing_by path p (next_read m path p None 0)) ≡ cond ((pages_by p).count == 0) passed_over (marked_next p (bytes_of x.digests.items))
     by_count p es is taken true none =
-        ap (λ c. cond c passed_over (standing_by path p (next_read m path p 0))) none ∙ sym (ap (λ c. cond c passed_over (marked_next p (bytes_of x.digests.items))) none)
+        ap (λ c. cond c passed_over (standing_by path p (next_read m path p None 0))) none ∙ sym (ap (λ c. cond c passed_over (marked_next p (bytes_of x.digests.items))) none)
     by_count p es is taken false some =
         let count = is.count in
         let more : 0 < length es = some_more (length es) (ap (λ n. n == 0) (sym count) ∙ some) in
-        ap (λ c. cond c passed_over (standing_by path p (next_read m path p 0))) some
-        ∙ ap (standing_by path p) (next_is m path p es is 0 more)
+        ap (λ c. cond c passed_over (standing_by path p (next_read m path p None 0))) some
+        ∙ ap (standing_by path p) (next_is m path p es is None 0 more refl)
         ∙ ap (marked_next p) (sym taken)
         ∙ sym (ap (λ c. cond c passed_over (marked_next p (bytes_of x.digests.items))) some)

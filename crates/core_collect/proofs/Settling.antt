@@ -1,6 +1,6 @@
 -- The index that is next is passed over, read or unreadable, and the search for the one that is marked.
 use Rattle.disk_trait.specs.declared.disk.Disk.{Ghosts}
-use Rattle.std.proofs.Common.{◌≡◌, ◌⊎◌, ⊎_elim, ◌<◌, ◌-◌, ◌==◌, ℕ, zero, suc, min, Bool, true, false, cond, nat_lt, le_refl, le_of_eq, List, [], ◌∷◌, drop, length, Option, Some, None, Result, Ok, Err, IfSome, IsSome, is_some, IsErrAnd, IsErrOf, Vec, Global, inl, inr, refl, sym, ap, ap₂, subst, ◌∙◌, arith}
+use Rattle.std.proofs.Common.{◌≡◌, ◌⊎◌, ⊎_elim, ◌<◌, ◌-◌, ◌==◌, ℕ, zero, suc, min, Bool, true, false, cond, nat_lt, le_refl, le_of_eq, List, [], ◌∷◌, drop, length, Option, Some, None, option_map, Result, Ok, Err, IfSome, IsSome, IsSomeAnd, is_some, IsErrAnd, IsErrOf, Vec, Global, inl, inr, refl, sym, ap, ap₂, subst, ◌∙◌, arith}
 use Rattle.std.specs.Prelude.{slice_get}
 use Rattle.std.specs.List.{All}
 use Rattle.std.proofs.lemmas.Bool.{eq-eqb, eqb-true, ltb-false, ne_eqb}
@@ -12,6 +12,7 @@ use Rattle.store_types.specs.declared.names.Digest32.{Digest32}
 use Rattle.store_types.specs.declared.refusal.Refusal.{Refusal}
 use Rattle.store_types.specs.FileNames.{is_index_name}
 use Rattle.paged_indexes.specs.declared.index.IndexPages.{IndexPages}
+use Rattle.index_pages.specs.Paged.{page_at}
 use Rattle.paged_indexes.specs.Index.{pages_by}
 use Rattle.snapshot_files.specs.Indexes.{index_opened, kind_of_index}
 use Rattle.store_model.specs.Store.{Store}
@@ -23,6 +24,9 @@ use Rattle.core_state.specs.declared.collector.Collector.{Collector}
 use Rattle.core_state.specs.declared.kept.Kept.{Kept}
 use Rattle.core_state.specs.declared.kept.Listed.{Listed}
 use Rattle.core_state.specs.declared.parts.Parts.{Parts}
+use Rattle.core_state.specs.declared.marked.MarkedPages.{MarkedPages}
+use Rattle.core_state.specs.declared.marked.MarkedPage.{MarkedPage}
+use Rattle.core_state.specs.MarkedPage.{FitsLast}
 use Rattle.core_state.specs.Entries.{count_at_hand, marked_in}
 use Rattle.core_state.specs.Found.{path_of_kept}
 use Rattle.core_state.specs.Holds.{Holds}
@@ -30,12 +34,13 @@ use Rattle.core_state.specs.Sweeps.{ArePages, FitsRemoved, HasNumber, HasPages, 
 use Rattle.core_state.specs.Unchanged.{SameKept}
 use Rattle.core_state.proofs.Acting.{holds_same}
 use Rattle.core_state.proofs.Finding.{some_same}
-use Rattle.core_collect.specs.Entries.{AreNext, bytes_of, marked_from, next_read}
-use Rattle.core_collect.specs.Marking.{FindsAfter, FindsNext, GoesFurther, IsSettled, IfUnreadable, MayPass, PassesNext, PassesOver, SettlesNext, ShowsStill, Standing, StandsAt, TellsStanding, all_of, at_hand_after, first_standing, indexes_left, marked_next, marked_now, next_unreadable, passed_by, passed_over, path_at, standing, standing_as, standing_at, standing_by, unless_passed, unreadable, unreadable_in}
+use Rattle.core_collect.specs.Entries.{AreNext, IsHad, IsThePage, bytes_at, bytes_of, last_page, marked_from, next_read}
+use Rattle.core_collect.specs.Marking.{FindsAfter, FindsNext, GoesFurther, IsSettled, KeepsLast, MayPass, PassesNext, PassesOver, SettlesNext, ShowsStill, Standing, StandsAt, TellsStanding, all_of, at_hand_after, first_standing, indexes_left, marked_next, marked_now, next_unreadable, opening_of, page_at_hand, page_then, passed_by, passed_over, path_at, standing, standing_as, standing_at, standing_by, unless_passed, unreadable, unreadable_in}
 use Rattle.core_collect.specs.declared.marking.Opened.{Opened}
 use Rattle.core_collect.specs.declared.marking.Unread.{Unread}
 use Rattle.core_collect.specs.declared.marking.Unread.TheVariants.{DiskFailed, NoMemory, Unreadable}
-use Rattle.core_collect.proofs.ReadLemmas.{IsPlain, index_plain, no_digests, plain_count, plain_next, plain_opens}
+use Rattle.core_collect.proofs.LastPages.{hand_is}
+use Rattle.core_collect.proofs.ReadLemmas.{IsOfFile, IsPlain, file_of, first_pages, index_plain, no_digests, plain_bytes, plain_count, plain_next, plain_opens, plain_pages}
 use Rattle.core_collect.proofs.MarkLemmas.{all_marked, at_place, begins_with, drop_from, mark_there, no_index, over_zero, passed_shows}
 
 none_some : {A : Type 0} (x : A) → None ≡ Some x → ⊥
@@ -195,8 +200,8 @@ module _ {D : Type 0} (d : Ghosts D) (parts : Parts D) where
   opened_standing c i path found none =
       ap₂ (λ o q. standing_at m (kind_of_index i.name) o (marked_in (c.plan).stage) q) none found
 
-  had_standing : (c : Collector) (i : IndexAt) (path : List ℕ) (p : IndexPages) → path_at i catalogue ≡ Some path → c.pages ≡ Some p
-      → standing m catalogue c.pages (marked_in (c.plan).stage) i ≡ standing_by path p (next_read m path p (marked_in (c.plan).stage))
+  had_standing : (c : Collector) (i : IndexAt) (path : List ℕ) (p : MarkedPages) → path_at i catalogue ≡ Some path → c.pages ≡ Some p
+      → standing m catalogue c.pages (marked_in (c.plan).stage) i ≡ standing_by path p.kept (next_read m path p.kept p.last (marked_in (c.plan).stage))
   had_standing c i path p found had =
       ap₂ (λ o q. standing_at m (kind_of_index i.name) o (marked_in (c.plan).stage) q) had found
 
@@ -209,7 +214,7 @@ module _ {D : Type 0} (d : Ghosts D) (parts : Parts D) where
 
       by_marked : (n : ℕ) → (0 < n → IsSome c.pages) → n ≡ 0
       by_marked zero begun = refl
-      by_marked (suc n) begun = absurd (none_some_pages (subst (λ (o : Option IndexPages). IsSome o) none (begun (omega arith))))
+      by_marked (suc n) begun = absurd (none_some_pages (subst (λ (o : Option MarkedPages). IsSome o) none (begun (omega arith))))
 
   -- ---- it is opened
 
@@ -233,7 +238,7 @@ module _ {D : Type 0} (d : Ghosts D) (parts : Parts D) where
         by_count : (p : IndexPages) (b : Bool) → ((pages_by p).count == 0) ≡ b → standing_as m path (Ok p) ≡ passed_over → {n : ℕ} → (pages_by p).count ≡ n → n ≡ 0
         by_count p true zero_is stands same = sym same ∙ eqb-true (pages_by p).count 0 zero_is
         by_count p false some stands same =
-            absurd (by_read p (next_read m path p 0) (sym (ap (λ b. cond b passed_over (standing_by path p (next_read m path p 0))) some) ∙ stands))
+            absurd (by_read p (next_read m path p None 0) (sym (ap (λ b. cond b passed_over (standing_by path p (next_read m path p None 0))) some) ∙ stands))
 
         none_named : (s : Store) → Holds d parts s → (k : Kept) → kept_at i.snapshot catalogue ≡ Some k → (r : Result IndexPages Refusal) → index_opened m path (kind_of_index i.name) ≡ r
             → digests_named k.key i.name s.snapshots ≡ []
@@ -246,15 +251,45 @@ module _ {D : Type 0} (d : Ghosts D) (parts : Parts D) where
 
   -- ---- it is to be marked
 
-  -- for each store its pages are the file's
-  abbrev HasPagesOf : Collector → Collector → IndexAt → IndexPages → Type 0
-  HasPagesOf old new i p = (s : Store) (sweep : Sweep) (acts : ℕ) → Holds d parts s → ShowsSweep acts catalogue s.snapshots old sweep → (k : Kept) → kept_at i.snapshot catalogue ≡ Some k
-      → ArePages s.snapshots i.name p (Some k)
+  -- as the plan was, with other pages at hand
+  module _ (old new : Collector) (plan : new.plan ≡ old.plan) (lane : new.lane ≡ old.lane) (ended : new.ended ≡ old.ended) where
+    further_as : GoesFurther old new
+    further_as = record {
+      lane = lane;
+      ended = ended;
+      start = ap (λ (q : Plan). q.start) plan;
+      cutoff = ap (λ (q : Plan). q.cutoff) plan;
+      indexes = ap (λ (q : Plan). q.indexes) plan;
+      over = λ going. ap is_over plan ∙ going;
+      not_more = le_of_eq (ap left_of plan);
+    }
 
-  module _ (old new : Collector) (i : IndexAt) (path : List ℕ) (p : IndexPages) (digests : Vec Digest32 Global) (at : next_index old.plan ≡ Some i) (found : path_at i catalogue ≡ Some path)
-      (plan : new.plan ≡ old.plan) (lane : new.lane ≡ old.lane) (ended : new.ended ≡ old.ended) (had : new.pages ≡ Some p) (are : HasPagesOf old new i p)
-      (next : d.honest parts.disk → standing_by path p (next_read m path p (marked_in (old.plan).stage)) ≡ marked_next p (bytes_of digests.items))
-      (stands : d.honest parts.disk → standing m catalogue old.pages (marked_in (old.plan).stage) i ≡ marked_next p (bytes_of digests.items)) where
+    shows_as : (acts : ℕ) (s : Store) (sweep : Sweep) (i : IndexAt) (k : Kept) (r : MarkedPages) → next_index old.plan ≡ Some i → kept_at i.snapshot catalogue ≡ Some k → new.pages ≡ Some r → ArePages s.snapshots i.name r (Some k)
+        → ShowsSweep acts catalogue s.snapshots old sweep → ShowsSweep acts catalogue s.snapshots new sweep
+    shows_as acts s sweep i k r at there had are h = record {
+      start = ap (λ (q : Plan). q.start) plan ∙ h.start;
+      cutoff = ap (λ (q : Plan). q.cutoff) plan ∙ h.cutoff;
+      unmarked = ap (λ (q : Plan). unmarked_by catalogue s.snapshots q.indexes q.stage) plan ∙ h.unmarked;
+      to_visit = ap (λ (q : Plan). visits_by q.stage) plan ∙ h.to_visit;
+      removed = ap (λ (q : Plan). q.removed) plan ∙ h.removed;
+      few = subst (λ (q : Plan). FitsRemoved q.stage q.removed) (sym plan) h.few;
+      pages = subst (λ (o : Option MarkedPages). IfSome o (λ q. HasPages catalogue s.snapshots q (next_index new.plan))) (sym had)
+          (subst (HasPages catalogue s.snapshots r) (sym (ap next_index plan ∙ at)) (subst (ArePages s.snapshots i.name r) (sym there) are));
+      numbers = subst (λ (q : Plan). All (HasNumber acts) q.indexes) (sym plan) h.numbers;
+    }
+
+  -- for each store they are the file's, and what was at hand is what would be read
+  abbrev HasPagesOf : Collector → IndexAt → MarkedPages → Option MarkedPage → Type 0
+  HasPagesOf old i r at_hand = (s : Store) (sweep : Sweep) (acts : ℕ) → Holds d parts s → ShowsSweep acts catalogue s.snapshots old sweep → (k : Kept) → kept_at i.snapshot catalogue ≡ Some k
+      → ArePages s.snapshots i.name r (Some k) × ((j : ℕ) → bytes_at m r.kept at_hand j ≡ page_at m (pages_by r.kept) j)
+
+  module _ (old new : Collector) (i : IndexAt) (path : List ℕ) (r : MarkedPages) (at_hand : Option MarkedPage) (digests : Vec Digest32 Global) (at : next_index old.plan ≡ Some i) (found : path_at i catalogue ≡ Some path)
+      (plan : new.plan ≡ old.plan) (lane : new.lane ≡ old.lane) (ended : new.ended ≡ old.ended) (had : new.pages ≡ Some r) (are : HasPagesOf old i r at_hand)
+      (next : d.honest parts.disk → standing_by path r.kept (next_read m path r.kept at_hand (marked_in (old.plan).stage)) ≡ marked_next r.kept (bytes_of digests.items))
+      (stands : d.honest parts.disk → standing m catalogue old.pages (marked_in (old.plan).stage) i ≡ marked_next r.kept (bytes_of digests.items)) where
+    abbrev p : IndexPages
+    p = r.kept
+
     abbrev first : ℕ
     first = marked_in (old.plan).stage
 
@@ -267,40 +302,24 @@ module _ {D : Type 0} (d : Ghosts D) (parts : Parts D) where
     had_shows acts s sweep holds h =
         let there = kept_there i catalogue path found in
         let k = there.0 in
-        let of_file = are s sweep acts holds h k there.1 in
+        let (of_pages, same_at) = are s sweep acts holds h k there.1 in
+        let of_file = file_of s.snapshots k i.name r of_pages in
         let plain = is_plain old i path s at found holds k there.1 in
         let all = all_of k i s.snapshots in
-        let read : next_read m path p first ≡ Ok (marked_from first all) = plain_next m s.snapshots k i.name path p first plain of_file below in
+        let read : next_read m path p at_hand first ≡ Ok (marked_from first all) = plain_next m s.snapshots k i.name path p at_hand first plain of_file same_at below in
         let same : bytes_of digests.items ≡ marked_from first all = next_same p p (bytes_of digests.items) (marked_from first all) (sym (next holds.honest) ∙ ap (standing_by path p) read) in
         let next_now : next_index new.plan ≡ Some i = ap next_index plan ∙ at in
-        let shown : ShowsSweep acts catalogue s.snapshots new sweep = record {
-          start = ap (λ (q : Plan). q.start) plan ∙ h.start;
-          cutoff = ap (λ (q : Plan). q.cutoff) plan ∙ h.cutoff;
-          unmarked = ap (λ (q : Plan). unmarked_by catalogue s.snapshots q.indexes q.stage) plan ∙ h.unmarked;
-          to_visit = ap (λ (q : Plan). visits_by q.stage) plan ∙ h.to_visit;
-          removed = ap (λ (q : Plan). q.removed) plan ∙ h.removed;
-          few = subst (λ (q : Plan). FitsRemoved q.stage q.removed) (sym plan) h.few;
-          pages = subst (λ (o : Option IndexPages). IfSome o (λ q. HasPages catalogue s.snapshots q (next_index new.plan))) (sym had)
-              (subst (HasPages catalogue s.snapshots p) (sym next_now) (subst (ArePages s.snapshots i.name p) (sym there.1) of_file));
-          numbers = subst (λ (q : Plan). All (HasNumber acts) q.indexes) (sym plan) h.numbers;
-        } in (
+        let shown = shows_as old new plan lane ended acts s sweep i k r at there.1 had of_pages h in (
           shown,
-          begins_with catalogue s.snapshots new i k p digests.items sweep.unmarked next_now there.1 had
-              (record { count = plain_count m s.snapshots k i.name path p plain of_file; pages = of_file })
+          begins_with catalogue s.snapshots new i k r digests.items sweep.unmarked next_now there.1 had
+              (record { count = plain_count m s.snapshots k i.name path p plain of_file; pages = of_pages })
               (subst (λ (q : Plan). bytes_of digests.items ≡ marked_from (marked_in q.stage) all) (sym plan) same) shown.unmarked,
         )
 
-    pub had_settles : length digests.items ≡ min mark_limit ((pages_by p).count - first) → ((q : IndexPages) → old.pages ≡ Some q → (p ≡ q) × AreNext q first digests.items) → SettlesNext d parts old new (Ok (Some digests))
-    had_settles many kept = record {
-      further = record {
-        lane = lane;
-        ended = ended;
-        start = ap (λ (q : Plan). q.start) plan;
-        cutoff = ap (λ (q : Plan). q.cutoff) plan;
-        indexes = ap (λ (q : Plan). q.indexes) plan;
-        over = λ going. ap is_over plan ∙ going;
-        not_more = le_of_eq (ap left_of plan);
-      };
+    pub had_settles : length digests.items ≡ min mark_limit ((pages_by p).count - first) → ((q : MarkedPages) → old.pages ≡ Some q → p ≡ q.kept) → AreNext p first digests.items
+        → page_at_hand new.pages ≡ page_then old.pages first → SettlesNext d parts old new (Ok (Some digests))
+    had_settles many same kept last = record {
+      further = further_as old new plan lane ended;
       shows = had_shows;
       at_hand = λ ds e. record {
         next = ap is_some (ap next_index plan ∙ at);
@@ -314,9 +333,12 @@ module _ {D : Type 0} (d : Ghosts D) (parts : Parts D) where
         skipped = λ honest n low. absurd (omega (arith, low));
         let_go = λ more. absurd (omega (arith, more));
         had = by_had old.pages refl;
-        kept = λ _. by_kept old.pages refl;
+        last = λ _. subst (λ (x : Plan). page_at_hand new.pages ≡ page_then old.pages (marked_in x.stage)) (sym plan) last;
+        kept = λ _.
+            subst (λ (o : Option MarkedPages). IfSome o (λ q. AreNext q.kept (marked_in (new.plan).stage) digests.items)) (sym had)
+            (subst (λ (x : Plan). AreNext p (marked_in x.stage) digests.items) (sym plan) kept);
         read = λ honest.
-            subst (λ (o : Option IndexPages). IfSome o (λ q. StandsAt m catalogue old 0 (marked_next q (bytes_of digests.items)))) (sym had)
+            subst (λ (o : Option MarkedPages). IfSome o (λ q. StandsAt m catalogue old 0 (marked_next q.kept (bytes_of digests.items)))) (sym had)
             (λ j there. subst (λ x. standing m catalogue old.pages first x ≡ marked_next p (bytes_of digests.items)) (some_same i j (sym at ∙ there)) (stands honest));
       });
       unread = λ honest.
@@ -328,38 +350,57 @@ module _ {D : Type 0} (d : Ghosts D) (parts : Parts D) where
         none_some_pages e = cc
 
         now_many : length digests.items ≡ marked_now new
-        now_many = many ∙ sym (ap₂ (λ (o : Option IndexPages) (q : Plan). min mark_limit (count_at_hand o - marked_in q.stage)) had plan)
+        now_many = many ∙ sym (ap₂ (λ (o : Option MarkedPages) (q : Plan). min mark_limit (count_at_hand o - marked_in q.stage)) had plan)
 
-        by_had : (o : Option IndexPages) → old.pages ≡ o → IsSome o → new.pages ≡ o
+        by_had : (o : Option MarkedPages) → old.pages ≡ o → IsSome o → opening_of new.pages ≡ opening_of o
         by_had None is some = absurd (none_some_pages some)
-        by_had (Some q) is some = had ∙ ap Some (kept q is).0
+        by_had (Some q) is some = ap opening_of had ∙ ap Some (same q is)
 
-        by_kept : (o : Option IndexPages) → old.pages ≡ o → IfSome o (λ q. AreNext q (marked_in (new.plan).stage) digests.items)
-        by_kept None is = tt
-        by_kept (Some q) is = subst (λ (x : Plan). AreNext q (marked_in x.stage) digests.items) (sym plan) (kept q is).1
+  -- its pages were at hand: what is at hand then is the file's too
+  kept_pages : (old : Collector) (i : IndexAt) (path : List ℕ) (q r : MarkedPages) → next_index old.plan ≡ Some i → path_at i catalogue ≡ Some path → old.pages ≡ Some q → r.kept ≡ q.kept
+      → (d.honest parts.disk → IfSome r.last (IsHad m q.kept q.last)) → HasPagesOf old i r q.last
+  kept_pages old i path q r at found had same last s sweep acts holds h k kept_is =
+      let has : HasPages catalogue s.snapshots q (next_index old.plan) = subst (λ (o : Option MarkedPages). IfSome o (λ x. HasPages catalogue s.snapshots x (next_index old.plan))) had h.pages in
+      let are : ArePages s.snapshots i.name q (Some k) = subst (ArePages s.snapshots i.name q) kept_is (subst (HasPages catalogue s.snapshots q) at has) in
+      let plain = is_plain old i path s at found holds k kept_is in (
+        plain_pages m s.snapshots k i.name path plain q r same (last holds.honest) are,
+        λ j. subst (λ x. bytes_at m x q.last j ≡ page_at m (pages_by x) j) (sym same) (plain_bytes m s.snapshots k i.name path plain q are j),
+      )
 
-  -- its pages were at hand
-  pub kept_settles : (c : Collector) (i : IndexAt) (path : List ℕ) (p : IndexPages) (digests : Vec Digest32 Global) → next_index c.plan ≡ Some i → path_at i catalogue ≡ Some path → c.pages ≡ Some p
-      → (d.honest parts.disk → standing_by path p (next_read m path p (marked_in (c.plan).stage)) ≡ marked_next p (bytes_of digests.items)) → length digests.items ≡ min mark_limit ((pages_by p).count - marked_in (c.plan).stage)
-      → AreNext p (marked_in (c.plan).stage) digests.items → SettlesNext d parts c c (Ok (Some digests))
-  kept_settles c i path p digests at found had reads many kept =
-      had_settles c c i path p digests at found refl refl refl had are reads (λ honest. had_standing c i path p found had ∙ reads honest) many
-      (λ q is. let same : p ≡ q = some_same p q (sym had ∙ is) in (same, subst (λ x. AreNext x (marked_in (c.plan).stage) digests.items) same kept))
+  pub kept_settles : (old new : Collector) (i : IndexAt) (path : List ℕ) (q r : MarkedPages) (digests : Vec Digest32 Global) → next_index old.plan ≡ Some i → path_at i catalogue ≡ Some path
+      → new.plan ≡ old.plan → new.lane ≡ old.lane → new.ended ≡ old.ended → old.pages ≡ Some q → new.pages ≡ Some r → KeepsLast d parts.disk q r (marked_in (old.plan).stage) (Ok digests)
+      → (d.honest parts.disk → standing_by path q.kept (next_read m path q.kept q.last (marked_in (old.plan).stage)) ≡ marked_next q.kept (bytes_of digests.items))
+      → length digests.items ≡ min mark_limit ((pages_by q.kept).count - marked_in (old.plan).stage) → AreNext q.kept (marked_in (old.plan).stage) digests.items → SettlesNext d parts old new (Ok (Some digests))
+  kept_settles old new i path q r digests at found plan lane ended had now keeps reads many kept =
+      had_settles old new i path r q.last digests at found plan lane ended now (kept_pages old i path q r at found had keeps.kept keeps.had)
+      (λ honest. subst (λ x. standing_by path x (next_read m path x q.last first) ≡ marked_next x (bytes_of digests.items)) (sym keeps.kept) (reads honest))
+      (λ honest. had_standing old i path q found had ∙ reads honest ∙ ap (λ x. marked_next x (bytes_of digests.items)) (sym keeps.kept))
+      (many ∙ ap (λ x. min mark_limit ((pages_by x).count - first)) (sym keeps.kept))
+      (λ x is. keeps.kept ∙ ap (λ (y : MarkedPages). y.kept) (some_same q x (sym had ∙ is)))
+      (subst (λ x. AreNext x first digests.items) (sym keeps.kept) kept)
+      (ap page_at_hand now ∙ by_last r.last keeps.last ∙ sym (ap (λ o. page_then o first) had))
     where
-      are : HasPagesOf c c i p
-      are s sweep acts holds h k kept_is =
-          let has : HasPages catalogue s.snapshots p (next_index c.plan) = subst (λ (o : Option IndexPages). IfSome o (λ q. HasPages catalogue s.snapshots q (next_index c.plan))) had h.pages in
-          subst (ArePages s.snapshots i.name p) kept_is (subst (HasPages catalogue s.snapshots p) at has)
+      first : ℕ
+      first = marked_in (old.plan).stage
+
+      by_last : (o : Option MarkedPage) → IsSomeAnd o (IsThePage q.kept (last_page q.kept first)) → option_map (λ (x : MarkedPage). x.number) o ≡ Some (last_page q.kept first)
+      by_last None page = absurd page
+      by_last (Some x) page = ap Some page.number
 
   -- it is opened, and has entries
-  pub read_settles : (old new : Collector) (i : IndexAt) (path : List ℕ) (x : Opened) → next_index old.plan ≡ Some i → path_at i catalogue ≡ Some path → new.plan ≡ old.plan → new.lane ≡ old.lane → new.ended ≡ old.ended
-      → old.pages ≡ None → new.pages ≡ Some x.pages → ((pages_by x.pages).count ≡ 0 → ⊥) → (d.honest parts.disk → standing_as m path (index_opened m path (kind_of_index i.name)) ≡ first_standing x)
-      → length x.digests.items ≡ min mark_limit (pages_by x.pages).count → SettlesNext d parts old new (Ok (Some x.digests))
-  read_settles old new i path x at found plan lane ended none had some reads many =
-      had_settles old new i path x.pages x.digests at found plan lane ended had are next
+  pub read_settles : (old new : Collector) (i : IndexAt) (path : List ℕ) (x : Opened) (fits : FitsLast x.pages None) → next_index old.plan ≡ Some i → path_at i catalogue ≡ Some path → new.plan ≡ old.plan → new.lane ≡ old.lane
+      → new.ended ≡ old.ended → old.pages ≡ None → new.pages ≡ Some (record { kept = x.pages; last = None; fits = fits }) → ((pages_by x.pages).count ≡ 0 → ⊥)
+      → (d.honest parts.disk → standing_as m path (index_opened m path (kind_of_index i.name)) ≡ first_standing x) → length x.digests.items ≡ min mark_limit (pages_by x.pages).count → AreNext x.pages 0 x.digests.items → SettlesNext d parts old new (Ok (Some x.digests))
+  read_settles old new i path x fits at found plan lane ended none had some reads many kept =
+      had_settles old new i path r None x.digests at found plan lane ended had are next
       (λ honest. opened_standing old i path found none ∙ reads honest ∙ next_as) (many ∙ sym (ap (λ n. min mark_limit ((pages_by x.pages).count - n)) (none_marked old none) ∙ ap (min mark_limit) nothing_less))
       (λ q is. absurd (none_some q (sym none ∙ is)))
+      (subst (λ n. AreNext x.pages n x.digests.items) (sym (none_marked old none)) kept)
+      (ap page_at_hand had ∙ sym (ap (λ o. page_then o (marked_in (old.plan).stage)) none))
     where
+      r : MarkedPages
+      r = record { kept = x.pages; last = None; fits = fits }
+
       nothing_less : (pages_by x.pages).count - 0 ≡ (pages_by x.pages).count
       nothing_less = omega arith
 
@@ -372,54 +413,55 @@ module _ {D : Type 0} (d : Ghosts D) (parts : Parts D) where
 
       -- what stands there was opened so
       opened_so : (r : Result IndexPages Refusal) → index_opened m path (kind_of_index i.name) ≡ r → standing_as m path r ≡ marked_next x.pages (bytes_of x.digests.items)
-          → (index_opened m path (kind_of_index i.name) ≡ Ok x.pages) × (standing_by path x.pages (next_read m path x.pages 0) ≡ marked_next x.pages (bytes_of x.digests.items))
+          → (index_opened m path (kind_of_index i.name) ≡ Ok x.pages) × (standing_by path x.pages (next_read m path x.pages None 0) ≡ marked_next x.pages (bytes_of x.digests.items))
       opened_so (Err refusal) is e = absurd (next_unread x.pages (bytes_of x.digests.items) path (sym e))
       opened_so (Ok p) is e = by_count p ((pages_by p).count == 0) is refl e
         where
           by_count : (p : IndexPages) (b : Bool) → index_opened m path (kind_of_index i.name) ≡ Ok p → ((pages_by p).count == 0) ≡ b
-              → cond ((pages_by p).count == 0) passed_over (standing_by path p (next_read m path p 0)) ≡ marked_next x.pages (bytes_of x.digests.items)
-              → (index_opened m path (kind_of_index i.name) ≡ Ok x.pages) × (standing_by path x.pages (next_read m path x.pages 0) ≡ marked_next x.pages (bytes_of x.digests.items))
-          by_count p true opened empty e = absurd (passed_next x.pages (bytes_of x.digests.items) (sym (ap (λ b. cond b passed_over (standing_by path p (next_read m path p 0))) empty) ∙ e))
+              → cond ((pages_by p).count == 0) passed_over (standing_by path p (next_read m path p None 0)) ≡ marked_next x.pages (bytes_of x.digests.items)
+              → (index_opened m path (kind_of_index i.name) ≡ Ok x.pages) × (standing_by path x.pages (next_read m path x.pages None 0) ≡ marked_next x.pages (bytes_of x.digests.items))
+          by_count p true opened empty e = absurd (passed_next x.pages (bytes_of x.digests.items) (sym (ap (λ b. cond b passed_over (standing_by path p (next_read m path p None 0))) empty) ∙ e))
           by_count p false opened more e =
-              let stands = sym (ap (λ b. cond b passed_over (standing_by path p (next_read m path p 0))) more) ∙ e in
-              let same = by_read p (next_read m path p 0) stands in
-              (opened ∙ ap (λ q. let r : Result IndexPages Refusal = Ok q in r) same, subst (λ q. standing_by path q (next_read m path q 0) ≡ marked_next x.pages (bytes_of x.digests.items)) same stands)
+              let stands = sym (ap (λ b. cond b passed_over (standing_by path p (next_read m path p None 0))) more) ∙ e in
+              let same = by_read p (next_read m path p None 0) stands in
+              (opened ∙ ap (λ q. let r : Result IndexPages Refusal = Ok q in r) same, subst (λ q. standing_by path q (next_read m path q None 0) ≡ marked_next x.pages (bytes_of x.digests.items)) same stands)
 
-      so : d.honest parts.disk → (index_opened m path (kind_of_index i.name) ≡ Ok x.pages) × (standing_by path x.pages (next_read m path x.pages 0) ≡ marked_next x.pages (bytes_of x.digests.items))
+      so : d.honest parts.disk → (index_opened m path (kind_of_index i.name) ≡ Ok x.pages) × (standing_by path x.pages (next_read m path x.pages None 0) ≡ marked_next x.pages (bytes_of x.digests.items))
       so honest = opened_so (index_opened m path (kind_of_index i.name)) refl (reads honest ∙ next_as)
 
-      next : d.honest parts.disk → standing_by path x.pages (next_read m path x.pages (marked_in (old.plan).stage)) ≡ marked_next x.pages (bytes_of x.digests.items)
-      next honest = ap (λ n. standing_by path x.pages (next_read m path x.pages n)) (none_marked old none) ∙ (so honest).1
+      next : d.honest parts.disk → standing_by path x.pages (next_read m path x.pages None (marked_in (old.plan).stage)) ≡ marked_next x.pages (bytes_of x.digests.items)
+      next honest = ap (λ n. standing_by path x.pages (next_read m path x.pages None n)) (none_marked old none) ∙ (so honest).1
 
-      are : HasPagesOf old new i x.pages
-      are s sweep acts holds h k kept = (is_plain old i path s at found holds k kept).opens x.pages (so holds.honest).0
+      are : HasPagesOf old i r None
+      are s sweep acts holds h k kept = (first_pages s.snapshots k i.name r refl ((is_plain old i path s at found holds k kept).opens x.pages (so holds.honest).0), λ j. refl)
 
   -- ---- or its digests are not to be had
 
-  unread_settles : (c : Collector) (i : IndexAt) (path : List ℕ) (unread : Unread) → next_index c.plan ≡ Some i → path_at i catalogue ≡ Some path → IfUnreadable (λ name. name ≡ path) unread
-      → ((name : List ℕ) → unread ≡ Unreadable name → d.honest parts.disk → standing m catalogue c.pages (marked_in (c.plan).stage) i ≡ unreadable name)
-      → ((name : List ℕ) → unread ≡ Unreadable name → (acts : ℕ) (s : Store) (sweep : Sweep) → Holds d parts s → ShowsSweep acts catalogue s.snapshots c sweep → ⊥) → SettlesNext d parts c c (Err unread)
-  unread_settles c i path (Unreadable name) at found same stands never = record {
-    further = further_same c;
-    shows = λ acts s sweep holds h. (h, never name refl acts s sweep holds h);
+  unread_settles : (old new : Collector) → new.plan ≡ old.plan → new.lane ≡ old.lane → new.ended ≡ old.ended → (i : IndexAt) (path : List ℕ) (unread : Unread) → next_index old.plan ≡ Some i → path_at i catalogue ≡ Some path
+      → ((acts : ℕ) (s : Store) (sweep : Sweep) → Holds d parts s → ShowsSweep acts catalogue s.snapshots old sweep → ShowsSweep acts catalogue s.snapshots new sweep)
+      → ((name : List ℕ) → unread ≡ Unreadable name → d.honest parts.disk → standing m catalogue old.pages (marked_in (old.plan).stage) i ≡ unreadable name)
+      → ((name : List ℕ) → unread ≡ Unreadable name → (acts : ℕ) (s : Store) (sweep : Sweep) → Holds d parts s → ShowsSweep acts catalogue s.snapshots old sweep → ⊥) → SettlesNext d parts old new (Err unread)
+  unread_settles old new plan lane ended i path (Unreadable name) at found shows stands never = record {
+    further = further_as old new plan lane ended;
+    shows = λ acts s sweep holds h. (shows acts s sweep holds h, never name refl acts s sweep holds h);
     at_hand = λ digests e. absurd (err_ok (Unreadable name) (Some digests) e);
     passes = λ e _. absurd (err_ok (Unreadable name) None e);
     found = λ digests e. absurd (err_ok (Unreadable name) (Some digests) e);
     unread = λ honest.
-        next_is c i at
-        ∙ ap (λ st. unless_passed st (unreadable_in m catalogue None 0 (indexes_left (c.plan).indexes (marked_at (c.plan).stage 0 0)))) (stands name refl honest);
+        next_is old i at
+        ∙ ap (λ st. unless_passed st (unreadable_in m catalogue None 0 (indexes_left (old.plan).indexes (marked_at (old.plan).stage 0 0)))) (stands name refl honest);
   }
-  unread_settles c i path NoMemory at found same stands never = record {
-    further = further_same c;
-    shows = λ acts s sweep holds h. (h, tt);
+  unread_settles old new plan lane ended i path NoMemory at found shows stands never = record {
+    further = further_as old new plan lane ended;
+    shows = λ acts s sweep holds h. (shows acts s sweep holds h, tt);
     at_hand = λ digests e. absurd (err_ok NoMemory (Some digests) e);
     passes = λ e _. absurd (err_ok NoMemory None e);
     found = λ digests e. absurd (err_ok NoMemory (Some digests) e);
     unread = λ honest. tt;
   }
-  unread_settles c i path DiskFailed at found same stands never = record {
-    further = further_same c;
-    shows = λ acts s sweep holds h. (h, tt);
+  unread_settles old new plan lane ended i path DiskFailed at found shows stands never = record {
+    further = further_as old new plan lane ended;
+    shows = λ acts s sweep holds h. (shows acts s sweep holds h, tt);
     at_hand = λ digests e. absurd (err_ok DiskFailed (Some digests) e);
     passes = λ e _. absurd (err_ok DiskFailed None e);
     found = λ digests e. absurd (err_ok DiskFailed (Some digests) e);
@@ -427,10 +469,10 @@ module _ {D : Type 0} (d : Ghosts D) (parts : Parts D) where
   }
 
   -- of one that was to be opened
-  pub unopened_settles : (c : Collector) (i : IndexAt) (path : List ℕ) (unread : Unread) → next_index c.plan ≡ Some i → path_at i catalogue ≡ Some path → c.pages ≡ None → IfUnreadable (λ name. name ≡ path) unread
+  pub unopened_settles : (c : Collector) (i : IndexAt) (path : List ℕ) (unread : Unread) → next_index c.plan ≡ Some i → path_at i catalogue ≡ Some path → c.pages ≡ None
       → (d.honest parts.disk → TellsStanding first_standing (standing_as m path (index_opened m path (kind_of_index i.name))) (Err unread)) → SettlesNext d parts c c (Err unread)
-  unopened_settles c i path unread at found none same reads =
-      unread_settles c i path unread at found same (λ name is honest. opened_standing c i path found none ∙ told name is honest) never
+  unopened_settles c i path unread at found none reads =
+      unread_settles c c refl refl refl i path unread at found (λ acts s sweep holds h. h) (λ name is honest. opened_standing c i path found none ∙ told name is honest) never
     where
       told : (name : List ℕ) → unread ≡ Unreadable name → d.honest parts.disk → standing_as m path (index_opened m path (kind_of_index i.name)) ≡ unreadable name
       told name is honest = subst (λ u. TellsStanding first_standing (standing_as m path (index_opened m path (kind_of_index i.name))) (Err u)) is (reads honest)
@@ -441,13 +483,13 @@ module _ {D : Type 0} (d : Ghosts D) (parts : Parts D) where
           let there = kept_there i catalogue path found in
           by_opened s holds there.0 there.1 (index_opened m path (kind_of_index i.name)) refl (told name is holds.honest)
         where
-          by_count : (s : Store) (k : Kept) (p : IndexPages) (b : Bool) → IsPlain m s.snapshots k i.name path → ArePages s.snapshots i.name p (Some k) → ((pages_by p).count == 0) ≡ b
-              → cond ((pages_by p).count == 0) passed_over (standing_by path p (next_read m path p 0)) ≡ unreadable name → ⊥
-          by_count s k p true plain are empty e = passed_unread name (sym (ap (λ b. cond b passed_over (standing_by path p (next_read m path p 0))) empty) ∙ e)
+          by_count : (s : Store) (k : Kept) (p : IndexPages) (b : Bool) → IsPlain m s.snapshots k i.name path → IsOfFile s.snapshots i.name k p → ((pages_by p).count == 0) ≡ b
+              → cond ((pages_by p).count == 0) passed_over (standing_by path p (next_read m path p None 0)) ≡ unreadable name → ⊥
+          by_count s k p true plain are empty e = passed_unread name (sym (ap (λ b. cond b passed_over (standing_by path p (next_read m path p None 0))) empty) ∙ e)
           by_count s k p false plain are more e =
-              let read = plain_next m s.snapshots k i.name path p 0 plain are (some_count (pages_by p).count more) in
+              let read = plain_next m s.snapshots k i.name path p None 0 plain are (λ j. refl) (some_count (pages_by p).count more) in
               next_unread p (marked_from 0 (digests_named k.key i.name s.snapshots)) name
-              (sym (ap (standing_by path p) read) ∙ sym (ap (λ b. cond b passed_over (standing_by path p (next_read m path p 0))) more) ∙ e)
+              (sym (ap (standing_by path p) read) ∙ sym (ap (λ b. cond b passed_over (standing_by path p (next_read m path p None 0))) more) ∙ e)
 
           by_opened : (s : Store) → Holds d parts s → (k : Kept) → kept_at i.snapshot catalogue ≡ Some k → (r : Result IndexPages Refusal) → index_opened m path (kind_of_index i.name) ≡ r
               → standing_as m path (index_opened m path (kind_of_index i.name)) ≡ unreadable name → ⊥
@@ -457,26 +499,40 @@ module _ {D : Type 0} (d : Ghosts D) (parts : Parts D) where
               by_count s k p ((pages_by p).count == 0) plain (plain.opens p is) refl (sym (ap (standing_as m path) is) ∙ e)
 
   -- of one whose pages are at hand
-  pub unkept_settles : (c : Collector) (i : IndexAt) (path : List ℕ) (p : IndexPages) (unread : Unread) → next_index c.plan ≡ Some i → path_at i catalogue ≡ Some path → c.pages ≡ Some p → IfUnreadable (λ name. name ≡ path) unread
-      → (d.honest parts.disk → TellsStanding {A = Vec Digest32 Global} (λ digests. marked_next p (bytes_of digests.items)) (standing_by path p (next_read m path p (marked_in (c.plan).stage))) (Err unread)) → SettlesNext d parts c c (Err unread)
-  unkept_settles c i path p unread at found had same reads =
-      unread_settles c i path unread at found same (λ name is honest. had_standing c i path p found had ∙ told name is honest) never
+  pub unkept_settles : (old new : Collector) (i : IndexAt) (path : List ℕ) (q r : MarkedPages) (unread : Unread) → next_index old.plan ≡ Some i → path_at i catalogue ≡ Some path
+      → new.plan ≡ old.plan → new.lane ≡ old.lane → new.ended ≡ old.ended → old.pages ≡ Some q → new.pages ≡ Some r → KeepsLast d parts.disk q r (marked_in (old.plan).stage) (Err unread)
+      → (d.honest parts.disk → TellsStanding {A = Vec Digest32 Global} (λ digests. marked_next q.kept (bytes_of digests.items)) (standing_by path q.kept (next_read m path q.kept q.last (marked_in (old.plan).stage))) (Err unread))
+      → SettlesNext d parts old new (Err unread)
+  unkept_settles old new i path q r unread at found plan lane ended had now keeps reads =
+      unread_settles old new plan lane ended i path unread at found shows (λ name is honest. had_standing old i path q found had ∙ told name is honest) never
     where
-      told : (name : List ℕ) → unread ≡ Unreadable name → d.honest parts.disk → standing_by path p (next_read m path p (marked_in (c.plan).stage)) ≡ unreadable name
+      first : ℕ
+      first = marked_in (old.plan).stage
+
+      told : (name : List ℕ) → unread ≡ Unreadable name → d.honest parts.disk → standing_by path q.kept (next_read m path q.kept q.last first) ≡ unreadable name
       told name is honest =
-          subst (λ u. TellsStanding {A = Vec Digest32 Global} (λ digests. marked_next p (bytes_of digests.items)) (standing_by path p (next_read m path p (marked_in (c.plan).stage))) (Err u)) is (reads honest)
+          subst (λ u. TellsStanding {A = Vec Digest32 Global} (λ digests. marked_next q.kept (bytes_of digests.items)) (standing_by path q.kept (next_read m path q.kept q.last first)) (Err u)) is (reads honest)
 
-      below : marked_in (c.plan).stage < (pages_by p).count
-      below = subst (λ o. marked_in (c.plan).stage < count_at_hand o) had ((c.fits).within (ap is_some had))
+      below : first < (pages_by q.kept).count
+      below = subst (λ o. first < count_at_hand o) had ((old.fits).within (ap is_some had))
 
-      never : (name : List ℕ) → unread ≡ Unreadable name → (acts : ℕ) (s : Store) (sweep : Sweep) → Holds d parts s → ShowsSweep acts catalogue s.snapshots c sweep → ⊥
+      shows : (acts : ℕ) (s : Store) (sweep : Sweep) → Holds d parts s → ShowsSweep acts catalogue s.snapshots old sweep → ShowsSweep acts catalogue s.snapshots new sweep
+      shows acts s sweep holds h =
+          let there = kept_there i catalogue path found in
+          shows_as old new plan lane ended acts s sweep i there.0 r at there.1 now (kept_pages old i path q r at found had keeps.kept keeps.had s sweep acts holds h there.0 there.1).0 h
+
+      never : (name : List ℕ) → unread ≡ Unreadable name → (acts : ℕ) (s : Store) (sweep : Sweep) → Holds d parts s → ShowsSweep acts catalogue s.snapshots old sweep → ⊥
       never name is acts s sweep holds h =
           let there = kept_there i catalogue path found in
           let k = there.0 in
-          let has : HasPages catalogue s.snapshots p (next_index c.plan) = subst (λ (o : Option IndexPages). IfSome o (λ q. HasPages catalogue s.snapshots q (next_index c.plan))) had h.pages in
-          let are : ArePages s.snapshots i.name p (Some k) = subst (ArePages s.snapshots i.name p) there.1 (subst (HasPages catalogue s.snapshots p) at has) in
-          let read = plain_next m s.snapshots k i.name path p (marked_in (c.plan).stage) (is_plain c i path s at found holds k there.1) are below in
-          next_unread p (marked_from (marked_in (c.plan).stage) (digests_named k.key i.name s.snapshots)) name (sym (ap (standing_by path p) read) ∙ told name is holds.honest)
+          let (are, same_at) = kept_pages old i path q q at found had refl (λ honest. was q.last) s sweep acts holds h k there.1 in
+          let read = plain_next m s.snapshots k i.name path q.kept q.last first (is_plain old i path s at found holds k there.1) (file_of s.snapshots k i.name q are) same_at below in
+          next_unread q.kept (marked_from first (digests_named k.key i.name s.snapshots)) name (sym (ap (standing_by path q.kept) read) ∙ told name is holds.honest)
+        where
+          -- what is at hand was
+          was : (o : Option MarkedPage) → IfSome o (IsHad m q.kept o)
+          was None = tt
+          was (Some x) = inl (hand_is m q.kept x x.number refl)
 
 -- ---- the search
 
@@ -542,15 +598,16 @@ module _ {D : Type 0} (d : Ghosts D) (parts now : Parts D) (old c : Collector) (
     plan = found.plan ∙ h.plan;
     skipped = h.skipped;
     let_go = h.let_go;
-    had = λ some. found.had (subst (λ (o : Option IndexPages). IsSome o) (sym h.pages) some) ∙ h.pages;
-    kept = λ next. subst (λ (o : Option IndexPages). IfSome o (λ p. AreNext p (marked_in (e.plan).stage) digests)) h.pages (found.kept next);
+    had = λ some. found.had (subst (λ (o : Option MarkedPages). IsSome o) (sym h.pages) some) ∙ ap opening_of h.pages;
+    last = λ next. found.last next ∙ ap (λ o. page_then o (marked_in (e.plan).stage)) h.pages;
+    kept = found.kept;
     read = λ honest. by_pages e.pages honest (found.read (honest_now honest));
   }
     where
-      by_pages : (o : Option IndexPages) → d.honest parts.disk → IfSome o (λ p. StandsAt (d.content now.disk) now.catalogue.listed c 0 (marked_next p (bytes_of digests)))
-          → IfSome o (λ p. StandsAt (d.content parts.disk) parts.catalogue.listed old h.passed (marked_next p (bytes_of digests)))
+      by_pages : (o : Option MarkedPages) → d.honest parts.disk → IfSome o (λ p. StandsAt (d.content now.disk) now.catalogue.listed c 0 (marked_next p.kept (bytes_of digests)))
+          → IfSome o (λ p. StandsAt (d.content parts.disk) parts.catalogue.listed old h.passed (marked_next p.kept (bytes_of digests)))
       by_pages None honest stands = tt
-      by_pages (Some p) honest stands = stands_as (marked_next p (bytes_of digests)) honest stands
+      by_pages (Some p) honest stands = stands_as (marked_next p.kept (bytes_of digests)) honest stands
 
   skipped_then : d.honest parts.disk → StandsAt (d.content now.disk) now.catalogue.listed c 0 passed_over → (n : ℕ) → n < suc h.passed → StandsAt (d.content parts.disk) parts.catalogue.listed old n passed_over
   skipped_then honest stands n below =
@@ -560,7 +617,7 @@ module _ {D : Type 0} (d : Ghosts D) (parts now : Parts D) (old c : Collector) (
   -- the pages at hand at first are let go with the first index
   let_go_then : (n : ℕ) → h.passed ≡ n → MayPass now.catalogue.listed c → MayPass parts.catalogue.listed old
   let_go_then zero none may i at =
-      subst (λ (o : Option IndexPages). (path_at i parts.catalogue.listed ≡ None) ⊎ (o ≡ None)) (h.pages ∙ ap (λ k. at_hand_after k old.pages) none)
+      subst (λ (o : Option MarkedPages). (path_at i parts.catalogue.listed ≡ None) ⊎ (o ≡ None)) (h.pages ∙ ap (λ k. at_hand_after k old.pages) none)
       (subst (λ q. (path_at i q ≡ None) ⊎ (c.pages ≡ None)) (h.kept).catalogue (may i (ap next_index (h.plan ∙ ap (λ k. passed_by k old.plan) none) ∙ at)))
   let_go_then (suc n) some may i at = h.let_go (omega (arith, some)) i at
 
@@ -600,7 +657,8 @@ module _ {D : Type 0} (d : Ghosts D) (parts now : Parts D) (old c : Collector) (
         plan = h.plan;
         skipped = h.skipped;
         let_go = h.let_go;
-        had = λ _. h.pages;
+        had = λ _. ap opening_of h.pages;
+        last = λ next. absurd (no_next (next_index c.plan) refl next);
         kept = λ next. absurd (no_next (next_index c.plan) refl next);
         read = λ honest. by_pages c.pages;
       },
@@ -618,7 +676,7 @@ module _ {D : Type 0} (d : Ghosts D) (parts now : Parts D) (old c : Collector) (
       no_next None is some = none_is some
       no_next (Some i) is some = no_index_next i is
 
-      by_pages : (o : Option IndexPages) → IfSome o (λ p. StandsAt (d.content parts.disk) parts.catalogue.listed old h.passed (marked_next p []))
+      by_pages : (o : Option MarkedPages) → IfSome o (λ p. StandsAt (d.content parts.disk) parts.catalogue.listed old h.passed (marked_next p.kept []))
       by_pages None = tt
       by_pages (Some p) = λ i at. absurd (no_index_next i (ap next_index h.plan ∙ at))
 
@@ -726,9 +784,9 @@ module _ {D : Type 0} (d : Ghosts D) (parts now later : Parts D) (old c e : Coll
   pub search_found : (digests : Vec Digest32 Global) → r ≡ Ok (Some digests) → FindsNext d parts old e (Ok (Some digests))
   search_found digests is = found_then d parts now old c h e digests (subst (SettlesNext d now c e) is settles)
 
-  pub search_found_reads : (digests : Vec Digest32 Global) → r ≡ Ok (Some digests) → OnlyReads d parts.disk later.disk (IsErrOf {T = Option (Vec Digest32 Global)} (Ok (Some digests)) DiskFailed)
-  search_found_reads digests is =
-      reads_then d parts.disk now.disk later.disk ⊥ (IsErrOf r DiskFailed) (IsErrOf {T = Option (Vec Digest32 Global)} (Ok (Some digests)) DiskFailed) h.reads reads (λ failed. absurd (err_ok DiskFailed (Some digests) (sym failed)))
+  pub search_found_reads : (found : Option (Vec Digest32 Global)) → OnlyReads d parts.disk later.disk (IsErrOf {T = Option (Vec Digest32 Global)} (Ok found) DiskFailed)
+  search_found_reads found =
+      reads_then d parts.disk now.disk later.disk ⊥ (IsErrOf r DiskFailed) (IsErrOf {T = Option (Vec Digest32 Global)} (Ok found) DiskFailed) h.reads reads (λ failed. absurd (err_ok DiskFailed found (sym failed)))
 
   -- or it is not to be had
   module _ (result : Found) (u : Unread) (handed : IsErrAnd result (λ x. x ≡ u)) (was : r ≡ Err u) where

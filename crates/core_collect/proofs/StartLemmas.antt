@@ -21,7 +21,6 @@ use Rattle.store_model.specs.Store as model
 use Rattle.atime_book.specs.Touches.{cutoff_of}
 use Rattle.gc_plan.specs.Plan.{Plan, begun, next_index}
 use Rattle.gc_plan.specs.declared.IndexAt.{IndexAt}
-use Rattle.paged_indexes.specs.declared.index.IndexPages.{IndexPages}
 use Rattle.backup_session.specs.Shown.{shown}
 use Rattle.store_history.specs.Sweeping.{Unmarked, digests_of, earlier, new_sweep, oldest_in, unmarked_of}
 use Rattle.store_history.specs.Sweeping as sweeps
@@ -35,6 +34,7 @@ use Rattle.core_state.specs.declared.kept.Session.TheVariants.{Idle, Reader, Wri
 use Rattle.core_state.specs.declared.kept.StoredFile.{StoredFile}
 use Rattle.core_state.specs.declared.entering.Place.{Place}
 use Rattle.core_state.specs.declared.parts.Parts.{Parts}
+use Rattle.core_state.specs.declared.marked.MarkedPages.{MarkedPages}
 use Rattle.store_stops.specs.declared.stop.Stop.{Stop}
 use Rattle.store_stops.specs.declared.stop.Stop.TheVariants as stops
 use Rattle.core_state.specs.Entries.{FitsPages}
@@ -213,7 +213,7 @@ started_shows parts s acts lane moment c shows numbers new =
       to_visit = ap (λ (p : Plan). visits_by p.stage) new.plan_is;
       removed = ap (λ (p : Plan). p.removed) new.plan_is;
       few = subst (λ (p : Plan). FitsRemoved p.stage p.removed) (sym new.plan_is) refl;
-      pages = subst (λ (o : Option IndexPages). IfSome o (λ q. HasPages catalogue s.snapshots q (next_index c.plan))) (sym new.none_open) tt;
+      pages = subst (λ (o : Option MarkedPages). IfSome o (λ q. HasPages catalogue s.snapshots q (next_index c.plan))) (sym new.none_open) tt;
       numbers = subst (λ (p : Plan). All (HasNumber acts) p.indexes) (sym new.plan_is) (numbers_in acts catalogue numbers.given);
     }
 

@@ -27,11 +27,11 @@ use Rattle.core_state.specs.declared.collector.Collector.{Collector}
 use Rattle.core_state.specs.declared.kept.Listed.{Listed}
 use Rattle.core_state.specs.declared.parts.Parts.{Parts}
 use Rattle.core_state.specs.declared.upkeep.Upkeep.{Upkeep}
+use Rattle.core_state.specs.declared.marked.MarkedPages.{MarkedPages}
 use Rattle.store_stops.specs.declared.stop.Stop.TheVariants as stops
 use Rattle.core_state.specs.Changes.{Change, after, drops, stays}
 use Rattle.core_state.specs.Holds.{Holds}
 use Rattle.core_state.specs.Passes.{KeepsPlan, PassTouches}
-use Rattle.paged_indexes.specs.declared.index.IndexPages.{IndexPages}
 use Rattle.core_state.specs.Sweeps.{FitsRemoved, HasNumber, HasPages, ShowsSweep, unmarked_by, visits_by}
 use Rattle.core_state.specs.Unchanged.{SameKept}
 use Rattle.core_state.specs.Upkeeps.{touches_kept}
@@ -236,7 +236,7 @@ visited_less d disk p listed q ahead (inr (none, (names, e, are))) is =
 -- ---- the sweep's visit
 
 -- nothing is said of pages at hand where no index is next
-any_pages : (o : Option IndexPages) → IfSome o (λ q. Unit {0})
+any_pages : (o : Option MarkedPages) → IfSome o (λ q. Unit {0})
 any_pages None = tt
 any_pages (Some q) = tt
 
@@ -425,7 +425,7 @@ module _ {D : Type 0} (d : Ghosts D) (old new : Parts D) (mid : D) (u v : Upkeep
         removed = ap (λ (p : Plan). p.removed) plan_is ∙ shows.removed;
         few = subst (λ (p : Plan). FitsRemoved p.stage p.removed) (sym plan_is) shows.few;
         pages = subst (λ (p : Plan). IfSome f.pages (λ q. HasPages old.catalogue.listed s.snapshots q (next_index p))) (sym plan_is)
-            (subst (λ (o : Option IndexPages). IfSome o (λ q. HasPages old.catalogue.listed s.snapshots q (next_index e.plan))) (sym pages) shows.pages);
+            (subst (λ (o : Option MarkedPages). IfSome o (λ q. HasPages old.catalogue.listed s.snapshots q (next_index e.plan))) (sym pages) shows.pages);
         numbers = subst (λ (p : Plan). All (HasNumber acts) p.indexes) (sym plan_is) shows.numbers;
       }
 

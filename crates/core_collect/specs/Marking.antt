@@ -1,5 +1,5 @@
 -- The marks of a collector: the index that is next, and what is marked of it.
-use Rattle.std.specs.Prelude.{◌≡◌, ◌<◌, ◌≤◌, ◌-◌, ◌⊎◌, ◌==◌, if◌then◌else◌, ℕ, zero, suc, min, false, List, [], ◌∷◌, drop, length, Option, Some, None, IfSome, IsSome, IsSomeAnd, Result, Ok, Err, IfOk, Vec}
+use Rattle.std.specs.Prelude.{◌≡◌, ◌<◌, ◌≤◌, ◌-◌, ◌⊎◌, ◌==◌, if◌then◌else◌, ℕ, zero, suc, min, false, List, [], ◌∷◌, drop, length, Option, Some, None, option_map, IfSome, IsSome, IsSomeAnd, Result, Ok, Err, IfOk, Vec}
 use Rattle.std.specs.declared.alloc.Global.{Global}
 use Rattle.disk_trait.specs.Files.{Files}
 use Rattle.disk_trait.specs.declared.disk.Disk.{Ghosts}
@@ -8,18 +8,19 @@ use Rattle.store_types.specs.declared.refusal.Refusal.{Refusal}
 use Rattle.store_files.specs.Book.{Book}
 use Rattle.gc_plan.specs.Plan.{Plan, Stage, marking, sweeping, is_over, left_of, mark_limit, marked_at, next_index, next_mark, with_mark}
 use Rattle.gc_plan.specs.declared.IndexAt.{IndexAt}
+use Rattle.index_pages.specs.declared.fault.PageFault.{PageFault}
+use Rattle.index_pages.specs.declared.fault.PageFault.TheVariants as faults
 use Rattle.paged_indexes.specs.declared.index.IndexPages.{IndexPages}
 use Rattle.paged_indexes.specs.declared.kinds.IndexKind.{IndexKind}
 use Rattle.paged_indexes.specs.Index.{pages_by}
 use Rattle.snapshot_files.specs.Indexes.{index_opened, kind_of_index}
 use Rattle.store_files.specs.Archive.{Snapshot}
-use Rattle.store_stops.specs.declared.stop.Stop.{Stop}
-use Rattle.store_stops.specs.declared.stop.Stop.TheVariants as stops
 use Rattle.store_model.specs.Store.{Store}
 use Rattle.store_history.specs.Sweeping.{Sweep, Unmarked}
 use Rattle.core_state.specs.declared.collector.Collector.{Collector}
 use Rattle.core_state.specs.declared.kept.Kept.{Kept}
 use Rattle.core_state.specs.declared.kept.Listed.{Listed}
+use Rattle.core_state.specs.declared.marked.MarkedPages.{MarkedPages}
 use Rattle.core_state.specs.declared.parts.Parts.{Parts}
 use Rattle.core_collect.specs.declared.marking.Opened.{Opened}
 use Rattle.core_collect.specs.declared.marking.Unread.{Unread}
@@ -29,7 +30,7 @@ use Rattle.core_state.specs.Found.{path_of_kept}
 use Rattle.core_state.specs.Holds.{Holds}
 use Rattle.core_state.specs.Sweeps.{ArePages, ShowsSweep, digests_named, kept_at, unmarked_by}
 use Rattle.core_state.specs.Upkeeps.{TouchesEach}
-use Rattle.core_collect.specs.Entries.{AreNext, bytes_of, marked_from, next_read}
+use Rattle.core_collect.specs.Entries.{AreNext, IsHad, IsThePage, bytes_of, last_page, marked_from, next_read}
 
 -- ---- an index
 
@@ -42,11 +43,11 @@ abbrev pub IfUnreadable : (List ℕ → Type 0) → Unread → Type 0
 IfUnreadable P (Unreadable path) = P path
 IfUnreadable P unread = Unit {0}
 
--- it is not read for this reason
-abbrev pub UnreadBy : List ℕ → Stop → Unread → Type 0
-UnreadBy path (stops.Refused refusal) unread = (unread ≡ NoMemory) ⊎ (unread ≡ Unreadable path)
-UnreadBy path stops.NoMemory unread = unread ≡ NoMemory
-UnreadBy path stops.DiskFailed unread = unread ≡ DiskFailed
+-- it is not read for this fault; memory may be wanting to tell it
+abbrev pub UnreadBy : List ℕ → PageFault → Unread → Type 0
+UnreadBy path faults.Failed unread = unread ≡ DiskFailed
+UnreadBy path faults.NoMemory unread = unread ≡ NoMemory
+UnreadBy path fault unread = (unread ≡ NoMemory) ⊎ (unread ≡ Unreadable path)
 
 -- ---- how an index stands
 
@@ -64,16 +65,16 @@ standing_by path p (Err refusal) = unreadable path
 
 -- as it is opened
 abbrev pub standing_as : Files → List ℕ → Result IndexPages Refusal → Standing
-standing_as m path (Ok p) = if (pages_by p).count == 0 then passed_over else standing_by path p (next_read m path p 0)
+standing_as m path (Ok p) = if (pages_by p).count == 0 then passed_over else standing_by path p (next_read m path p None 0)
 standing_as m path (Err refusal) = unreadable path
 
--- where its pages are at hand it is not opened, and is read from its first unmarked entry on
-abbrev pub standing_at : Files → IndexKind → Option IndexPages → ℕ → Option (List ℕ) → Standing
+-- where its pages are at hand it is not opened, and is read from its first unmarked entry on, but for the page at hand
+abbrev pub standing_at : Files → IndexKind → Option MarkedPages → ℕ → Option (List ℕ) → Standing
 standing_at m kind pages first None = passed_over
 standing_at m kind None first (Some path) = standing_as m path (index_opened m path kind)
-standing_at m kind (Some p) first (Some path) = standing_by path p (next_read m path p first)
+standing_at m kind (Some p) first (Some path) = standing_by path p.kept (next_read m path p.kept p.last first)
 
-abbrev pub standing : Files → List Listed → Option IndexPages → ℕ → IndexAt → Standing
+abbrev pub standing : Files → List Listed → Option MarkedPages → ℕ → IndexAt → Standing
 standing m catalogue pages first i = standing_at m (kind_of_index i.name) pages first (path_at i catalogue)
 
 -- a call tells that it stands so, but for want of memory and a failed disk
@@ -86,14 +87,25 @@ TellsStanding how stands (Err unread) = Unit {0}
 abbrev pub first_standing : Opened → Standing
 first_standing x = if (pages_by x.pages).count == 0 then passed_over else marked_next x.pages (bytes_of x.digests.items)
 
+-- on any disk these are the digests of bytes as the opening read them, where there are entries
+abbrev pub AreFirst : Opened → Type 0
+AreFirst x = 0 < (pages_by x.pages).count → AreNext x.pages 0 x.digests.items
+
 -- of an honest disk's file
 abbrev pub OpensFirst : {D : Type 0} → Ghosts D → D → List ℕ → IndexKind → Result Opened Unread → Type 0
 OpensFirst d disk path kind result =
     d.honest disk → TellsStanding first_standing (standing_as (d.content disk) path (index_opened (d.content disk) path kind)) result
 
-abbrev pub ReadsNext : {D : Type 0} → Ghosts D → D → List ℕ → IndexPages → ℕ → Result (Vec Digest32 Global) Unread → Type 0
+abbrev pub ReadsNext : {D : Type 0} → Ghosts D → D → List ℕ → MarkedPages → ℕ → Result (Vec Digest32 Global) Unread → Type 0
 ReadsNext d disk path p first result =
-    d.honest disk → TellsStanding (λ digests. marked_next p (bytes_of digests.items)) (standing_by path p (next_read (d.content disk) path p first)) result
+    d.honest disk → TellsStanding (λ digests. marked_next p.kept (bytes_of digests.items)) (standing_by path p.kept (next_read (d.content disk) path p.kept p.last first)) result
+
+-- What the opening kept stays. Of the entries that are read the last one's page is at hand then, on any disk; on an honest one it was before,
+-- or is the file's.
+pub record KeepsLast {D : Type 0} (d : Ghosts D) (disk : D) (old new : MarkedPages) (first : ℕ) (result : Result (Vec Digest32 Global) Unread) : Type 0 where
+  pub kept : new.kept ≡ old.kept
+  pub last : IfOk result (λ _. IsSomeAnd new.last (IsThePage old.kept (last_page old.kept first)))
+  pub had : d.honest disk → IfSome new.last (IsHad (d.content disk) old.kept old.last)
 
 -- ---- the next one that is unreadable
 
@@ -104,7 +116,7 @@ unless_passed (unreadable path) later = Some path
 
 -- The path of the first of these indexes that is not passed over, where it does not decode or is not as it was opened. The pages at hand are
 -- the first's, of which so many entries are marked.
-abbrev pub unreadable_in : Files → List Listed → Option IndexPages → ℕ → List IndexAt → Option (List ℕ)
+abbrev pub unreadable_in : Files → List Listed → Option MarkedPages → ℕ → List IndexAt → Option (List ℕ)
 unreadable_in m catalogue pages first [] = None
 unreadable_in m catalogue pages first (i ∷ is) = unless_passed (standing m catalogue pages first i) (unreadable_in m catalogue None 0 is)
 
@@ -124,9 +136,21 @@ passed_by zero p = p
 passed_by (suc n) p = with_mark (passed_by n p) 0 0
 
 -- and the pages at hand then, of those that were
-abbrev pub at_hand_after : ℕ → Option IndexPages → Option IndexPages
+abbrev pub at_hand_after : ℕ → Option MarkedPages → Option MarkedPages
 at_hand_after zero pages = pages
 at_hand_after (suc n) pages = None
+
+-- of pages at hand what their opening kept, and the number of the one that was read last
+abbrev pub opening_of : Option MarkedPages → Option IndexPages
+opening_of pages = option_map (λ p. p.kept) pages
+
+abbrev pub page_at_hand : Option MarkedPages → Option ℕ
+page_at_hand None = None
+page_at_hand (Some p) = option_map (λ q. q.number) p.last
+
+-- which page is at hand once those from this entry on are read: none where the index was opened for them
+abbrev pub page_then : Option MarkedPages → ℕ → Option ℕ
+page_then pages first = option_map (λ p. last_page p.kept first) pages
 
 -- how the index stands that is next then, if one is
 abbrev pub StandsAt : Files → List Listed → Collector → ℕ → Standing → Type 0
@@ -139,16 +163,17 @@ abbrev pub MayPass : List Listed → Collector → Type 0
 MayPass catalogue c = (i : IndexAt) → next_index c.plan ≡ Some i → (path_at i catalogue ≡ None) ⊎ (c.pages ≡ None)
 
 -- So many indexes are passed over: of an honest disk those that were forgotten or have no entries. Then these digests are marked of the next
--- one: those of an honest disk's file, and of pages that were at hand those of bytes as their opening read them, on any disk. Pages at hand
--- are let go only with an index that was forgotten.
+-- one: those of an honest disk's file and of the page at hand, and on any disk those of bytes as the opening read them. Of pages that were at
+-- hand the last one's page is at hand then. Pages at hand are let go only with an index that was forgotten.
 pub record FindsAfter {D : Type 0} (d : Ghosts D) (disk : D) (catalogue : List Listed) (passed : ℕ) (c e : Collector) (digests : List Digest32) : Type 0 where
   pub lane : e.lane ≡ c.lane
   pub plan : e.plan ≡ passed_by passed c.plan
   pub skipped : d.honest disk → (n : ℕ) → n < passed → StandsAt (d.content disk) catalogue c n passed_over
   pub let_go : 0 < passed → MayPass catalogue c
-  pub had : IsSome (at_hand_after passed c.pages) → e.pages ≡ at_hand_after passed c.pages
-  pub kept : IsSome (next_index e.plan) → IfSome (at_hand_after passed c.pages) (λ p. AreNext p (marked_in (e.plan).stage) digests)
-  pub read : d.honest disk → IfSome e.pages (λ p. StandsAt (d.content disk) catalogue c passed (marked_next p (bytes_of digests)))
+  pub had : IsSome (at_hand_after passed c.pages) → opening_of e.pages ≡ opening_of (at_hand_after passed c.pages)
+  pub last : IsSome (next_index e.plan) → page_at_hand e.pages ≡ page_then (at_hand_after passed c.pages) (marked_in (e.plan).stage)
+  pub kept : IsSome (next_index e.plan) → IfSome e.pages (λ p. AreNext p.kept (marked_in (e.plan).stage) digests)
+  pub read : d.honest disk → IfSome e.pages (λ p. StandsAt (d.content disk) catalogue c passed (marked_next p.kept (bytes_of digests)))
 
 -- ---- the index that is next
 
@@ -190,8 +215,8 @@ abbrev pub all_of : Kept → IndexAt → List Snapshot → List (List ℕ)
 all_of k i snapshots = digests_named k.key i.name snapshots
 
 -- as many as its pages at hand say, which are those of its file
-pub record HasAll (snapshots : List Snapshot) (k : Kept) (i : IndexAt) (p : IndexPages) : Type 0 where
-  pub count : (pages_by p).count ≡ length (all_of k i snapshots)
+pub record HasAll (snapshots : List Snapshot) (k : Kept) (i : IndexAt) (p : MarkedPages) : Type 0 where
+  pub count : (pages_by p.kept).count ≡ length (all_of k i snapshots)
   pub pages : ArePages snapshots i.name p (Some k)
 
 -- The snapshot of the index that is next is still there, the pages at hand are the index's, and these are its next digests. With those that
@@ -268,7 +293,7 @@ pub record FindsNext {D : Type 0} (d : Ghosts D) (parts : Parts D) (old new : Co
 -- ---- a mark
 
 -- its pages stay at hand where some are
-abbrev pub at_hand_then : ℕ → Option IndexPages → Option IndexPages
+abbrev pub at_hand_then : ℕ → Option MarkedPages → Option MarkedPages
 at_hand_then left pages = if left == 0 then None else pages
 
 -- these are touched

@@ -11,7 +11,7 @@ use Rattle.store_files.specs.Folder.{chunk_name}
 use Rattle.atime_book.specs.Touches.{SweptAt, is_stale, last_of}
 use Rattle.chunk_store.specs.Listed.{Lists}
 use Rattle.gc_plan.specs.Plan.{Plan, has_names, is_over, left_of, next_visit, visited, with_names, with_removal}
-use Rattle.paged_indexes.specs.declared.index.IndexPages.{IndexPages}
+use Rattle.core_state.specs.declared.marked.MarkedPages.{MarkedPages}
 use Rattle.core_state.specs.Changes.{Change, LeavesChange, after, drops, stays}
 use Rattle.core_state.specs.Entries.{FitsPages}
 
@@ -77,4 +77,4 @@ pub record VisitsNext {D : Type 0} (d : Ghosts D) (old new : D) (before after_ :
   pub unswept : IsErr result → after_ ≡ before
   pub less : is_over p ≡ false → OnOk result (left_of q < left_of p)
   -- what fits the pages at hand fits them still, also where the disk failed
-  pub fits : (pages : Option IndexPages) → FitsPages p pages → FitsPages q pages
+  pub fits : (pages : Option MarkedPages) → FitsPages p pages → FitsPages q pages

@@ -2,26 +2,27 @@
 
 ghost use Rattle.std.specs.Prelude.{◌≡◌, ◌<◌, ◌-◌, min, IfErr, IfOk, IsErrOf, IsSome, length, option_map};
 ghost use Rattle.disk_trait.specs.Effects.{OnlyReads};
-ghost use Rattle.store_stops.specs.declared.stop.Stop.TheVariants.{DiskFailed as StopFailed};
+ghost use Rattle.index_pages.specs.declared.fault.PageFault.TheVariants.{Failed as ReadFailed};
+ghost use Rattle.index_pages.specs.Paged.{page_count};
 ghost use Rattle.gc_plan.specs.Plan.{mark_limit, next_mark};
 ghost use Rattle.paged_indexes.specs.Index.{HasWidth, pages_by};
+ghost use Rattle.core_state.specs.MarkedPage.{FitsLast};
 ghost use Rattle.core_state.specs.Unchanged.{SameKept};
 ghost use Rattle.core_collect.specs.declared.marking.Unread.TheVariants.{DiskFailed, NoMemory, Unreadable};
-ghost use Rattle.core_collect.specs.Entries.{AreNext, IsBatch, ReadsPages, TakesKept, entry_digests};
-ghost use Rattle.core_collect.specs.Marking.{AtHand, FindsNext, IfUnreadable, MarksSome, OpensFirst, PassesOver, ReadsNext, SettlesNext, UnreadBy, path_at};
+ghost use Rattle.core_collect.specs.Entries.{AreNext, HandsPage, HasPage, IsBatch, IsThePage, ReadsPage, ReadsPages, TakesKept, TakesPage, entry_digests};
+ghost use Rattle.core_collect.specs.Marking.{AreFirst, AtHand, FindsNext, IfUnreadable, KeepsLast, MarksSome, OpensFirst, PassesOver, ReadsNext, SettlesNext, UnreadBy, path_at};
 
 use atime_book::Book;
-use core_state::{Catalogue, Collector, Parts, path_named, touch_each};
+use core_state::{Catalogue, Collector, MarkedPage, MarkedPages, Parts, path_named, touch_each};
 use disk_trait::Disk;
 use gc_plan::{IndexAt, MARK_LIMIT, mark_size};
-use paged_indexes::{IndexEntry, IndexKind, IndexPages, Page, TakesEntries};
-use snapshot_files::{FilePath, index_kind, open_index, read_page};
+use paged_indexes::{IndexEntry, IndexKind, IndexPages, Page, PageFault, TakesEntries};
+use snapshot_files::{FilePath, index_kind};
 use std::alloc::{AllocError, Global};
-use store_stops::Stop;
 use store_types::Digest32;
 
 // The entries of a page of an index.
-const PAGE_ENTRIES: u32 = 1024;
+const PAGE_ENTRIES: u32 = index_pages::PAGE_ENTRIES as u32;
 
 /// Why the digests that are marked next are not had.
 #[derive(Debug, Drop)]
@@ -56,17 +57,17 @@ fn unreadable(alloc: Global, path: &FilePath) -> Result<Unread, AllocError>
     Ok(Unread::Unreadable(FilePath::from_string(text)))
 }
 
-/// The index at the path is not read for this reason.
-fn why_unread(alloc: Global, path: &FilePath, stop: Stop) -> Unread
-    ensures { UnreadBy path.now stop result }
+/// The index at the path is not read for this fault.
+fn why_unread(alloc: Global, path: &FilePath, fault: PageFault) -> Unread
+    ensures { UnreadBy path.now fault result }
 {
-    match stop {
-        Stop::Refused(_) => match unreadable(alloc, path) {
+    match fault {
+        PageFault::Failed => Unread::DiskFailed,
+        PageFault::NoMemory => Unread::NoMemory,
+        _ => match unreadable(alloc, path) {
             Ok(unread) => unread,
             Err(_) => Unread::NoMemory,
         },
-        Stop::NoMemory => Unread::NoMemory,
-        Stop::DiskFailed => Unread::DiskFailed,
     }
 }
 
@@ -114,76 +115,149 @@ fn open_first<D: Disk>(
     // on any disk
     ensures many { IfOk result (λ opened. length opened.digests.items
         ≡ min mark_limit (pages_by opened.pages).count) }
+    ensures kept { IfOk result AreFirst }
     ensures named { IfErr result (IfUnreadable (λ name. name ≡ path.now)) }
 {
     let mut batch = Batch {
         skip: 0,
         digests: Vec::new(alloc),
     };
-    match open_index(disk, alloc, path.as_str(), kind, &mut batch) {
+    match IndexPages::open_into(disk, alloc, path.as_str(), kind, &mut batch) {
         Ok(pages) => Ok(Opened {
             pages,
             digests: batch.digests,
         }),
-        Err(stop) => Err(why_unread(alloc, path, stop)),
+        Err(fault) => Err(why_unread(alloc, path, fault)),
     }
 }
 
-/// Hands on the entries of the page of an entry, and those of the next page where the entries that are marked from that
-/// one on reach into it.
+/// A page of an index: the one at hand, where it is that, else as it is read.
+fn page_of<D: Disk>(
+    disk: &mut D,
+    alloc: Global,
+    pages: &IndexPages,
+    at_hand: Option<MarkedPage>,
+    i: u32,
+) -> Result<MarkedPage, PageFault>
+    requires place { i < page_count (pages_by pages.now).count }
+    requires at_hand { FitsLast pages.now at_hand }
+    ensures reads { OnlyReads D.Disk disk.old disk.new (IsErrOf result ReadFailed) }
+    ensures exact { HasPage D.Disk disk.old pages.now at_hand i result }
+    // on any disk
+    ensures page { IfOk result (IsThePage pages.now i) }
+{
+    if let Some(page) = at_hand {
+        if page.number == i {
+            return Ok(page);
+        }
+    }
+    let mut bytes = Page::new(alloc)?;
+    pages.page(disk, i, &mut bytes)?;
+    Ok(MarkedPage { number: i, bytes })
+}
+
+/// Hands on the entries of a page, which is at hand then.
+fn hand_on<D: Disk>(
+    disk: &mut D,
+    alloc: Global,
+    pages: &IndexPages,
+    at_hand: Option<MarkedPage>,
+    i: u32,
+    batch: &mut Batch,
+) -> Result<MarkedPage, PageFault>
+    requires place { i < page_count (pages_by pages.now).count }
+    requires at_hand { FitsLast pages.now at_hand }
+    ensures reads { OnlyReads D.Disk disk.old disk.new (IsErrOf result ReadFailed) }
+    ensures exact { HandsPage D.Disk disk.old pages.now at_hand i result }
+    // on any disk
+    ensures taken { IfOk result (TakesPage pages.now i batch.old batch.new) }
+{
+    let page = page_of(disk, alloc, pages, at_hand, i)?;
+    pages.hand_on(i, &page.bytes, batch)?;
+    Ok(page)
+}
+
+/// The same. The index is unreadable where the page is not as it was opened.
+fn take_page<D: Disk>(
+    disk: &mut D,
+    alloc: Global,
+    path: &FilePath,
+    pages: &IndexPages,
+    at_hand: Option<MarkedPage>,
+    i: u32,
+    batch: &mut Batch,
+) -> Result<MarkedPage, Unread>
+    requires place { i < page_count (pages_by pages.now).count }
+    requires at_hand { FitsLast pages.now at_hand }
+    ensures reads { OnlyReads D.Disk disk.old disk.new (IsErrOf result DiskFailed) }
+    ensures exact { ReadsPage D.Disk disk.old path.now pages.now at_hand i result }
+    // on any disk
+    ensures taken { IfOk result (TakesPage pages.now i batch.old batch.new) }
+    ensures named { IfErr result (IfUnreadable (λ name. name ≡ path.now)) }
+{
+    match hand_on(disk, alloc, pages, at_hand, i, batch) {
+        Ok(page) => Ok(page),
+        Err(fault) => Err(why_unread(alloc, path, fault)),
+    }
+}
+
+/// Hands on the entries of the page of an entry, and those of the next page where the entries that are marked from that one
+/// on reach into it. The last of these pages is at hand then.
 fn read_pages<D: Disk>(
     disk: &mut D,
     alloc: Global,
     path: &FilePath,
     pages: &IndexPages,
+    at_hand: Option<MarkedPage>,
     first: u32,
     batch: &mut Batch,
-) -> Result<(), Stop>
-    requires { first < (pages_by pages.now).count }
-    ensures reads { OnlyReads D.Disk disk.old disk.new (IsErrOf result StopFailed) }
-    ensures exact { ReadsPages D.Disk disk.old path.now pages.now first
+) -> Result<MarkedPage, Unread>
+    requires place { first < (pages_by pages.now).count }
+    requires at_hand { FitsLast pages.now at_hand }
+    ensures reads { OnlyReads D.Disk disk.old disk.new (IsErrOf result DiskFailed) }
+    ensures exact { ReadsPages D.Disk disk.old path.now pages.now at_hand first
         batch.old batch.new result }
     // on any disk
-    ensures kept { IfOk result (λ _. TakesKept pages.now first batch.old batch.new) }
+    ensures kept { IfOk result (TakesKept pages.now first batch.old batch.new) }
     ensures width { HasWidth pages.now }
+    ensures named { IfErr result (IfUnreadable (λ name. name ≡ path.now)) }
 {
     let end = pages.len().min(first + MARK_LIMIT);
-    let mut room = Page::new(alloc)?;
-    let name = path.as_str();
     let i = first / PAGE_ENTRIES;
-    read_page(disk, alloc, name, pages, i, &mut room, batch)?;
+    let page = take_page(disk, alloc, path, pages, at_hand, i, batch)?;
     if end <= (i + 1) * PAGE_ENTRIES {
-        return Ok(());
+        return Ok(page);
     }
-    read_page(disk, alloc, name, pages, i + 1, &mut room, batch)
+    take_page(disk, alloc, path, pages, Some(page), i + 1, batch)
 }
 
 /// The digests that are marked of an index from one of its entries on: of 1,000 entries, or of all that are left. It is
-/// unreadable where one of their pages is not as it was opened.
+/// unreadable where one of their pages is not as it was opened. The last page is at hand then.
 fn read_next<D: Disk>(
     disk: &mut D,
     alloc: Global,
     path: &FilePath,
-    pages: &IndexPages,
+    pages: &mut MarkedPages,
     first: u32,
 ) -> Result<Vec<Digest32>, Unread>
-    requires { first < (pages_by pages.now).count }
+    requires { first < (pages_by pages.old.kept).count }
     ensures reads { OnlyReads D.Disk disk.old disk.new (IsErrOf result DiskFailed) }
-    ensures exact { ReadsNext D.Disk disk.old path.now pages.now first result }
+    ensures exact { ReadsNext D.Disk disk.old path.now pages.old first result }
+    ensures pages { KeepsLast D.Disk disk.old pages.old pages.new first result }
     // on any disk
-    ensures kept { IfOk result (λ digests. AreNext pages.now first digests.items) }
+    ensures kept { IfOk result (λ digests. AreNext pages.old.kept first digests.items) }
     ensures many { IfOk result (λ digests. length digests.items
-        ≡ min mark_limit ((pages_by pages.now).count - first)) }
+        ≡ min mark_limit ((pages_by pages.old.kept).count - first)) }
     ensures named { IfErr result (IfUnreadable (λ name. name ≡ path.now)) }
 {
     let mut batch = Batch {
         skip: first % PAGE_ENTRIES,
         digests: Vec::new(alloc),
     };
-    match read_pages(disk, alloc, path, pages, first, &mut batch) {
-        Ok(()) => Ok(batch.digests),
-        Err(stop) => Err(why_unread(alloc, path, stop)),
-    }
+    let at_hand = pages.last.take();
+    let page = read_pages(disk, alloc, path, &pages.kept, at_hand, first, &mut batch)?;
+    pages.last = Some(page);
+    Ok(batch.digests)
 }
 
 /// Passes over the index that is next. It takes no memory.
@@ -217,7 +291,7 @@ fn settle_next<D: Disk>(
         pass_over(collector);
         return Ok(None);
     };
-    if let Some(pages) = &collector.pages {
+    if let Some(pages) = &mut collector.pages {
         let digests = read_next(&mut parts.disk, alloc, path, pages, first)?;
         return Ok(Some(digests));
     }
@@ -226,7 +300,10 @@ fn settle_next<D: Disk>(
         pass_over(collector);
         return Ok(None);
     }
-    collector.pages = Some(opened.pages);
+    collector.pages = Some(MarkedPages {
+        kept: opened.pages,
+        last: None,
+    });
     Ok(Some(opened.digests))
 }
 
@@ -261,7 +338,7 @@ pub fn mark(book: &mut Book, collector: &mut Collector, digests: &[Digest32], mo
     let Some(pages) = &collector.pages else {
         return;
     };
-    let left = pages.len() - first;
+    let left = pages.kept.len() - first;
     let count = mark_size(left);
     touch_each(book, digests, moment);
     collector.plan.marked(count, left - count);

@@ -3,7 +3,7 @@ use Rattle.std.proofs.Common.{◌≡◌, ℕ, true, Option, Some, Result, Ok, Er
 use Rattle.disk_trait.specs.declared.disk.Disk.{Ghosts}
 use Rattle.disk_trait.specs.Files.{Files}
 use Rattle.port_traits.specs.Readings.{Readings}
-use Rattle.wire_commands.specs.declared.command.Command.TheVariants.{OpenReader}
+use Rattle.wire_commands.specs.declared.command.Command.TheVariants.{OpenReader, Range}
 use Rattle.store_types.specs.declared.refusal.Refusal.{Refusal}
 use Rattle.store_types.specs.declared.refusal.Refusal.TheVariants.{Halted, NoMemory}
 use Rattle.wire_commands.specs.declared.reply.Reply.{Reply}
@@ -24,7 +24,7 @@ use Rattle.core_state.specs.Settles.{Settles, reply_by}
 use Rattle.core_state.specs.Stops.{told}
 use Rattle.core_state.specs.Wanted.{session_at}
 use Rattle.core_state.proofs.FromState.{done_tells, refused_tells}
-use Rattle.core_reader.specs.AnsweredBy.{ActAnswersBy, ActReads, CoreAnswersBy, CoreReads, chunk_told, part_told, reader_told}
+use Rattle.core_reader.specs.AnsweredBy.{ActAnswersBy, ActReads, CoreAnswersBy, CoreReads, bytes_told, chunk_told, part_told, reader_told}
 
 -- ---- the session that an OPEN_READER leaves
 
@@ -59,6 +59,7 @@ readers_refused d readings old new lane (Plain (OpenReader snapshot)) answer ref
   answers = refused_tells d readings old new lane (reader_told snapshot) answer refuses;
   opened = unopened d readings old new lane answer (is_reader (session_at new.parts lane) ≡ true) refuses;
 }
+readers_refused d readings old new lane (Plain (Range file offset len)) answer refuses = λ honest. refused_tells d readings old new lane (bytes_told (row_at old.parts lane) file offset len (d.content (old.parts).disk)) answer refuses
 readers_refused d readings old new lane (ReadFile name offset) answer refuses = λ honest. refused_tells d readings old new lane (part_told name offset (d.content (old.parts).disk)) answer refuses
 readers_refused d readings old new lane (ReadChunk name entry) answer refuses = λ honest. refused_tells d readings old new lane (chunk_told (row_at old.parts lane) name entry (d.content (old.parts).disk)) answer refuses
 readers_refused d readings old new lane act answer refuses = tt
@@ -82,6 +83,9 @@ readers_done d readings old mid acted new lane at (Plain (OpenReader snapshot)) 
   answers = done_tells d readings old mid acted new lane at (reader_told snapshot) result answer admitted tells.answers e;
   opened = opens_so d acted new lane at result answer admitted.lane_is tells.opened e;
 }
+readers_done d readings old mid acted new lane at (Plain (Range file offset len)) result answer admitted tells e =
+    subst (λ r. CoreReads d (bytes_told r file offset len) old lane answer) (row_before readings old mid lane at admitted)
+    (read_done d readings old mid acted new lane at (bytes_told (row_at mid.parts at.lane) file offset len) result answer admitted tells e)
 readers_done d readings old mid acted new lane at (ReadFile name offset) result answer admitted tells e =
     read_done d readings old mid acted new lane at (part_told name offset) result answer admitted tells e
 readers_done d readings old mid acted new lane at (ReadChunk name entry) result answer admitted tells e =

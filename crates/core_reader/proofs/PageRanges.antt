@@ -1,8 +1,9 @@
 -- A range that is read page by page is that of the content.
-use Rattle.std.proofs.Common.{◌≡◌, ℕ, zero, suc, ◌+◌, ◌-◌, ◌*◌, ◌<◌, ◌≤◌, Bool, true, false, cond, ◌&&◌, IsTrue, List, [], ◌∷◌, ◌++◌, length, take, drop, nat_lt, nat_le, Option, Some, None, Result, Ok, refl, sym, ap, ap₂, subst, ◌∙◌, arith}
+use Rattle.std.proofs.Common.{◌≡◌, ℕ, zero, suc, ◌+◌, ◌-◌, ◌*◌, ◌<◌, ◌≤◌, max, Bool, true, false, cond, ◌&&◌, IsTrue, List, [], ◌∷◌, ◌++◌, length, take, drop, nat_lt, nat_le, Option, Some, None, Result, Ok, refl, sym, ap, ap₂, subst, ◌∙◌, arith}
 use Rattle.std.specs.List.{All, concat}
 use Rattle.std.proofs.lemmas.Bool.{and_from, and_parts, leb-true}
-use Rattle.std.proofs.lemmas.List.{take-append-drop}
+use Rattle.std.proofs.lemmas.List.{drop_all, length-append, take-append-drop}
+use Rattle.std.proofs.lemmas.List.Folds.{concat-append}
 use Rattle.std.proofs.lemmas.List.Elements.{All-drop, All-take}
 use Rattle.std.proofs.Math.Seq.{take-add}
 use Rattle.disk_trait.specs.Files.{Files}
@@ -12,16 +13,16 @@ use Rattle.store_files.specs.Archive.{ends_from}
 use Rattle.store_files.specs.DynamicIndex.{Ended, steps_fit}
 use Rattle.dynamic_index.specs.Pieces.{last_end}
 use Rattle.index_pages.specs.Paged.{page_count}
-use Rattle.paged_indexes.specs.Index.{page_behind, pages_by, start_by}
+use Rattle.paged_indexes.specs.Index.{page_with, pages_by, start_by}
 use Rattle.paged_indexes.specs.Laws.{BeginsLow, IsIndex}
 use Rattle.paged_indexes.proofs.Handed.{no_rest, page_and_rest}
 use Rattle.paged_indexes.proofs.Stepping.{last_end-append}
 use Rattle.snapshot_files.specs.Indexes.{entries_or, page_entries}
 use Rattle.chunk_store.specs.Pieces.{IsHeld}
 use Rattle.restore_reader.specs.declared.ranges.Part.{Part}
-use Rattle.restore_reader.specs.Plan.{parts_in}
+use Rattle.restore_reader.specs.Plan.{bytes_in, parts_in}
 use Rattle.restore_reader.proofs.Apart.{no_part, parts_before, parts_behind, parts_follow}
-use Rattle.restore_reader.proofs.Bytes.{reads, whole_bytes}
+use Rattle.restore_reader.proofs.Bytes.{bytes_follow, reads, whole_bytes}
 use Rattle.core_reader.specs.Chunks.{HoldsParts, behind, parts_at}
 use Rattle.core_reader.specs.Ranges.{Ranged, page_range, range_at, range_by, range_from}
 use Rattle.core_reader.proofs.Loads.{held_joined}
@@ -54,6 +55,14 @@ ends-drop : (start k : ℕ) (ps : List (List ℕ)) → drop k (ends_from start p
 ends-drop start zero ps = refl
 ends-drop start (suc k) [] = refl
 ends-drop start (suc k) (p ∷ ps) = ends-drop (start + length p) k ps
+
+last_len : (start : ℕ) (ps : List (List ℕ)) → last_end start (ends_from start ps) ≡ start + length (concat ps)
+last_len start [] = omega arith
+last_len start (p ∷ ps) = omega (arith, last_len (start + length p) ps, length-append p (concat ps))
+
+take_nil : (n : ℕ) → take {A = ℕ} n [] ≡ []
+take_nil zero = refl
+take_nil (suc n) = refl
 
 -- ---- of no bytes
 
@@ -141,10 +150,10 @@ module _ (m : Files) (a : Ranged) (es : List Ended) (is : IsIndex m a.pages es) 
           pages_are (page_count (pages_by a.pages).count - i) i (omega (arith, low.0, ap page_count is.count))
           ∙ sym (ap (parts_at m) (whole ∙ ap (λ (l : List Part). l ++ rest i) none))
 
-      by_bytes : (b : Bool) → nat_le to from ≡ b → cond (nat_le to from) (Ok []) (range_by m a from to (page_behind a.pages from)) ≡ parts_at m (parts_in from to 0 es)
+      by_bytes : (b : Bool) → nat_le to from ≡ b → cond (nat_le to from) (Ok []) (range_by m a from to (page_with a.pages from)) ≡ parts_at m (parts_in from to 0 es)
       by_bytes true e =
-          ap (λ b. cond b (Ok []) (range_by m a from to (page_behind a.pages from))) e ∙ sym (ap (parts_at m) (parts_empty from to 0 es (leb-true to from e)))
-      by_bytes false e = ap (λ b. cond b (Ok []) (range_by m a from to (page_behind a.pages from))) e ∙ by_page (page_behind a.pages from) (is.found from)
+          ap (λ b. cond b (Ok []) (range_by m a from to (page_with a.pages from))) e ∙ sym (ap (parts_at m) (parts_empty from to 0 es (leb-true to from e)))
+      by_bytes false e = ap (λ b. cond b (Ok []) (range_by m a from to (page_with a.pages from))) e ∙ by_page (page_with a.pages from) (is.found from)
 
   -- ---- of pieces that stand there
 
@@ -155,17 +164,46 @@ module _ (m : Files) (a : Ranged) (es : List Ended) (is : IsIndex m a.pages es) 
         held_joined m (parts_in from to 0 es) (drop r.first pieces) bytes r.each (All-drop (IsHeld m) r.first pieces held) (sym range_is_parts ∙ given)
         ∙ r.same ∙ whole_bytes from to (concat pieces)
 
+    -- those of a page
+    abbrev pieces_on : ℕ → List (List ℕ)
+    pieces_on i = take 1024 (drop (i * 1024) pieces)
+
+    start_is : (i : ℕ) → start i ≡ last_end 0 (take (i * 1024) (ends_from 0 pieces))
+    start_is i = ap (λ l. last_end 0 (take (i * 1024) l)) (sym same)
+
+    page_ends : (i : ℕ) → ends_from (start i) (pieces_on i) ≡ page i
+    page_ends i =
+        ap (λ n. ends_from n (pieces_on i)) (start_is i) ∙ sym (ends-take (last_end 0 (take (i * 1024) (ends_from 0 pieces))) 1024 (drop (i * 1024) pieces))
+        ∙ ap (take 1024) (sym (ends-drop 0 (i * 1024) pieces)) ∙ ap (λ l. take 1024 (drop (i * 1024) l)) same
+
+    page_held : (i : ℕ) → All (IsHeld m) (pieces_on i)
+    page_held i = All-take (IsHeld m) 1024 (drop (i * 1024) pieces) (All-drop (IsHeld m) (i * 1024) pieces held)
+
     -- those of which a page's parts are
     pub page_holds : (i : ℕ) → HoldsParts m (parts_in from to (start i) (page i))
     page_holds i =
-        let ps = take 1024 (drop (i * 1024) pieces) in
-        let at : start i ≡ last_end 0 (take (i * 1024) (ends_from 0 pieces)) = ap (λ l. last_end 0 (take (i * 1024) l)) (sym same) in
-        let ends : ends_from (start i) ps ≡ page i =
-        ap (λ n. ends_from n ps) at ∙ sym (ends-take (last_end 0 (take (i * 1024) (ends_from 0 pieces))) 1024 (drop (i * 1024) pieces))
-        ∙ ap (take 1024) (sym (ends-drop 0 (i * 1024) pieces)) ∙ ap (λ l. take 1024 (drop (i * 1024) l)) same in
-        let r = reads from to (start i) (page i) ps (page_steps i) ends in
-        record {
-          pieces = drop r.first ps;
-          are = r.each;
-          held = All-drop (IsHeld m) r.first ps (All-take (IsHeld m) 1024 (drop (i * 1024) pieces) (All-drop (IsHeld m) (i * 1024) pieces held));
-        }
+        let r = reads from to (start i) (page i) (pieces_on i) (page_steps i) (page_ends i) in
+        record { pieces = drop r.first (pieces_on i); are = r.each; held = All-drop (IsHeld m) r.first (pieces_on i) (page_held i) }
+
+    -- What a range has of a page that begins where the range does or before it are the first ones of its bytes.
+    pub page_bytes : (i : ℕ) (bytes : List ℕ) → start i ≤ from → parts_at m (parts_in from to (start i) (page i)) ≡ Ok bytes
+        → (rest : List ℕ) × (take (to - from) (drop from (concat pieces)) ≡ bytes ++ rest)
+    page_bytes i bytes low given =
+        let front = take (i * 1024) pieces in
+        let here = pieces_on i in
+        let later = drop 1024 (drop (i * 1024) pieces) in
+        let len : start i ≡ 0 + length (concat front) = start_is i ∙ ap (last_end 0) (ends-take 0 (i * 1024) pieces) ∙ last_len 0 front in
+        let r = reads from to (start i) (page i) here (page_steps i) (page_ends i) in
+        let are : bytes ≡ bytes_in from to (start i) (concat here) =
+        held_joined m (parts_in from to (start i) (page i)) (drop r.first here) bytes r.each (All-drop (IsHeld m) r.first here (page_held i)) given ∙ r.same in
+        let behind_page : concat (drop (i * 1024) pieces) ≡ concat here ++ concat later = ap concat (sym (take-append-drop 1024 (drop (i * 1024) pieces))) ∙ concat-append here later in
+        let whole : concat pieces ≡ concat front ++ (concat here ++ concat later) =
+        ap concat (sym (take-append-drop (i * 1024) pieces)) ∙ concat-append front (drop (i * 1024) pieces) ∙ ap (λ l. concat front ++ l) behind_page in
+        let none : bytes_in from to 0 (concat front) ≡ [] = ap (take (to - max from 0)) (drop_all (from - 0) (concat front) (omega (arith, low, len))) ∙ take_nil (to - max from 0) in (
+          bytes_in from to (start i + length (concat here)) (concat later),
+          sym (whole_bytes from to (concat pieces)) ∙ ap (bytes_in from to 0) whole
+              ∙ bytes_follow from to 0 (concat front) (concat here ++ concat later)
+              ∙ ap₂ (λ (l : List ℕ) n. l ++ bytes_in from to n (concat here ++ concat later)) none (sym len)
+              ∙ bytes_follow from to (start i) (concat here) (concat later)
+              ∙ ap (λ (l : List ℕ). l ++ bytes_in from to (start i + length (concat here)) (concat later)) (sym are),
+        )

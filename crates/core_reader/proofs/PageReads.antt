@@ -18,14 +18,15 @@ use Rattle.paged_indexes.proofs.Stepping.{stepped_fits, stepped_last, stepped_ri
 use Rattle.std.specs.Prelude.{IfErr, is_some}
 use Rattle.restore_reader.specs.declared.ranges.Part.{Part}
 use Rattle.restore_reader.specs.Cutting.{total_of}
-use Rattle.restore_reader.specs.Plan.{parts_in}
+use Rattle.restore_reader.specs.Plan.{ends_of, parts_in}
 use Rattle.restore_reader.proofs.Apart.{total_in}
 use Rattle.snapshot_files.specs.Indexes.{GivesPage, page_entries}
 use Rattle.store_stops.specs.declared.stop.Stop.{Stop}
 use Rattle.store_stops.specs.declared.stop.Stop.TheVariants.{Refused, NoMemory, DiskFailed}
 use Rattle.store_stops.specs.Stops.{Gives, IfRefused}
 use Rattle.core_reader.specs.Chunks.{HoldsParts, IsUnrefused, StopsAmong, behind, digests_of, parts_at}
-use Rattle.core_reader.specs.Ranges.{AreKept, Grows, Ranged, RefusesRead, StandsWhole, page_range, range_from, ranged}
+use Rattle.core_state.specs.declared.pages.ReadPage.{ReadPage}
+use Rattle.core_reader.specs.Ranges.{AreKept, Grows, IsPageRead, Ranged, RefusesRead, StandsWhole, page_range, parts_on, range_from, ranged}
 use Rattle.core_reader.proofs.PageRanges.{page, page_holds, page_read}
 use Rattle.core_reader.proofs.Pieces.{behind-then}
 
@@ -48,6 +49,25 @@ kept_total p i from to es parts old new kept are size =
       size = omega (arith, size, total, ap total_of are, ap (λ n. min to n - max from (start_by p i)) stop);
       rises = stepped_rises (start_by p i) (stop_by p i) es (kept_steps p i es kept);
     }
+
+-- the parts of one that was read
+pub read_parts_are : (p : IndexPages) (i from to : ℕ) (x : ReadPage) → IsPageRead p i x → parts_on from to x ≡ parts_in from to (start_by p i) (ends_of x.entries.items)
+read_parts_are p i from to x is = ap (λ s. parts_in from to s (ends_of x.entries.items)) is.start
+
+-- what holds of a stop holds of what it stops
+pub refused_on : {A : Type 0} (P : Refusal → Type 0) (stop : Stop) (result : Result A Stop) → IsErrAnd result (λ x. x ≡ stop) → IfRefused P stop → IfErr result (IfRefused P)
+refused_on P stop (Ok x) is h = absurd is
+refused_on P stop (Err x) is h = subst (IfRefused P) (sym is) h
+
+-- what a call stops by is what another does
+pub stops_as : {A B C : Type 0} (f : A → C) (g : B → C) (wanted : Result C Refusal) (stop : Stop) (result : Result B Stop) → IsErrAnd result (λ x. x ≡ stop) → Gives f (Err stop) wanted → Gives g result wanted
+stops_as f g wanted stop (Ok x) is gives = absurd is
+stops_as {A} {B} f g wanted stop (Err x) is gives = subst (λ s. Gives {A = B} g (Err s) wanted) (sym is) (by_stop stop gives)
+  where
+    by_stop : (stop : Stop) → Gives {A = A} f (Err stop) wanted → Gives {A = B} g (Err stop) wanted
+    by_stop (Refused refusal) gives = gives
+    by_stop NoMemory gives = tt
+    by_stop DiskFailed gives = tt
 
 -- what a read of it stops by
 module _ {A T : Type 0} (m : Files) (path : List ℕ) (p : IndexPages) (i : ℕ) (taken : T → ℕ → List Ended → Type 0) (old new : T) where
@@ -107,6 +127,10 @@ module _ (m : Files) (a : Ranged) (i from to : ℕ) where
       by_stop NoMemory gives = tt
       by_stop DiskFailed gives = tt
 
+  -- as it was read
+  pub range_of_read : (x : ReadPage) → IsPageRead a.pages i x → page_entries m a.path a.pages i ≡ Ok (ends_of x.entries.items) → page_range m a i from to ≡ parts_at m (parts_on from to x)
+  range_of_read x is read = range_of_page (ends_of x.entries.items) read ∙ ap (λ ps. parts_at m ps) (sym (read_parts_are a.pages i from to x is))
+
 -- a chunk of it that is damaged is needed
 pub among_needed : (a : Ranged) (i from to : ℕ) (es : List Ended) (parts : List Part) (stop : Stop) → AreKept a.pages i es → parts ≡ parts_in from to (start_by a.pages i) es
     → StopsAmong (digests_of parts) stop → IfRefused (RefusesRead a from to) stop
@@ -157,12 +181,12 @@ pub behind_none : (front : List ℕ) (r : Result (List ℕ) Refusal) → r ≡ O
 behind_none front r is = ap (behind front) is ∙ ap Ok (append-nil front)
 
 -- what a page's range stops by stops all
-pub page_stops : {A : Type 0} (f : A → List ℕ) (old new : List ℕ) (all more : Result (List ℕ) Refusal) (one : Result (List ℕ) Refusal) (stop : Stop) (result : Result A Stop) → IsErrAnd result (λ x. x ≡ stop)
-    → all ≡ behind old (one >>= λ bytes. behind bytes more) → Gives {A = Unit {0}} (λ _. new) (Err stop) (behind old one) → Gives f result all
-page_stops f old new all more one stop (Ok x) is e gives = absurd is
-page_stops {A} f old new all more one stop (Err x) is e gives = subst (λ s. Gives {A = A} f (Err s) all) (sym is) (by_stop stop gives)
+pub page_stops : {A : Type 0} (B : Type 0) (f : A → List ℕ) (old new : List ℕ) (all more : Result (List ℕ) Refusal) (one : Result (List ℕ) Refusal) (stop : Stop) (result : Result A Stop) → IsErrAnd result (λ x. x ≡ stop)
+    → all ≡ behind old (one >>= λ bytes. behind bytes more) → Gives {A = B} (λ _. new) (Err stop) (behind old one) → Gives f result all
+page_stops B f old new all more one stop (Ok x) is e gives = absurd is
+page_stops {A} B f old new all more one stop (Err x) is e gives = subst (λ s. Gives {A = A} f (Err s) all) (sym is) (by_stop stop gives)
   where
-    by_stop : (stop : Stop) → Gives {A = Unit {0}} (λ _. new) (Err stop) (behind old one) → Gives {A = A} f (Err stop) all
+    by_stop : (stop : Stop) → Gives {A = B} (λ _. new) (Err stop) (behind old one) → Gives {A = A} f (Err stop) all
     by_stop (Refused refusal) gives = e ∙ behind-then old one more ∙ ap (λ (r : Result (List ℕ) Refusal). r >>= λ bytes. behind bytes more) gives
     by_stop NoMemory gives = tt
     by_stop DiskFailed gives = tt
@@ -170,12 +194,12 @@ page_stops {A} f old new all more one stop (Err x) is e gives = subst (λ s. Giv
 pub page_given : (old new : List ℕ) (all more one : Result (List ℕ) Refusal) → all ≡ behind old (one >>= λ bytes. behind bytes more) → behind old one ≡ Ok new → all ≡ behind new more
 page_given old new all more one e gives = e ∙ behind-then old one more ∙ ap (λ (r : Result (List ℕ) Refusal). r >>= λ bytes. behind bytes more) gives
 
--- the bytes so far are no more than the range has up to the page
-pub fits_more : (p : IndexPages) (i from to : ℕ) (old new : List ℕ) → from ≤ to → start_by p i < to → Grows p i from to old new → length old ≤ min to (max from (start_by p i)) - from
-    → length new ≤ min to (max from (start_by p (i + 1))) - from
-fits_more p i from to old new order low grows size =
+-- the bytes so far are no more than those before and what the range has up to the page
+pub fits_more : (p : IndexPages) (i from to before : ℕ) (old new : List ℕ) → from ≤ to → start_by p i < to → Grows p i from to old new → length old ≤ before + (min to (max from (start_by p i)) - from)
+    → length new ≤ before + (min to (max from (start_by p (i + 1))) - from)
+fits_more p i from to before old new order low grows size =
     let next = stops_next p i in
-    omega (arith, order, low, grows.size, grows.rises, size, ap (λ n. min to (max from n) - from) next)
+    omega (arith, order, low, grows.size, grows.rises, size, ap (λ n. before + (min to (max from n) - from)) next)
 
 pub if_err : {A : Type 0} {P Q : Stop → Type 0} (result : Result A Stop) → ((stop : Stop) → P stop → Q stop) → IfErr result P → IfErr result Q
 if_err (Ok x) f h = tt

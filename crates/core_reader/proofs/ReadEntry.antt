@@ -41,7 +41,7 @@ use Rattle.store_stops.specs.declared.stop.Stop.{Stop}
 use Rattle.snapshot_files.proofs.Archives.{blob_no_dynamic, blob_no_fixed, layout_index}
 use Rattle.chunk_store.specs.Pieces.{IsHeld}
 use Rattle.core_state.specs.declared.indexes.Indexes.{Indexes}
-use Rattle.core_state.specs.declared.indexes.Indexes.TheVariants.{Unread, Pooled, Opened}
+use Rattle.core_state.specs.declared.indexes.Indexes.TheVariants.{Unread, Pooled, Opened, LastPage}
 use Rattle.core_state.specs.declared.indexes.OpenIndex.{OpenIndex}
 use Rattle.core_state.specs.declared.indexes.OpenPage.{OpenPage}
 use Rattle.store_files.specs.DynamicIndex.{Ended}
@@ -67,7 +67,7 @@ use Rattle.core_reader.specs.Chunks.{StopsAt, bytes_at, bytes_in}
 use Rattle.core_reader.specs.Damages.{asked_damage, bytes_damage, entry_damage}
 use Rattle.core_reader.specs.declared.entries.Turn.{Turn}
 use Rattle.core_reader.specs.declared.entries.Turn.TheVariants.{Stay, ToPage, ToIndex}
-use Rattle.core_reader.specs.Entries.{IsPageFor, IsTurn, IsTurnOf, ReadsPage, ReadsTurn, ReadsTurnOf, at_hand, count_of, digest_among, entry_by, entry_of, page_with, turned, turned_to}
+use Rattle.core_reader.specs.Entries.{IsPageFor, IsTurn, IsTurnOf, ReadsPage, ReadsTurn, ReadsTurnOf, at_hand, count_of, digest_among, entry_by, entry_of, page_for, turned, turned_to}
 use Rattle.core_reader.proofs.EntryTold.{IsPageAt, entry_first, entry_later, page_there}
 use Rattle.core_state.proofs.KeptPages.{index_is_kept, index_opens}
 use Rattle.core_reader.proofs.Held.{pieces_held}
@@ -170,6 +170,7 @@ module _ (m : Files) (snapshots : List Snapshot) (key : SnapshotKey) (name path 
     each_open : (x : Indexes) → FitsRow snapshots (reader r) x → All (IsOpened key (files_named key snapshots)) (opened_of x)
     each_open Unread fit = All-nil (IsOpened key (files_named key snapshots))
     each_open (Pooled names) fit = absurd fit
+    each_open (LastPage p) fit = All-nil (IsOpened key (files_named key snapshots))
     each_open (Opened o) fit = subst (λ k. All (IsOpened k (files_named k snapshots)) o.opened) keyed fit.each
 
     -- one that is open has its pages
@@ -192,7 +193,7 @@ module _ (m : Files) (snapshots : List Snapshot) (key : SnapshotKey) (name path 
         let same : here.one ≡ a = same_archive here.one (ap (content_at (files_named key snapshots)) (sym named) ∙ here.named) in
         here.entries ∙ ap (λ (b : Archive). take 1024 (drop (p.number * 1024) (ends_from 0 b.pieces))) same
 
-    hand_fits : (place : ℕ) (o : Option OpenPage) → page_of name row ≡ o → IsPageAt m path kept_pages piece_ends archive_index place (page_with place o)
+    hand_fits : (place : ℕ) (o : Option OpenPage) → page_of name row ≡ o → IsPageAt m path kept_pages piece_ends archive_index place (page_for place o)
     hand_fits place None e = tt
     hand_fits place (Some p) e = by_number (p.number == place / 1024) refl
       where
@@ -217,6 +218,7 @@ module _ (m : Files) (snapshots : List Snapshot) (key : SnapshotKey) (name path 
     paged : (p : OpenPage) (x : Indexes) → FitsRow snapshots (reader r) x → IsPageOf (files_named key snapshots) p → FitsRow snapshots (reader r) (turned_to p x)
     paged p Unread fit is = tt
     paged p (Pooled names) fit is = absurd fit
+    paged p (LastPage x) fit is = fit
     paged p (Opened o) fit is = record { each = fit.each; page = subst (λ k. IsPageOf (files_named k snapshots) p) (sym keyed) is }
 
     opened_first : (o : OpenIndex) (p : OpenPage) → o.name ≡ name → o.pages ≡ kept_pages → IsPageOf (files_named key snapshots) p → FitsRow snapshots (reader r) (turned (ToIndex o p) row)

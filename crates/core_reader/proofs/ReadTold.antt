@@ -9,9 +9,7 @@ use Rattle.store_types.specs.Chain.Refusing.{◌>>=◌}
 use Rattle.store_types.specs.FileNames.{is_index_name}
 use Rattle.wire_commands.specs.declared.reply.Reply.{Reply}
 use Rattle.wire_commands.specs.declared.reply.Reply.TheVariants.{Data}
-use Rattle.paged_indexes.specs.declared.kinds.IndexKind.{IndexKind}
 use Rattle.snapshot_files.specs.Parts.{part_reply}
-use Rattle.snapshot_files.specs.Indexes.{kind_of_index}
 use Rattle.core_state.specs.declared.indexes.Indexes.{Indexes}
 use Rattle.core_state.specs.Indexed.{row_at}
 use Rattle.core_reader.specs.Entries.{entry_by}
@@ -35,7 +33,7 @@ use Rattle.core_reader.proofs.Telling.{as_reply}
 -- ---- how a read stops
 
 -- it is refused as is wanted
-stop_told : (wanted : Result Reply Refusal) (stop : Stop) (result : Result Reply Stop) → Stops result stop → Gives {A = Reply} (λ reply. reply) (Err stop) wanted
+pub stop_told : (wanted : Result Reply Refusal) (stop : Stop) (result : Result Reply Stop) → Stops result stop → Gives {A = Reply} (λ reply. reply) (Err stop) wanted
     → IfOk (told result) (λ reply. reply ≡ reply_told wanted)
 stop_told wanted stop result stops gives = stopped (λ r. IfOk (told r) (λ reply. reply ≡ reply_told wanted)) result stop stops (by_stop stop gives)
   where

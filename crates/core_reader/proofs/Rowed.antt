@@ -18,11 +18,12 @@ use Rattle.core_state.specs.declared.entering.Place.{Place}
 use Rattle.core_state.specs.declared.indexes.Indexes.{Indexes}
 use Rattle.core_state.specs.declared.indexes.Indexes.TheVariants.{Unread}
 use Rattle.core_state.specs.declared.parts.Parts.{Parts}
-use Rattle.core_state.specs.Commands.{keeps_row}
+use Rattle.core_state.specs.Commands.{keeps_row, row_stays}
 use Rattle.core_state.specs.Holds.{Holds}
 use Rattle.core_state.specs.Indexed.{FitsRow, FitsRows, row_at, row_in}
 use Rattle.core_state.specs.Wanted.{session_at}
 use Rattle.core_state.proofs.Rows.{rows_but, rows_put}
+use Rattle.core_state.proofs.Sessions.{by_lane}
 use Rattle.core_reader.specs.declared.entries.Turn.{Turn}
 use Rattle.core_reader.specs.Entries.{IsTurn, ReadsTurn, entry_by}
 use Rattle.core_reader.specs.NotesEntry.{NotesEntry, is_found, kept_by}
@@ -100,7 +101,7 @@ found_by {A} stop read (Err x) was stops = subst (λ (y : Stop). is_found {A = R
 
 module _ {D : Type 0} (d : Ghosts D) (old new : Parts D) (at : Place) (name : List ℕ) (place : ℕ) (lt : at.lane < 64) where
   -- it stopped before
-  pub notes_none : (stop : Stop) (result : Result Reply Stop) → IsErrAnd result (λ x. x ≡ stop) → IfRefused IsNoDamage stop → new.indexes.items ≡ old.indexes.items → NotesEntry d old new at name place result
+  pub notes_none : (stop : Stop) (result : Result Reply Stop) → IsErrAnd result (λ x. x ≡ stop) → IfRefused IsNoDamage stop → new.indexes.items ≡ old.indexes.items → NotesEntry d old new at.lane name place result
   notes_none stop result stops none same = record {
     stays = λ _. ap (λ rows. row_in rows at.lane) same;
     turns = λ found. absurd (false_true (sym (unfound_by stop result stops none) ∙ found));
@@ -136,7 +137,22 @@ module _ {D : Type 0} (d : Ghosts D) (old : Parts D) (rows : List Indexes) (at :
   pub row_leaves : (i : ℕ) → (i ≡ at.lane → keeps_row (ReadChunk name place) ≡ true) → row_in rows i ≡ row_at old i
   row_leaves = rows_but old rows at.lane (ReadChunk name place) left refl l
 
-  pub notes_kept : (new : Parts D) → new.indexes.items ≡ rows → (result : Result Reply Stop) → is_found result ≡ b → NotesEntry d old new at name place result
+  unfound : (stop : Stop) → row_stays (Err stop) (ReadChunk name place) ≡ true → is_found {A = Reply} (Err stop) ≡ false
+  unfound (Refused refusal) stays = by_refusal refusal stays
+    where
+      by_refusal : (refusal : Refusal) → row_stays (Err (Refused refusal)) (ReadChunk name place) ≡ true → is_found {A = Reply} (Err (Refused refusal)) ≡ false
+      by_refusal (Damaged digest fault) stays = cc
+      by_refusal _ stays = refl
+  unfound NoMemory stays = refl
+  unfound DiskFailed stays = refl
+
+  -- where it stopped by this, the lane keeps what it kept, but by a damaged chunk
+  pub row_stopped : (stop : Stop) → is_found {A = Reply} (Err stop) ≡ b → (i : ℕ) → (i ≡ at.lane → row_stays (Err stop) (ReadChunk name place) ≡ true) → row_in rows i ≡ row_at old i
+  row_stopped stop told i stays =
+      by_lane i at.lane (row_in rows i ≡ row_at old i)
+      (λ here. subst (λ n. row_in rows n ≡ row_at old n) (sym here) (row_is ∙ ap (λ x. kept_by x turn (row_at old at.lane)) (sym told ∙ unfound stop (stays here)))) (λ other. row_leaves i (λ here. absurd (other here)))
+
+  pub notes_kept : (new : Parts D) → new.indexes.items ≡ rows → (result : Result Reply Stop) → is_found result ≡ b → NotesEntry d old new at.lane name place result
   notes_kept new same_rows result told = record {
     stays = λ none. ap (λ xs. row_in xs at.lane) same_rows ∙ row_is ∙ ap (λ x. kept_by x turn (row_at old at.lane)) (sym told ∙ none);
     turns = λ there. (

@@ -36,7 +36,7 @@ use Rattle.core_state.specs.Unreadables.{Asked, TellsUnreadable, part_read, read
 use Rattle.core_state.specs.Unchanged.{SameKept, is_uncalled}
 use Rattle.store_stops.specs.declared.stop.Stop.TheVariants.{Refused, NoMemory, DiskFailed}
 use Rattle.core_state.proofs.Unreadables.{refusal_called, tells_failed, tells_other, tells_read}
-use Rattle.core_reader.specs.Asked.{GivesIndex}
+use Rattle.core_reader.specs.Asked.{GivesTable}
 use Rattle.core_reader.specs.declared.downloading.Given.{Given}
 
 -- ---- what a read stops by
@@ -180,17 +180,17 @@ part_stop m path q offset whole e is none gives = subst (λ w. Gives {A = Reply}
 pub part_got : (m : Files) (path q : List ℕ) (offset : ℕ) (whole : Option IndexKind) (part : Reply) → q ≡ path → whole ≡ None → part_at m q offset ≡ Ok part → read_by whole m path offset ≡ Ok part
 part_got m path q offset whole part is none gives = sym (part_asked m path q offset whole is none) ∙ gives
 
-pub index_stop : (m : Files) (path q : List ℕ) (offset : ℕ) (of_kind : IndexKind) (whole : Option IndexKind) (e : Stop) → q ≡ path → whole ≡ Some of_kind → GivesIndex m q of_kind offset (Err e)
+pub index_stop : (m : Files) (path q : List ℕ) (offset : ℕ) (of_kind : IndexKind) (whole : Option IndexKind) (e : Stop) → q ≡ path → whole ≡ Some of_kind → GivesTable m q of_kind offset (Err e)
     → Gives {A = Reply} (λ part. part) (Err e) (read_by whole m path offset)
 index_stop m path q offset of_kind whole e is some gives = subst (λ w. Gives {A = Reply} (λ part. part) (Err e) w) (index_asked m path q offset of_kind whole is some) (index_part e gives)
   where
-    index_part : (e : Stop) → GivesIndex m q of_kind offset (Err e) → Gives {A = Reply} (λ part. part) (Err e) (index_at m q of_kind offset >>= λ x. Ok x.part)
+    index_part : (e : Stop) → GivesTable m q of_kind offset (Err e) → Gives {A = Reply} (λ part. part) (Err e) (index_at m q of_kind offset >>= λ x. Ok x.part)
     index_part (Refused refusal) is = ap (λ (w : Result Indexed Refusal). w >>= λ x. Ok x.part) is
     index_part NoMemory is = tt
     index_part DiskFailed is = tt
 
 -- what an index stops by
-pub table_stops : (m : Files) (q : List ℕ) (of_kind : IndexKind) (offset : ℕ) (P : Refusal → Type 0) (e : Stop) → GivesIndex m q of_kind offset (Err e)
+pub table_stops : (m : Files) (q : List ℕ) (of_kind : IndexKind) (offset : ℕ) (P : Refusal → Type 0) (e : Stop) → GivesTable m q of_kind offset (Err e)
     → ((r : Refusal) → index_at m q of_kind offset ≡ Err r → P r) → IfRefused P e
 table_stops m q of_kind offset P (Refused refusal) gives so = so refusal gives
 table_stops m q of_kind offset P NoMemory gives so = tt
@@ -201,11 +201,11 @@ index_got m path q offset of_kind whole x is some gives = sym (index_asked m pat
 
 -- an index that is not read
 pub table_unread : (m : Files) (q : List ℕ) (of_kind : IndexKind) (offset : ℕ) (result : Result Given Stop) (e : Stop) → IsErrAnd result (λ x. x ≡ e) → IfRefused (λ r. index_at m q of_kind offset ≡ Err r) e
-    → GivesIndex m q of_kind offset result
+    → GivesTable m q of_kind offset result
 table_unread m q of_kind offset (Ok g) e is h = absurd is
-table_unread m q of_kind offset (Err x) e is h = subst (λ s. GivesIndex m q of_kind offset (Err s)) (sym is) (by_stop e h)
+table_unread m q of_kind offset (Err x) e is h = subst (λ s. GivesTable m q of_kind offset (Err s)) (sym is) (by_stop e h)
   where
-    by_stop : (e : Stop) → IfRefused (λ r. index_at m q of_kind offset ≡ Err r) e → GivesIndex m q of_kind offset (Err e)
+    by_stop : (e : Stop) → IfRefused (λ r. index_at m q of_kind offset ≡ Err r) e → GivesTable m q of_kind offset (Err e)
     by_stop (Refused r) h = h
     by_stop NoMemory h = tt
     by_stop DiskFailed h = tt

@@ -1,4 +1,5 @@
--- What OPEN_READER answers by what the core keeps, on any disk, and that it opens; what a VERIFY's reads answer by what stands on an honest one.
+-- What OPEN_READER answers by what the core keeps, on any disk, and that it opens; what a RANGE and a VERIFY's reads answer by what stands on
+-- an honest one.
 use Rattle.disk_trait.specs.declared.disk.Disk.{Ghosts}
 use Rattle.std.specs.Prelude.{◌≡◌, ℕ, true, List, Result, Ok, OnOk}
 use Rattle.disk_trait.specs.Files.{Files}
@@ -6,7 +7,7 @@ use Rattle.lock_book.specs.Locks.{Locks}
 use Rattle.store_types.specs.declared.refusal.Refusal.{Refusal}
 use Rattle.store_types.specs.declared.refusal.Refusal.TheVariants.{Unreadable}
 use Rattle.store_types.specs.Chain.Refusing.{◌>>=◌, if_none}
-use Rattle.wire_commands.specs.declared.command.Command.TheVariants.{OpenReader}
+use Rattle.wire_commands.specs.declared.command.Command.TheVariants.{OpenReader, Range}
 use Rattle.wire_commands.specs.declared.reply.Reply.{Reply}
 use Rattle.wire_commands.specs.declared.reply.Reply.TheVariants.{Data, Done}
 use Rattle.store_history.specs.declared.act.Act.{Act}
@@ -28,6 +29,7 @@ use Rattle.core_state.specs.declared.indexes.Indexes.{Indexes}
 use Rattle.core_state.specs.Indexed.{row_at}
 use Rattle.core_reader.specs.Chunks.{bytes_at}
 use Rattle.core_reader.specs.Entries.{entry_by}
+use Rattle.core_reader.specs.Ranges.{range_told}
 use Rattle.core_reader.specs.ReaderActs.{CoreOpens}
 
 -- where no file is known to make it damaged
@@ -50,6 +52,10 @@ chunk_told row name place files lane session catalogue locks = do
   bytes ← bytes_at files digest
   Ok (Data bytes)
 
+-- the bytes of a range, beside what the lane keeps of indexes, by its index as it was opened and by what stands there, or the refusal
+abbrev pub bytes_told : Indexes → List ℕ → ℕ → ℕ → Files → ℕ → Session → List Listed → Locks → Result Reply Refusal
+bytes_told row file offset len files lane session catalogue locks = range_told row file offset len files session catalogue >>= λ bytes. Ok (Data bytes)
+
 -- an OPEN_READER that is done is answered by what the core keeps, on any disk, and the lane then has a reader
 pub record ActOpens {D : Type 0} (snapshot : List ℕ) (old new : Parts D) (at : Place) (result : Result Reply Stop) : Type 0 where
   pub answers : ActTells (reader_told snapshot) old at result
@@ -62,6 +68,7 @@ ActReads d wanted old at result = d.honest old.disk → ActTells (wanted (d.cont
 -- so are these of the acts of readers
 abbrev pub ActAnswersBy : {D : Type 0} → Ghosts D → Parts D → Parts D → Place → Act → Result Reply Stop → Type 0
 ActAnswersBy d old new at (Plain (OpenReader snapshot)) result = ActOpens snapshot old new at result
+ActAnswersBy d old new at (Plain (Range file offset len)) result = ActReads d (bytes_told (row_at old at.lane) file offset len) old at result
 ActAnswersBy d old new at (ReadFile name offset) result = ActReads d (part_told name offset) old at result
 ActAnswersBy d old new at (ReadChunk name entry) result = ActReads d (chunk_told (row_at old at.lane) name entry) old at result
 ActAnswersBy d old new at act result = Unit {0}
@@ -76,6 +83,7 @@ CoreReads d wanted old lane answer = d.honest (old.parts).disk → CoreTells (wa
 
 abbrev pub CoreAnswersBy : {D E C : Type 0} → Ghosts D → Core D E C → Core D E C → ℕ → Act → Answer → Type 0
 CoreAnswersBy d old new lane (Plain (OpenReader snapshot)) answer = CoreOpensBy snapshot old new lane answer
+CoreAnswersBy d old new lane (Plain (Range file offset len)) answer = CoreReads d (bytes_told (row_at old.parts lane) file offset len) old lane answer
 CoreAnswersBy d old new lane (ReadFile name offset) answer = CoreReads d (part_told name offset) old lane answer
 CoreAnswersBy d old new lane (ReadChunk name entry) answer = CoreReads d (chunk_told (row_at old.parts lane) name entry) old lane answer
 CoreAnswersBy d old new lane act answer = Unit {0}

@@ -41,7 +41,7 @@ use Rattle.core_reader.specs.declared.downloading.AskedFile.{AskedFile}
 use Rattle.core_reader.specs.declared.downloading.Given.{Given}
 use Rattle.core_state.specs.declared.indexes.Indexes.{Indexes}
 use Rattle.core_reader.specs.Entries.{entry_by}
-use Rattle.core_reader.specs.Ranges.{Ranged, range_asked, range_at}
+use Rattle.core_reader.specs.Ranges.{RangeAsked, range_asked, range_with}
 
 -- ---- the snapshot
 
@@ -117,12 +117,12 @@ asked_entry row name place session catalogue = option_map (as_entry row name pla
 
 -- ---- a range
 
--- the index, of which the pages are read from one offset up to another, and their chunks
-abbrev pub as_range : ℕ → ℕ → Ranged → Asked
-as_range from to a = record { path = a.path; way = read_with (λ m path. range_at m a from to >>= λ bytes. Ok (Data bytes)) }
+-- the index, of which the pages that are not at hand are read from one offset up to another, and the chunks of each
+abbrev pub as_range : ℕ → ℕ → RangeAsked → Asked
+as_range from to q = record { path = (q.index).path; way = read_with (λ m path. range_with m q from to >>= λ bytes. Ok (Data bytes)) }
 
-abbrev pub asked_range : List ℕ → ℕ → ℕ → Session → List Listed → Option Asked
-asked_range file offset len session catalogue = option_map (as_range offset (offset + len)) (result_ok (range_asked file offset len session catalogue))
+abbrev pub asked_range : Indexes → List ℕ → ℕ → ℕ → Session → List Listed → Option Asked
+asked_range row file offset len session catalogue = option_map (as_range offset (offset + len)) (result_ok (range_asked row file offset len session catalogue))
 
 -- ---- by the act
 
@@ -130,7 +130,7 @@ asked_range file offset len session catalogue = option_map (as_range offset (off
 abbrev pub asked_file : Indexes → Act → Session → List Listed → Option Asked
 asked_file row (Plain (OpenReader snapshot)) session catalogue = asked_open snapshot session catalogue
 asked_file row (Plain (Download file offset)) session catalogue = asked_download file offset session catalogue
-asked_file row (Plain (Range file offset len)) session catalogue = asked_range file offset len session catalogue
+asked_file row (Plain (Range file offset len)) session catalogue = asked_range row file offset len session catalogue
 asked_file row (ReadFile name offset) session catalogue = asked_part name offset session catalogue
 asked_file row (ReadChunk name entry) session catalogue = asked_entry row name entry session catalogue
 asked_file row act session catalogue = None
@@ -154,13 +154,13 @@ pub record IsGiven (content : Files) (path : List ℕ) (of_kind : IndexKind) (of
   pub table : IsTable g.table 0 entries
 
 -- or its refusal
-abbrev pub GivesIndex : Files → List ℕ → IndexKind → ℕ → Result Given Stop → Type 0
-GivesIndex content path of_kind offset (Ok g) = IsGiven content path of_kind offset g
-GivesIndex content path of_kind offset (Err (stops.Refused refusal)) = index_at content path of_kind offset ≡ Err refusal
-GivesIndex content path of_kind offset (Err stop) = Unit {0}
+abbrev pub GivesTable : Files → List ℕ → IndexKind → ℕ → Result Given Stop → Type 0
+GivesTable content path of_kind offset (Ok g) = IsGiven content path of_kind offset g
+GivesTable content path of_kind offset (Err (stops.Refused refusal)) = index_at content path of_kind offset ≡ Err refusal
+GivesTable content path of_kind offset (Err stop) = Unit {0}
 
 abbrev pub ReadsTable : {D : Type 0} → Ghosts D → D → List ℕ → IndexKind → ℕ → Result Given Stop → Type 0
-ReadsTable d disk path of_kind offset result = d.honest disk → GivesIndex (d.content disk) path of_kind offset result
+ReadsTable d disk path of_kind offset result = d.honest disk → GivesTable (d.content disk) path of_kind offset result
 
 -- the reader with an archive noted, unless one of the name is
 abbrev pub noting : List ℕ → Table → IndexPages → Session → Session

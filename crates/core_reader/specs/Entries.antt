@@ -14,7 +14,7 @@ use Rattle.restore_reader.specs.Plan.{ends_of}
 use Rattle.core_state.specs.declared.indexes.OpenIndex.{OpenIndex}
 use Rattle.core_state.specs.declared.indexes.OpenPage.{OpenPage}
 use Rattle.core_state.specs.declared.indexes.Indexes.{Indexes}
-use Rattle.core_state.specs.declared.indexes.Indexes.TheVariants.{Unread, Pooled, Opened}
+use Rattle.core_state.specs.declared.indexes.Indexes.TheVariants.{Unread, Pooled, Opened, LastPage}
 use Rattle.core_state.specs.Indexed.{open_of, opened_of, page_of}
 use Rattle.core_reader.specs.declared.entries.Turn.{Turn}
 use Rattle.core_reader.specs.declared.entries.Turn.TheVariants.{Stay, ToPage, ToIndex}
@@ -42,13 +42,13 @@ abbrev pub digest_on : List ℕ → ℕ → List Ended → Result Digest32 Refus
 digest_on path place entries = or_else (Unreadable path) (digest_among entries (place % 1024))
 
 -- the page, where it is the one that has the entry
-abbrev pub page_with : ℕ → Option OpenPage → Option OpenPage
-page_with place None = None
-page_with place (Some p) = if p.number == place / 1024 then Some p else None
+abbrev pub page_for : ℕ → Option OpenPage → Option OpenPage
+page_for place None = None
+page_for place (Some p) = if p.number == place / 1024 then Some p else None
 
 -- the page of the index of this name that has the entry, where it is at hand
 abbrev pub at_hand : Indexes → List ℕ → ℕ → Option OpenPage
-at_hand row name place = page_with place (page_of name row)
+at_hand row name place = page_for place (page_of name row)
 
 -- its entries are not read again: a page has 1,024 at the most
 abbrev pub entries_on : Option OpenPage → ℕ → Files → List ℕ → IndexPages → Result (List Ended) Refusal
@@ -131,6 +131,7 @@ abbrev pub turned_to : OpenPage → Indexes → Indexes
 turned_to p Unread = Unread
 turned_to p (Pooled names) = Pooled names
 turned_to p (Opened o) = Opened (record { opened = o.opened; page = p })
+turned_to p (LastPage x) = LastPage x
 
 abbrev pub turned : Turn → Indexes → Indexes
 turned Stay row = row

@@ -1,9 +1,11 @@
 -- How an entry of an index is read.
-use Rattle.std.specs.Prelude.{ℕ, ◌/◌, List, Option, Result, IfOk}
+use Rattle.std.specs.Prelude.{◌≡◌, ℕ, ◌-◌, ◌/◌, List, length, take, drop, Option, Result, IfOk}
 use Rattle.disk_trait.specs.declared.disk.Disk.{Ghosts}
 use Rattle.store_types.specs.declared.names.Digest32.{Digest32}
 use Rattle.store_types.specs.declared.refusal.Refusal.{Refusal}
 use Rattle.disk_trait.specs.Files.{Files}
+use Rattle.store_files.specs.Cells.{entry_limit}
+use Rattle.store_files.specs.DynamicIndex.{Ended}
 use Rattle.paged_indexes.specs.declared.index.IndexPages.{IndexPages}
 use Rattle.paged_indexes.specs.declared.kinds.IndexEntry.{IndexEntry}
 use Rattle.snapshot_files.specs.Indexes.{kind_of_index, page_entries}
@@ -13,11 +15,19 @@ use Rattle.store_stops.specs.Stops.{Gives}
 use Rattle.core_state.specs.declared.indexes.OpenPage.{OpenPage}
 use Rattle.core_state.specs.declared.indexes.Indexes.{Indexes}
 use Rattle.core_reader.specs.declared.entries.Found.{Found}
+use Rattle.core_reader.specs.declared.entries.PageTaken.{PageTaken}
 use Rattle.core_reader.specs.Entries.{ReadsFirst, ReadsNext, ReadsTurn, digest_on, entry_at, entry_by, entry_on}
 
 -- the digest is the entry's
 abbrev pub GivesDigest : List ℕ → List IndexEntry → ℕ → Result Digest32 Stop → Type 0
 GivesDigest path es place result = Gives (λ (digest : Digest32). digest) result (digest_on path place (ends_of es))
+
+-- ---- a page that is taken as its index is opened
+
+-- The entries are those behind the first 1,048,576, of one page: so many are still passed over.
+pub record IsTaken (p : PageTaken) (entries : List Ended) : Type 0 where
+  pub skipped : p.skip ≡ entry_limit - length entries
+  pub taken : ends_of p.entries.items ≡ take 1024 (drop entry_limit entries)
 
 -- ---- of an honest disk
 

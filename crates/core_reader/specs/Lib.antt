@@ -5,5 +5,9 @@ pub mod Entries
 pub mod EntryReads
 pub mod Asked
 pub mod NotesEntry
+pub mod NotesRange
+pub mod NotesIndex
+pub mod Notes
+pub mod Unread
 pub mod AnsweredBy
 pub mod Damages

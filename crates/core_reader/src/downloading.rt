@@ -10,6 +10,7 @@ ghost use Rattle.snapshot_files.specs.Parts.{PartHasText, RefusesPart};
 ghost use Rattle.snapshot_files.specs.Reads.{StopHasText};
 ghost use Rattle.store_stops.specs.Stops.{IfRefused};
 ghost use Rattle.core_reader.specs.Asked.{GivesFile, NotesPlainly, ReadsTable, asked_download, noting, whole_for};
+ghost use Rattle.core_reader.specs.NotesIndex.{NotesIndex};
 
 use core_state::{Parts, Place, Session};
 use disk_trait::Disk;
@@ -128,6 +129,8 @@ pub fn download<D: Disk>(
     ensures leaves { PlainLeaves D.Disk parts.old parts.new at (Download file.now offset) result }
     // it is unreadable exactly where nothing stands there, or where what is read whole is no index, as far as the disk tells
     ensures unreadable { ActUnreadable D.Disk (asked_download file.now offset) parts.old at result }
+    // what is noted of an index that was read whole is what was opened and read
+    ensures notes { NotesIndex D.Disk parts.old parts.new at.lane file.now offset result }
 {
     let asked = asked_file(parts, alloc, at.lane, file)?;
     let Some(kind) = asked.whole else {

@@ -11,20 +11,20 @@ ghost use Rattle.store_stops.specs.Stops.{IfRefused};
 ghost use Rattle.store_stops.specs.declared.stop.Stop.TheVariants.{DiskFailed};
 ghost use Rattle.core_state.specs.Indexed.{open_of};
 ghost use Rattle.core_reader.specs.Entries.{IsFirst, IsNext, IsPageFor, IsTurn, at_hand, count_of, turned, want_entry};
-ghost use Rattle.core_reader.specs.EntryReads.{FindsBy, FindsFirst, FindsNext, GivesDigest, GivesPage};
+ghost use Rattle.core_reader.specs.EntryReads.{FindsBy, FindsFirst, FindsNext, GivesDigest, GivesPage, IsTaken};
 ghost use Rattle.core_reader.specs.declared.entries.Turn.TheVariants.{ToIndex};
 
 use crate::paging::page_entries;
 use core_state::{Indexes, OpenIndex, OpenIndexes, OpenPage};
 use disk_trait::Disk;
-use paged_indexes::{IndexEntry, IndexPages, Nothing, Page};
+use paged_indexes::{IndexEntry, IndexPages, Page, TakesEntries};
 use snapshot_files::{index_kind, open_index, unreadable};
 use std::alloc::{AllocError, Global};
 use store_stops::Stop;
 use store_types::{Digest32, FileName, Refusal, Rows};
 
 /// How many entries a page has at the most.
-const PAGE_ENTRIES: u32 = 1024;
+const PAGE_ENTRIES: u32 = index_pages::PAGE_ENTRIES as u32;
 
 /// What is opened and read for an entry.
 #[derive(Drop)]
@@ -107,7 +107,31 @@ fn read_page<D: Disk>(
     })
 }
 
-/// The entry of the index at the path, which is opened for it.
+/// The entries of one page, as its index is opened: those before it are passed over, and those behind it.
+#[derive(Drop)]
+pub struct PageTaken {
+    /// So many entries are still to be passed over.
+    pub skip: u32,
+    /// 1,024 at most.
+    pub entries: Vec<IndexEntry>,
+}
+
+impl TakesEntries for PageTaken {
+    ghost taken = { λ p base entries. IsTaken p entries };
+
+    fn take(&mut self, _start: u64, entry: &IndexEntry) -> Result<(), AllocError> {
+        if self.skip > 0 {
+            self.skip -= 1;
+            return Ok(());
+        }
+        if self.entries.len() < PAGE_ENTRIES as usize {
+            self.entries.push(*entry)?;
+        }
+        Ok(())
+    }
+}
+
+/// The entry of the index at the path, which is opened for it: its page is taken as it is read.
 fn find_first<D: Disk>(
     disk: &mut D,
     alloc: Global,
@@ -123,11 +147,20 @@ fn find_first<D: Disk>(
     ensures kind { IfErr result (IfRefused (RefusesPart path.now)) }
     ensures text { IfErr result StopHasText }
 {
-    let pages = open_index(disk, alloc, path, index_kind(name), &mut Nothing)?;
+    let number = place / PAGE_ENTRIES;
+    let mut taken = PageTaken {
+        skip: number * PAGE_ENTRIES,
+        entries: Vec::new(alloc),
+    };
+    let pages = open_index(disk, alloc, path, index_kind(name), &mut taken)?;
     want_entry(&pages, place)?;
-    let page = read_page(disk, alloc, path, &pages, name, place)?;
-    let digest = digest_on(alloc, path, &page.entries, place)?;
+    let digest = digest_on(alloc, path, &taken.entries, place)?;
     let name = name.clone()?;
+    let page = OpenPage {
+        name: name.clone()?,
+        number,
+        entries: taken.entries,
+    };
     Ok(Found {
         digest,
         turn: Turn::ToIndex(OpenIndex { name, pages }, page),

@@ -110,7 +110,7 @@ pub fn read_chunk<D: Disk>(
         (asked_entry (row_at parts.old at.lane) name.now entry) parts.old at result }
     ensures damaged { ActDamaged D.Disk parts.old at (ReadChunk name.now entry) result }
     // what the lane keeps of indexes then
-    ensures notes { NotesEntry D.Disk parts.old parts.new at name.now entry result }
+    ensures notes { NotesEntry D.Disk parts.old parts.new at.lane name.now entry result }
 {
     let path = path_of(parts, alloc, at.lane, name)?;
     if !name.is_index() {

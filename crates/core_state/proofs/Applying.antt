@@ -32,12 +32,13 @@ use Rattle.core_state.specs.Applies.{ActApplies, ActKeeps, IsClearFor, IsDone}
 use Rattle.core_state.specs.Begins.{AdmittedHasText, IsAdmitted, IsNotShort, IsReady, IsShort, ReadsClock, Refuses, short, halted}
 use Rattle.core_state.specs.Changes.{Change, IsFirm, LeavesChange, after, by_reply, by_stop, stays}
 use Rattle.core_state.specs.Catalogue.{listed_by}
-use Rattle.core_state.specs.Closing.{HasClosed, closes, closes_by, is_closing, is_writer}
+use Rattle.core_state.specs.Closing.{HasClosed, HasEnded, closes, closes_by, is_closing, is_writer}
 use Rattle.core_state.specs.Collectors.{collector_by}
-use Rattle.core_state.specs.Commands.{ActDoes, ActLeaves, IsNoRefusal, change_at, is_still, is_collectors, is_step}
+use Rattle.core_state.specs.Commands.{ActDoes, ActLeaves, IsNoRefusal, change_at, is_still, is_collectors, is_step, keeps_row, row_stays, row_stays_by}
 use Rattle.core_state.specs.Entering.{held_by}
 use Rattle.core_state.specs.History.{History, event_of, pieces_of, then_event, world}
 use Rattle.core_state.specs.Holds.{Holds}
+use Rattle.core_state.specs.Indexed.{row_at}
 use Rattle.core_state.specs.Records.{IsTimely}
 use Rattle.core_state.specs.Replies.{may_answer}
 use Rattle.core_state.specs.Settles.{Settles, fault_by, kind_by, reply_by, with_fault}
@@ -85,6 +86,21 @@ done_told P (Ok reply) p plain = p
 done_told P (Err (Refused refusal)) p plain = absurd plain
 done_told P (Err NoMemory) p plain = absurd plain
 done_told P (Err DiskFailed) p plain = absurd plain
+
+-- what is kept of indexes, by the reply as by how the act ended
+refused_row : (act : Act) (refusal : Refusal) → row_stays_by (Some (replies.Refused refusal)) act ≡ true → row_stays (Err (Refused refusal)) act ≡ true
+refused_row act (refusals.Damaged digest fault) is = is
+refused_row act refusal is = refl
+
+done_row : (act : Act) (reply : Reply) → IsNoRefusal reply → row_stays_by (Some reply) act ≡ keeps_row act
+done_row act (replies.Refused refusal) plain = absurd plain
+done_row act reply plain = refl
+
+row_told : (act : Act) (result : Result Reply Stop) → IfOk result IsNoRefusal → row_stays_by (Some (reply_by (told result))) act ≡ true → row_stays result act ≡ true
+row_told act (Ok reply) plain is = sym (done_row act reply plain) ∙ is
+row_told act (Err (Refused refusal)) plain is = refused_row act refusal is
+row_told act (Err NoMemory) plain is = refl
+row_told act (Err DiskFailed) plain is = refl
 
 pub no_fault : (result : Result Reply Stop) → (Some (reply_by (told result)) ≡ Some (replies.Refused DiskFault) → ⊥) → IsErrOf result DiskFailed → ⊥
 no_fault result fine failed = fine (ap (λ r. Some (reply_by (told r))) failed)
@@ -281,6 +297,7 @@ module _ {D E C : Type 0} (d : Ghosts D) (clock : clocks.Ghosts C) where
             ∙ unlisted act refusal answer.place (session_at old.parts lane) (old.parts).catalogue.listed);
         admin = λ _. (ap (λ p. p.sessions.items) parts, ap (λ p. p.locks) parts);
         ended = λ _. undone answer refusal is;
+        rows = λ i _. ap (λ p. row_at p i) parts;
         halted = where_some _ _ (refused_same d clock.readings old new lane answer refuses);
         writes = λ _. undone answer refusal is;
         remote = λ _. refused_remote old new lane answer refuses;
@@ -400,7 +417,8 @@ module _ {D E C : Type 0} (d : Ghosts D) (clock : clocks.Ghosts C) where
             ∙ ap (λ n. listed_by act (Some (reply_by (told result))) n (session_at old.parts at.lane) (old.parts).catalogue.listed) (number ∙ sym (settles.place ∙ ap (λ j. length j.entries.items) rest.journal))
             ∙ ap (λ r. listed_by act r answer.place (session_at old.parts at.lane) (old.parts).catalogue.listed) (sym reply);
         admin = λ is. (ap (λ p. p.sessions.items) settles.parts ∙ (leaves.admin (step_still act step is)).0 ∙ ap (λ p. p.sessions.items) before, ap (λ p. p.locks) settles.parts ∙ (leaves.admin (step_still act step is)).1 ∙ ap (λ p. p.locks) before);
-        ended = λ ends done. ap (λ p. session_at p at.lane) settles.parts ∙ done_told _ result (leaves.ended ends) (if_plain answer.reply _ reply done);
+        ended = λ ends done. subst (λ p. HasEnded p at.lane) (sym settles.parts) (done_told _ result (leaves.ended ends) (if_plain answer.reply _ reply done));
+        rows = λ i keeps. ap (λ p. row_at p i) settles.parts ∙ leaves.rows i (λ is. row_told act result does.plain (sym (ap (λ r. row_stays_by r act) reply) ∙ keeps is)) ∙ ap (λ p. row_at p i) before;
         halted = where_none _ _ ready.no_fault;
         writes = λ writes done. ap (λ p. is_writer (session_at p at.lane)) settles.parts ∙ done_told _ result (leaves.writes writes) (if_plain answer.reply _ reply done);
         remote = λ _. settles.remote ∙ rest.remote ∙ (ready.begun).remote;

@@ -6,7 +6,6 @@ use Rattle.std.proofs.lemmas.Bool.{eqb-true}
 use Rattle.store_types.specs.declared.order.TheConstants.{MEMORY_KIND, STOP_KIND, END_KIND}
 use Rattle.store_files.specs.Archive.{Snapshot}
 use Rattle.gc_plan.specs.Plan.{Plan}
-use Rattle.paged_indexes.specs.declared.index.IndexPages.{IndexPages}
 use Rattle.store_model.specs.Lanes.{Collecting}
 use Rattle.store_history.specs.declared.act.Act.{Act}
 use Rattle.store_history.specs.Acts.{Class, stepping, reaching, starting, sweeping, wanting, ending, class_of}
@@ -15,6 +14,7 @@ use Rattle.store_history.specs.History as worlds
 use Rattle.core_state.specs.declared.collector.Collector.{Collector}
 use Rattle.core_state.specs.declared.collector.Early.{Early}
 use Rattle.core_state.specs.declared.collector.Early.TheVariants.{NoMemory}
+use Rattle.core_state.specs.declared.marked.MarkedPages.{MarkedPages}
 use Rattle.core_state.specs.Entries.{FitsPages}
 use Rattle.core_state.specs.Collectors.{OpenOn, closed_on, collector_by, cut_on, first_of, is_cut, is_on, open_in, ended_if, shown_collecting, with_cut}
 
@@ -65,7 +65,7 @@ cut_before c some = by_ended c.ended refl
     by_ended (Some early) is = ap (λ o. record c { ended = o }) is ∙ sym (ap (λ o. record c { ended = first_of o NoMemory }) is)
 
 -- what is known of its pages has one proof
-fits_one : (plan : Plan) (pages : Option IndexPages) → IsProp (FitsPages plan pages)
+fits_one : (plan : Plan) (pages : Option MarkedPages) → IsProp (FitsPages plan pages)
 fits_one plan pages = hlevel props
 
 pub cut_now : (c : Collector) (fits : FitsPages c.plan c.pages) → is_some c.ended ≡ false → record c { ended = Some NoMemory; fits = fits } ≡ with_cut c

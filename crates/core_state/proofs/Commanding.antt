@@ -39,10 +39,10 @@ use Rattle.store_stops.specs.declared.stop.Stop.TheVariants.{Refused, NoMemory, 
 use Rattle.core_state.specs.Catalogue.{listed_by}
 use Rattle.core_state.specs.Changes.{Change, IsFirm, LeavesChange, MayLeave, after, by_stop, change_of, stays, undone, installs, stores, drops, finishes, forgets}
 use Rattle.core_state.specs.Chunks.{Adds, IsSafe}
-use Rattle.core_state.specs.Closing.{HasClosed, closes, is_reader, is_writer}
-use Rattle.core_state.specs.Commands.{ActDoes, ActLeaves, IsNoRefusal, LeavesRows, change_at, ends_session, calls_no_disk, is_still, leaves_writer, reads_only}
+use Rattle.core_state.specs.Closing.{HasClosed, HasEnded, closes, is_reader, is_writer}
+use Rattle.core_state.specs.Commands.{ActDoes, ActLeaves, IsNoRefusal, LeavesRows, RowsStay, change_at, ends_session, calls_no_disk, is_still, leaves_writer, reads_only, row_stays}
 use Rattle.core_state.specs.PassedTests.{PassesItsTests}
-use Rattle.core_state.specs.Indexed.{FitsRows}
+use Rattle.core_state.specs.Indexed.{FitsRows, row_in}
 use Rattle.core_state.specs.Holds.{Holds, IsOnDisk, Shows, Does, Acts}
 use Rattle.core_state.specs.Replies.{may_answer}
 use Rattle.core_state.specs.Settles.{reply_by}
@@ -469,7 +469,7 @@ module _ {D : Type 0} (d : Ghosts D) where
   lists_none old at act (Ok reply) idly = idly.listed
   lists_none old at act (Err stop) idly = tt
 
-  ends_none : (old new : Parts D) (at : Place) (act : Act) (result : Result Reply Stop) → IfOk result (DoneIdly old at act) → ends_session act ≡ true → IfOk result (λ _. session_at new at.lane ≡ Idle)
+  ends_none : (old new : Parts D) (at : Place) (act : Act) (result : Result Reply Stop) → IfOk result (DoneIdly old at act) → ends_session act ≡ true → IfOk result (λ _. HasEnded new at.lane)
   ends_none old new at act (Ok reply) idly ends = absurd (false_true (sym idly.goes_on ∙ ends))
   ends_none old new at act (Err stop) idly ends = tt
 
@@ -484,8 +484,12 @@ module _ {D : Type 0} (d : Ghosts D) where
   closed_so old new at act (Err NoMemory) idly by closing = absurd (not_memory (by closing))
   closed_so old new at act (Err DiskFailed) idly by closing = tt
 
+  -- what is kept of indexes has not changed
+  rows_kept : (old new : Parts D) (lane : ℕ) (stays_here : Bool) → new.indexes.items ≡ old.indexes.items → RowsStay old new lane stays_here
+  rows_kept old new lane stays_here same i keeps = ap (λ xs. row_in xs i) same
+
   -- Unless the disk was called, it is the same: so a refusal that comes without a call leaves the disk itself.
-  pub leaves_on : (old new : Parts D) (at : Place) (act : Act) (result : Result Reply Stop) (failed : Type 0) → OnlyReads d old.disk new.disk failed → SamePlain old new → LeavesRows old new at.lane act
+  pub leaves_on : (old new : Parts D) (at : Place) (act : Act) (result : Result Reply Stop) (failed : Type 0) → OnlyReads d old.disk new.disk failed → SamePlain old new → RowsStay old new at.lane (row_stays result act)
       → IfOk result (DoneIdly old at act) → (calls_no_disk act ≡ true → new.disk ≡ old.disk)
       → ((refusal : Refusal) → result ≡ Err (Refused refusal) → is_uncalled refusal ≡ true → new.disk ≡ old.disk)
       → (closes act (session_at old at.lane) ≡ true → IsErrOf result DiskFailed) → (IsErrOf result DiskFailed → (s : Store) → PassesItsTests act s at.lane)
@@ -512,7 +516,7 @@ module _ {D : Type 0} (d : Ghosts D) where
       → ((refusal : Refusal) → result ≡ Err (Refused refusal) → is_uncalled refusal ≡ true → new.disk ≡ old.disk)
       → (closes act (session_at old at.lane) ≡ true → IsErrOf result DiskFailed) → (IsErrOf result DiskFailed → (s : Store) → PassesItsTests act s at.lane)
       → ActLeaves d old new at act result
-  reads_leaves old new at act result failed reads kept = leaves_on old new at act result failed reads (plain_of old new kept) (rows_same old new.indexes.items at.lane act kept.indexes)
+  reads_leaves old new at act result failed reads kept = leaves_on old new at act result failed reads (plain_of old new kept) (rows_kept old new at.lane (row_stays result act) kept.indexes)
 
   -- ---- exits: by `?` or by a return, the result is an error with this stop
 
@@ -646,7 +650,7 @@ module _ {D : Type 0} (d : Ghosts D) where
 
   -- its refusal is one that comes by a call, or the disk wasn't called
   pub stopped_leave_on : (old new : Parts D) (at : Place) (act : Act) (stop : Stop) (result : Result Reply Stop) (failed : Type 0) → Stops result stop
-      → OnlyReads d old.disk new.disk failed → SamePlain old new → LeavesRows old new at.lane act → reads_disk act ≡ true
+      → OnlyReads d old.disk new.disk failed → SamePlain old new → RowsStay old new at.lane (row_stays (Err stop) act) → reads_disk act ≡ true
       → IfRefused (λ refusal. is_uncalled refusal ≡ true → new.disk ≡ old.disk) stop
       → (closes act (session_at old at.lane) ≡ true → ⊥) → ActLeaves d old new at act result
   stopped_leave_on old new at act stop result failed stops reads kept rows called uncalled going =
@@ -658,7 +662,7 @@ module _ {D : Type 0} (d : Ghosts D) where
       → OnlyReads d old.disk new.disk failed → SameKept old new → reads_disk act ≡ true
       → IfRefused (λ refusal. is_uncalled refusal ≡ true → new.disk ≡ old.disk) stop
       → (closes act (session_at old at.lane) ≡ true → ⊥) → ActLeaves d old new at act result
-  stopped_leaves old new at act stop result failed stops reads kept = stopped_leave_on old new at act stop result failed stops reads (plain_of old new kept) (rows_same old new.indexes.items at.lane act kept.indexes)
+  stopped_leaves old new at act stop result failed stops reads kept = stopped_leave_on old new at act stop result failed stops reads (plain_of old new kept) (rows_kept old new at.lane (row_stays (Err stop) act) kept.indexes)
 
   -- done, where no more has changed than what is kept of indexes
   pub read_on : (old new : Parts D) (at : Place) (act : Act) (reply : Reply) (failed : Type 0) → OnlyReads d old.disk new.disk failed → SamePlain old new → KeepsFit old new
@@ -704,7 +708,7 @@ module _ {D : Type 0} (d : Ghosts D) where
 
   pub changed_leaves : (old new : Parts D) (at : Place) (act : Act) (reply : Reply) → new.disk ≡ old.disk → IsNoRefusal reply → change_at old at.lane act ≡ stays
       → new.catalogue.listed ≡ listed_by act (Some reply) at.number (session_at old at.lane) old.catalogue.listed
-      → is_still act ≡ false → (ends_session act ≡ true → session_at new at.lane ≡ Idle) → (leaves_writer act ≡ true → is_writer (session_at new at.lane) ≡ true) → LeavesRows old new at.lane act
+      → is_still act ≡ false → (ends_session act ≡ true → HasEnded new at.lane) → (leaves_writer act ≡ true → is_writer (session_at new at.lane) ≡ true) → LeavesRows old new at.lane act
       → ActLeaves d old new at act (Ok reply)
   changed_leaves old new at act reply same plain change listed other ended writes rows =
       let none = reads_none old.disk new.disk ⊥ same (λ f. f) in record {
@@ -718,7 +722,7 @@ module _ {D : Type 0} (d : Ghosts D) where
         admin = not_still act other;
         adds = adds_same d old new act (told (Ok reply)) none.same;
         passed_its_tests = λ f. absurd (not_done reply f);
-        closed = λ closing. ended (closes_ends act (session_at old at.lane) closing);
+        closed = λ closing. (ended (closes_ends act (session_at old at.lane) closing)).session;
         ended = ended;
         writes = writes;
         rows = rows;
@@ -746,7 +750,7 @@ module _ {D : Type 0} (d : Ghosts D) where
       → LeavesChange d old.disk new.disk (change_at old at.lane act) → IsFirm d old.disk new.disk (change_at old at.lane act)
       → new.catalogue.listed ≡ listed_by act (Some reply) at.number (session_at old at.lane) old.catalogue.listed
       → (is_still act ≡ true → (new.sessions.items ≡ old.sessions.items) × (new.locks ≡ old.locks))
-      → Adds d old new act (Ok reply) → (ends_session act ≡ true → session_at new at.lane ≡ Idle) → (leaves_writer act ≡ true → is_writer (session_at new at.lane) ≡ true) → LeavesRows old new at.lane act
+      → Adds d old new act (Ok reply) → (ends_session act ≡ true → HasEnded new at.lane) → (leaves_writer act ≡ true → is_writer (session_at new at.lane) ≡ true) → LeavesRows old new at.lane act
       → ActLeaves d old new at act (Ok reply)
   writes_leaves old new at act reply plain called content crash firm listed admin adds ended writes rows = record {
     unchanged = done_unchanged old new reply plain;
@@ -759,7 +763,7 @@ module _ {D : Type 0} (d : Ghosts D) where
     admin = admin;
     adds = adds;
     passed_its_tests = λ f. absurd (not_done reply f);
-    closed = λ closing. ended (closes_ends act (session_at old at.lane) closing);
+    closed = λ closing. (ended (closes_ends act (session_at old at.lane) closing)).session;
     ended = ended;
     writes = writes;
     rows = rows;
@@ -822,7 +826,7 @@ module _ {D : Type 0} (d : Ghosts D) where
         closed = λ closing. absurd (going was closing);
         ended = λ _. tt;
         writes = λ _. tt;
-        rows = rows_same old new.indexes.items at.lane act kept.indexes;
+        rows = rows_kept old new at.lane true kept.indexes;
       }
       by_error disks.Failed was = record {
         unchanged = leaves_all old new (Err DiskFailed) tt (plain_of old new kept) (λ r e t. cc) (λ fine. absurd (fine refl));
@@ -838,5 +842,5 @@ module _ {D : Type 0} (d : Ghosts D) where
         closed = λ closing. tt;
         ended = λ _. tt;
         writes = λ _. tt;
-        rows = rows_same old new.indexes.items at.lane act kept.indexes;
+        rows = rows_kept old new at.lane true kept.indexes;
       }

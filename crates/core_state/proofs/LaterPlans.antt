@@ -25,7 +25,6 @@ use Rattle.store_model.proofs.StandsLemmas.{different}
 use Rattle.snapshot_files.proofs.Removals.{named-without}
 use Rattle.gc_plan.specs.Plan.{Stage, marking, sweeping as visiting, index_in, next_index}
 use Rattle.gc_plan.specs.declared.IndexAt.{IndexAt}
-use Rattle.paged_indexes.specs.declared.index.IndexPages.{IndexPages}
 use Rattle.store_history.specs.declared.act.Act.{Act}
 use Rattle.store_history.specs.declared.act.Act.TheVariants.{Plain}
 use Rattle.store_history.specs.declared.act.Answer.{Answer}
@@ -38,6 +37,7 @@ use Rattle.store_history.proofs.SweptLonger.{swept_longer}
 use Rattle.core_state.specs.declared.collector.Collector.{Collector}
 use Rattle.core_state.specs.declared.kept.Kept.{Kept}
 use Rattle.core_state.specs.declared.kept.Listed.{Listed}
+use Rattle.core_state.specs.declared.marked.MarkedPages.{MarkedPages}
 use Rattle.core_state.specs.declared.state.Core.{Core}
 use Rattle.core_state.specs.Answers.{IsAnswered}
 use Rattle.core_state.specs.Applies.{ActKeeps}
@@ -146,7 +146,7 @@ stays_open x (Some v) sweep is = refl
 -- What is left of each index is sifted by the test, and pages at hand stay its.
 record Sifts (acts : ℕ) (c c2 : List Listed) (s s2 : List Snapshot) (p : Unmarked → Bool) : Type 0 where
   pub unmarked : (is : List IndexAt) → All (HasNumber acts) is → (stage : Stage) → unmarked_by c2 s2 is stage ≡ filter p (unmarked_by c s is stage)
-  pub pages : (q : IndexPages) (i : IndexAt) → HasNumber acts i → ArePages s i.name q (kept_at i.snapshot c) → ArePages s2 i.name q (kept_at i.snapshot c2)
+  pub pages : (q : MarkedPages) (i : IndexAt) → HasNumber acts i → ArePages s i.name q (kept_at i.snapshot c) → ArePages s2 i.name q (kept_at i.snapshot c2)
 
 filter_all : {A : Type 0} (p : A → Bool) → ((x : A) → p x ≡ true) → (xs : List A) → filter p xs ≡ xs
 filter_all p all [] = refl
@@ -174,7 +174,7 @@ module _ (acts : ℕ) (c c2 : List Listed) (s s2 : List Snapshot) (p : Unmarked 
     pages = λ q. by_next q (next_index x.plan) refl;
   }
     where
-      by_next : (q : IndexPages) (o : Option IndexAt) → next_index x.plan ≡ o → HasPages c s q o → HasPages c2 s2 q o
+      by_next : (q : MarkedPages) (o : Option IndexAt) → next_index x.plan ≡ o → HasPages c s q o → HasPages c2 s2 q o
       by_next q None at has = tt
       by_next q (Some i) at has = f.pages q i (next_numbered (HasNumber acts) (x.plan).indexes (x.plan).stage i numbers at) has
 
@@ -187,7 +187,7 @@ module _ (acts : ℕ) (c c2 : List Listed) (s s2 : List Snapshot) (p : Unmarked 
   }
 
 -- one is forgotten
-forgotten_as : (s : List Snapshot) (key : SnapshotKey) (name : List ℕ) (q : IndexPages) (o : Option Kept) → ArePages s name q o → ArePages (without_snapshot key s) name q (keep_unless key o)
+forgotten_as : (s : List Snapshot) (key : SnapshotKey) (name : List ℕ) (q : MarkedPages) (o : Option Kept) → ArePages s name q o → ArePages (without_snapshot key s) name q (keep_unless key o)
 forgotten_as s key name q None has = tt
 forgotten_as s key name q (Some k) has = by_test (same_key k.key key) refl
   where
@@ -203,7 +203,7 @@ sifts_forgotten acts c s key once = record {
 }
 
 -- one is finished
-finished_as : (s : List Snapshot) (x : Snapshot) (name : List ℕ) (q : IndexPages) (o : Option Kept) → ((k : Kept) → o ≡ Some k → same_key x.key k.key ≡ false)
+finished_as : (s : List Snapshot) (x : Snapshot) (name : List ℕ) (q : MarkedPages) (o : Option Kept) → ((k : Kept) → o ≡ Some k → same_key x.key k.key ≡ false)
     → ArePages s name q o → ArePages (insert_snapshot x s) name q o
 finished_as s x name q None fresh has = tt
 finished_as s x name q (Some k) fresh has = pages_as name q k s (insert_snapshot x s) (named_still k.key x s (fresh k refl)) has

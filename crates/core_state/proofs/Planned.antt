@@ -12,14 +12,13 @@ use Rattle.store_files.specs.Folder.{file_path}
 use Rattle.store_model.specs.Store.{insert_snapshot, snapshot_named, without_snapshot}
 use Rattle.snapshot_files.proofs.Removals.{named-without}
 use Rattle.gc_plan.specs.declared.IndexAt.{IndexAt}
-use Rattle.paged_indexes.specs.declared.index.IndexPages.{IndexPages}
-use Rattle.restore_reader.specs.Shown.{pages_of}
 use Rattle.store_history.specs.Sweeping.{Unmarked, unmarked_of}
 use Rattle.core_state.specs.declared.kept.Kept.{Kept}
 use Rattle.core_state.specs.declared.kept.Listed.{Listed}
+use Rattle.core_state.specs.declared.marked.MarkedPages.{MarkedPages}
 use Rattle.core_state.specs.Catalogue.{insert_listed, without_listed}
 use Rattle.core_state.specs.Numbers.{DifferInNumber}
-use Rattle.core_state.specs.Sweeps.{ArePages, digests_in, digests_named, kept_at, left_at, left_in, left_of_kept}
+use Rattle.core_state.specs.Sweeps.{AreOfText, ArePages, digests_in, digests_named, kept_at, left_at, left_in, left_of_kept}
 use Rattle.core_state.proofs.Numbering.{head_differs, tail_differs}
 use Rattle.core_state.proofs.Readers.{named_still}
 
@@ -92,9 +91,9 @@ pub digests_as : (key : SnapshotKey) (name : List ℕ) (xs ys : List Snapshot) �
 digests_as key name xs ys same = ap (λ (o : Option Snapshot). digests_in (file_named name (elim o [ None ↦ [] | Some x ↦ x.files ]))) same
 
 -- its pages are those of the same file
-pub pages_as : (name : List ℕ) (q : IndexPages) (k : Kept) (xs ys : List Snapshot) → snapshot_named k.key ys ≡ snapshot_named k.key xs → ArePages xs name q (Some k) → ArePages ys name q (Some k)
+pub pages_as : (name : List ℕ) (q : MarkedPages) (k : Kept) (xs ys : List Snapshot) → snapshot_named k.key ys ≡ snapshot_named k.key xs → ArePages xs name q (Some k) → ArePages ys name q (Some k)
 pages_as name q k xs ys same has =
-    subst (λ (o : Option Snapshot). IsSomeAnd (file_named name (elim o [ None ↦ [] | Some x ↦ x.files ])) (λ f. q ≡ pages_of name (file_path k.key name) (file_text f.content))) (sym same) has
+    subst (λ (o : Option Snapshot). IsSomeAnd (file_named name (elim o [ None ↦ [] | Some x ↦ x.files ])) (λ f. AreOfText name (file_path k.key name) (file_text f.content) q)) (sym same) has
 
 -- ---- what is left of an index
 

@@ -9,10 +9,10 @@ use Rattle.store_files.specs.Archive.{Snapshot}
 use Rattle.store_model.specs.Store.{insert_snapshot, without_snapshot}
 use Rattle.gc_plan.specs.Plan.{Stage, marking, sweeping, next_index}
 use Rattle.gc_plan.specs.declared.IndexAt.{IndexAt}
-use Rattle.paged_indexes.specs.declared.index.IndexPages.{IndexPages}
 use Rattle.store_history.specs.Sweeping.{Sweep, Unmarked}
 use Rattle.core_state.specs.declared.collector.Collector.{Collector}
 use Rattle.core_state.specs.declared.kept.Listed.{Listed}
+use Rattle.core_state.specs.declared.marked.MarkedPages.{MarkedPages}
 use Rattle.core_state.specs.Catalogue.{insert_listed, without_listed}
 use Rattle.core_state.specs.Numbers.{DifferInNumber}
 use Rattle.core_state.specs.Sweeps.{FitsRemoved, HasNumber, HasPages, ShowsSweep, left_at, unmarked_by, visits_by}
@@ -31,7 +31,7 @@ pub record IsSifted (c c2 : List Listed) (s s2 : List Snapshot) (p : Unmarked �
   pub plan : y.plan ≡ x.plan
   pub same_pages : y.pages ≡ x.pages
   pub unmarked : unmarked_by c2 s2 (x.plan).indexes (x.plan).stage ≡ filter p (unmarked_by c s (x.plan).indexes (x.plan).stage)
-  pub pages : (q : IndexPages) → HasPages c s q (next_index x.plan) → HasPages c2 s2 q (next_index x.plan)
+  pub pages : (q : MarkedPages) → HasPages c s q (next_index x.plan) → HasPages c2 s2 q (next_index x.plan)
 
 pub shows_sifted : (acts : ℕ) (c c2 : List Listed) (s s2 : List Snapshot) (p : Unmarked → Bool) (x y : Collector) (sweep : Sweep)
     → IsSifted c c2 s s2 p x y → ShowsSweep acts c s x sweep → ShowsSweep (acts + 1) c2 s2 y (sifted p sweep)
@@ -47,7 +47,7 @@ shows_sifted acts c c2 s s2 p x y sweep is h = record {
   numbers = subst (λ g. All (HasNumber (acts + 1)) g.indexes) (sym is.plan) (numbers_later acts (x.plan).indexes h.numbers);
 }
   where
-    each : (o : Option IndexPages) → IfSome o (λ q. HasPages c s q (next_index x.plan)) → IfSome o (λ q. HasPages c2 s2 q (next_index x.plan))
+    each : (o : Option MarkedPages) → IfSome o (λ q. HasPages c s q (next_index x.plan)) → IfSome o (λ q. HasPages c2 s2 q (next_index x.plan))
     each None has = tt
     each (Some q) has = is.pages q has
 

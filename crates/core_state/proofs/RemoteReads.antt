@@ -38,6 +38,7 @@ use Rattle.core_state.specs.Commands.{change_at, ends_session, is_remotes, leave
 use Rattle.core_state.specs.PassedTests.{PassesItsTests}
 use Rattle.core_state.specs.Entering.{held_by}
 use Rattle.core_state.specs.History.{History, StandsFor, event_of, then_event, world}
+use Rattle.core_state.specs.Indexed.{row_at}
 use Rattle.core_state.specs.Remotes.{RemoteServes, RemoteStays, SettlesRead, ShowsRemote, faults_of, kind_by, reads_remote, reply_by}
 use Rattle.core_state.specs.Replies.{may_answer, may_give}
 use Rattle.core_state.specs.Unchanged.{Unchanged}
@@ -221,6 +222,7 @@ module _ {D E C : Type 0} (d : Ghosts D) (e : Ghosts E) (clock : clocks.Ghosts C
         listed = ap (λ p. p.catalogue.listed) parts ∙ sym (remote_lists answer.reply answer.place (session_at old.parts k) (old.parts).catalogue.listed act remotes);
         admin = λ _. (ap (λ p. p.sessions.items) parts, ap (λ p. p.locks) parts);
         ended = λ ends. absurd (remote_ends act remotes ends);
+        rows = λ i _. ap (λ p. row_at p i) parts;
         halted = where_none _ _ ready.no_fault;
         writes = λ writes. absurd (remote_writes act remotes writes);
         remote = λ alone. settles.remote ∙ unread (refused alone) ∙ b.remote;

@@ -14,11 +14,13 @@ use Rattle.core_state.specs.declared.indexes.Indexes.{Indexes}
 use Rattle.core_state.specs.declared.indexes.OpenIndex.{OpenIndex}
 use Rattle.core_state.specs.declared.indexes.OpenIndexes.{OpenIndexes}
 use Rattle.core_state.specs.declared.indexes.OpenPage.{OpenPage}
+use Rattle.core_state.specs.declared.indexes.RangedPage.{RangedPage}
+use Rattle.core_state.specs.declared.pages.ReadPage.{ReadPage}
 use Rattle.core_state.specs.declared.parts.Parts.{Parts}
 use Rattle.store_history.specs.declared.act.Act.{Act}
 use Rattle.core_state.specs.Commands.{keeps_row}
-use Rattle.core_state.specs.declared.indexes.Indexes.TheVariants.{Unread, Pooled, Opened}
-use Rattle.core_state.specs.Indexed.{AreOpened, FitsRow, FitsRows, IsOpened, IsPooled, files_of_base, open_of, opened_of, page_of, row_at, row_in}
+use Rattle.core_state.specs.declared.indexes.Indexes.TheVariants.{Unread, Pooled, Opened, LastPage}
+use Rattle.core_state.specs.Indexed.{AreOpened, FitsRow, FitsRows, IsOpened, IsPooled, IsRangedOf, files_of_base, open_of, opened_of, page_of, ranged_of, row_at, row_in}
 use Rattle.core_state.specs.Shown.{files_named}
 use Rattle.core_state.proofs.Finding.{found_in, found_passes}
 use Rattle.core_state.proofs.Sessions.{by_lane, session_other, session_same}
@@ -38,6 +40,18 @@ page_is name (Opened o) p e = by_test (bytes_eq (o.page).name name) refl e
   where
     by_test : (b : Bool) → bytes_eq (o.page).name name ≡ b → (if b then Some o.page else None) ≡ Some p → (x : OpenIndexes) × (Opened o ≡ Opened x) × (x.page ≡ p) × (p.name ≡ name)
     by_test true named e = let same : o.page ≡ p = cc in (o, refl, same, ap (λ (y : OpenPage). y.name) (sym same) ∙ (bytes_eq-Decides (o.page).name name).0 named)
+    by_test false named e = cc
+page_is name (LastPage x) p e = cc
+
+-- and so is the page that a range read last
+pub ranged_is : (name : List ℕ) (row : Indexes) (p : ReadPage) → ranged_of name row ≡ Some p → (x : RangedPage) × (row ≡ LastPage x) × (x.page ≡ p) × (x.name ≡ name)
+ranged_is name Unread p e = cc
+ranged_is name (Pooled names) p e = cc
+ranged_is name (Opened o) p e = cc
+ranged_is name (LastPage x) p e = by_test (bytes_eq x.name name) refl e
+  where
+    by_test : (b : Bool) → bytes_eq x.name name ≡ b → (if b then Some x.page else None) ≡ Some p → (y : RangedPage) × (LastPage x ≡ LastPage y) × (y.page ≡ p) × (y.name ≡ name)
+    by_test true named e = let same : x.page ≡ p = cc in (x, refl, same, (bytes_eq-Decides x.name name).0 named)
     by_test false named e = cc
 
 -- ---- one lane's session is another
@@ -79,6 +93,7 @@ pub idle_keeps : (snapshots : List Snapshot) (x : model.Session) (row : Indexes)
 idle_keeps snapshots x Unread fit = tt
 idle_keeps snapshots x (Pooled names) fit = absurd fit
 idle_keeps snapshots x (Opened o) fit = absurd fit
+idle_keeps snapshots x (LastPage p) fit = absurd fit
 
 -- a writer of the same base, with more pieces
 pub writer_keeps : (snapshots : List Snapshot) (v w : model.Writer) (row : Indexes) → w.base ≡ v.base → ((p : List ℕ) → Contains v.pool p → Contains w.pool p)
@@ -93,12 +108,14 @@ writer_keeps snapshots v w (Pooled names) base more fit = All-weaker (IsPooled v
       pieces = All-weaker (Contains v.pool) (Contains w.pool) more (p.one).pieces p.pieces;
     }
 writer_keeps snapshots v w (Opened o) base more fit = absurd fit
+writer_keeps snapshots v w (LastPage p) base more fit = absurd fit
 
 -- a reader of the same snapshot
 pub reader_keeps : (snapshots : List Snapshot) (q r : model.Reader) (row : Indexes) → r.key ≡ q.key → FitsRow snapshots (model.reader q) row → FitsRow snapshots (model.reader r) row
 reader_keeps snapshots q r Unread key fit = tt
 reader_keeps snapshots q r (Pooled names) key fit = absurd fit
 reader_keeps snapshots q r (Opened o) key fit = subst (λ k. AreOpened k (files_named k snapshots) o) (sym key) fit
+reader_keeps snapshots q r (LastPage p) key fit = subst (λ k. IsRangedOf k (files_named k snapshots) p) (sym key) fit
 
 -- ---- the finished snapshots are others
 
@@ -141,6 +158,15 @@ row_among old new (model.reader r) (Opened o) stays fit =
       each = All-weaker (IsOpened r.key (files_named r.key old)) (IsOpened r.key (files_named r.key new)) (λ x h. record { one = h.one; named = on x.name (archive h.one) h.named; pages = h.pages }) o.opened fit.each;
       page = record { one = page.one; named = on (o.page).name (archive page.one) page.named; entries = page.entries };
     }
+row_among old new model.none (LastPage p) stays fit = absurd fit
+row_among old new (model.writer w) (LastPage p) stays fit = absurd fit
+row_among old new (model.reader r) (LastPage p) stays fit = record {
+  one = fit.one;
+  named = content_on old new r.key p.name (archive fit.one) (stays r.key refl) fit.named;
+  below = fit.below;
+  start = fit.start;
+  entries = fit.entries;
+}
 
 -- those that the lanes have as bases, or read, are there still
 pub rows_among : (s t : Store) (rows : List Indexes) → t.sessions ≡ s.sessions → ((i : ℕ) (key : SnapshotKey) → Uses key (session s i) → StaysNamed s.snapshots t.snapshots key)

@@ -29,6 +29,7 @@ use Rattle.core_state.specs.Replies.{may_answer}
 use Rattle.core_state.specs.Commands.{change_at}
 use Rattle.core_state.specs.Entering.{held_by}
 use Rattle.core_state.specs.History.{History, StandsFor, event_of, then_event, world}
+use Rattle.core_state.specs.Indexed.{row_at}
 use Rattle.core_state.specs.KeepsTouches.{KeepsTouches}
 use Rattle.core_state.specs.Settles.{IsEntered, Settles, fault_by, kind_by, reply_by, with_fault}
 use Rattle.core_state.specs.Unchanged.{Unchanged}
@@ -79,6 +80,7 @@ module _ {D E C : Type 0} (d : Ghosts D) (clock : clocks.Ghosts C) (old mid new 
         listed = ap (λ p. p.catalogue.listed) parts;
         admin = λ _. (ap (λ p. p.sessions.items) parts, ap (λ p. p.locks) parts);
         ended = λ ends. absurd (false_true ends);
+        rows = λ i _. ap (λ p. row_at p i) parts;
         halted = where_none _ _ ready.no_fault;
         writes = λ writes. absurd (false_true writes);
         remote = λ _. entered.remote ∙ (ready.begun).remote;
@@ -153,6 +155,7 @@ module _ {D E C : Type 0} (d : Ghosts D) (clock : clocks.Ghosts C) (old mid new 
             ∙ unlisted act refusal answer.place (session_at old.parts k) (old.parts).catalogue.listed);
         admin = λ _. (ap (λ p. p.sessions.items) kept, ap (λ p. p.locks) kept);
         ended = λ _. undone answer refusal reply_is;
+        rows = λ i _. ap (λ p. row_at p i) kept;
         halted = where_none _ _ ready.no_fault;
         writes = λ _. undone answer refusal reply_is;
         remote = λ _. settles.remote ∙ (ready.begun).remote;

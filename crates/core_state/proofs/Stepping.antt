@@ -12,6 +12,7 @@ use Rattle.core_state.specs.Answers.{HasCause, IsAnswered, IsToldBut, StepHasCau
 use Rattle.core_state.specs.Applies.{ActApplies, ActKeeps}
 use Rattle.core_state.specs.Collectors.{closed_on}
 use Rattle.core_state.specs.History.{History, StandsFor, event_of, then_event, world}
+use Rattle.core_state.specs.Indexed.{row_at, row_in}
 use Rattle.core_state.specs.KeepsTouches.{KeepsTouches}
 use Rattle.core_state.specs.Passes.{StepLeaves}
 use Rattle.core_state.specs.Reserved.{StepKeeps}
@@ -103,6 +104,7 @@ module _ {D E C : Type 0} (d : Ghosts D) (clock : clocks.Ghosts C) (old acted ne
     listed = listed;
     admin = λ _. (ap (λ p. p.sessions.items) (is.entered).parts ∙ (is.kept).sessions, ap (λ p. p.locks) (is.entered).parts ∙ (is.kept).locks);
     ended = λ ends. absurd (false_true ends);
+    rows = λ i _. ap (λ p. row_at p i) (is.entered).parts ∙ ap (λ xs. row_in xs i) (is.kept).indexes;
     halted = halts;
     writes = λ writes. absurd (false_true writes);
     remote = λ _. (is.entered).remote ∙ is.remote;

@@ -10,14 +10,13 @@ use Rattle.store_history.specs.declared.act.Act.{Act}
 use Rattle.store_history.specs.declared.act.Act.TheVariants.{Chunk, Step}
 use Rattle.store_history.specs.declared.act.Answer.{Answer}
 use Rattle.store_history.specs.LastTouches.{SameTouches, touches_by_entry}
-use Rattle.core_state.specs.declared.kept.Session.TheVariants.{Idle}
 use Rattle.core_state.specs.declared.state.Core.{Core}
 use Rattle.core_state.specs.Answers.{IsAnswered, IsCaused, IsTold}
 use Rattle.core_state.specs.Catalogue.{Lists}
 use Rattle.core_state.specs.Changes.{IsFirm, LeavesChange, after, by_reply}
-use Rattle.core_state.specs.Closing.{is_closing, is_writer}
+use Rattle.core_state.specs.Closing.{HasEnded, is_closing, is_writer}
 use Rattle.core_state.specs.Collectors.{collector_by}
-use Rattle.core_state.specs.Commands.{IsNoRefusal, change_at, ends_session, is_collectors, calls_no_disk, is_step, is_still, leaves_writer, reads_only}
+use Rattle.core_state.specs.Commands.{IsNoRefusal, RowsStay, change_at, ends_session, is_collectors, calls_no_disk, is_step, is_still, leaves_writer, reads_only, row_stays_by}
 use Rattle.core_state.specs.PassedTests.{PassedItsTestsAt}
 use Rattle.core_state.specs.History.{History, IsClear, StandsFor, then_event, event_of}
 use Rattle.core_state.specs.KeepsTouches.{KeepsTouches}
@@ -81,7 +80,7 @@ pub record CoreApplies {D E C : Type 0} (d : Ghosts D) (e : Ghosts E) (clock : c
 
 -- What the act leaves of the core, on any disk but for what is said of an honest one.
 pub record ActKeeps {D E C : Type 0} (d : Ghosts D) (old new : Core D E C) (lane : ℕ) (act : Act) (answer : Answer) : Type 0 where
-  -- a refused act has changed nothing
+  -- a refused act has changed nothing of catalogue, sessions, locks, and of the disk as it reads; of what is kept of indexes see below
   pub unchanged : IfSome answer.reply (Unchanged d old.parts new.parts)
   pub no_disk_call : calls_no_disk act ≡ true → (new.parts).disk ≡ (old.parts).disk
   -- an honest disk reads as before, whatever it held, in any case
@@ -95,10 +94,13 @@ pub record ActKeeps {D E C : Type 0} (d : Ghosts D) (old new : Core D E C) (lane
   pub passed_its_tests : PassedItsTestsAt d old lane act answer
   pub firm : old.fault ≡ None → IsDone answer → IsFirm d (old.parts).disk (new.parts).disk (change_at old.parts lane act)
   pub listed : Lists old new lane act answer
-  -- the acts on the store as a whole, the reads of a VERIFY, and the collector's acts leave sessions and locks as they are
+  -- the acts on the store as a whole, the reads of a VERIFY, GET_CHUNK, RANGE, and the collector's acts leave sessions and locks as they are
   pub admin : (is_still act || is_collectors act) ≡ true → ((new.parts).sessions.items ≡ (old.parts).sessions.items) × ((new.parts).locks ≡ (old.parts).locks)
-  -- the lane has no session any more
-  pub ended : ends_session act ≡ true → IsDone answer → session_at new.parts lane ≡ Idle
+  -- the lane has no session any more, and nothing is kept of indexes for it
+  pub ended : ends_session act ≡ true → IsDone answer → HasEnded new.parts lane
+  -- What is kept of indexes for another lane stays, whatever the act and its reply. The lane's own stays too where the act is refused, but
+  -- by a damaged chunk in a VERIFY's read, and where it is done, but for such a read, a PREVIOUS, a RANGE and a session's end.
+  pub rows : RowsStay old.parts new.parts lane (row_stays_by answer.reply act)
   -- after the disk failed no call of it is made
   pub halted : IfSome old.fault (λ _. (new.parts).disk ≡ (old.parts).disk)
   -- the lane has a writer, once it was begun and until it is ended

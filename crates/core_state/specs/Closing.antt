@@ -8,7 +8,9 @@ use Rattle.store_history.specs.declared.act.Act.{Act}
 use Rattle.store_history.specs.declared.act.Act.TheVariants.{Plain}
 use Rattle.core_state.specs.declared.parts.Parts.{Parts}
 use Rattle.core_state.specs.declared.state.Core.{Core}
+use Rattle.core_state.specs.Indexed.{row_at}
 use Rattle.core_state.specs.Wanted.{session_at}
+use Rattle.core_state.specs.declared.indexes.Indexes.TheVariants.{Unread}
 use Rattle.core_state.specs.declared.kept.Session.{Session}
 use Rattle.core_state.specs.declared.kept.Session.TheVariants.{Idle, Writer, Reader}
 
@@ -53,3 +55,8 @@ abbrev pub HasClosed : {D : Type 0} → Parts D → ℕ → Result Reply DiskErr
 HasClosed parts lane (Ok reply) = slice_index_or parts.sessions.items lane Idle ≡ Idle
 HasClosed parts lane (Err NoMemory) = ⊥
 HasClosed parts lane (Err Failed) = Unit {0}
+
+-- A lane whose session has ended: it has none, and nothing is kept of indexes for it.
+pub record HasEnded {D : Type 0} (parts : Parts D) (lane : ℕ) : Type 0 where
+  pub session : session_at parts lane ≡ Idle
+  pub row : row_at parts lane ≡ Unread

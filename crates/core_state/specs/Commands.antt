@@ -1,29 +1,30 @@
 -- What a command over the parts promises of its act: two records, functions of the act, so that a command's clause is the instance at
 -- its constructor.
-use Rattle.std.specs.Prelude.{◌≡◌, ℕ, Bool, true, false, not, List, Option, Some, Result, IfOk, IsErrOf, IsTrue}
+use Rattle.std.specs.Prelude.{◌≡◌, ℕ, Bool, true, false, not, List, Option, Some, Result, Ok, Err, IfOk, IsErrOf, IsTrue}
 use Rattle.disk_trait.specs.Disk.{Serves}
 use Rattle.disk_trait.specs.Effects.{SameContent}
 use Rattle.disk_trait.specs.declared.disk.Disk.{Ghosts}
 use Rattle.store_files.specs.Archive.{Snapshot}
+use Rattle.store_types.specs.declared.refusal.Refusal.TheVariants.{Damaged}
 use Rattle.wire_commands.specs.HasText.{ReplyHasText}
 use Rattle.wire_commands.specs.declared.reply.Reply.{Reply}
 use Rattle.wire_commands.specs.declared.reply.Reply.TheVariants.{Refused}
 use Rattle.wire_commands.specs.declared.command.Command.{Command}
-use Rattle.wire_commands.specs.declared.command.Command.TheVariants.{OpenWriter, NewFixed, NewDynamic, Append, CloseIndex, Previous, OpenReader, CloseReader, List as ListAll, Forget, Group, Finish, Abort}
+use Rattle.wire_commands.specs.declared.command.Command.TheVariants.{OpenWriter, NewFixed, NewDynamic, Append, CloseIndex, Previous, OpenReader, CloseReader, GetChunk, Range, List as ListAll, Forget, Group, Finish, Abort}
 use Rattle.store_model.specs.Store.{Store}
 use Rattle.store_history.specs.declared.act.Act.{Act}
 use Rattle.store_history.specs.declared.act.Act.TheVariants.{Plain, Blob, Chunk, JobGroup, ReadFile, ReadChunk, RemoteList, RemoteFile, RemoteChunk, Start, Step, Short, End}
 use Rattle.store_history.specs.Acts.{family_of, is_collecting, is_managing, is_reaching}
 use Rattle.store_history.specs.History.{World, act_outcome}
 use Rattle.core_state.specs.declared.entering.Place.{Place}
-use Rattle.core_state.specs.declared.kept.Session.TheVariants.{Idle}
 use Rattle.core_state.specs.declared.parts.Parts.{Parts}
 use Rattle.store_stops.specs.declared.stop.Stop.{Stop}
+use Rattle.store_stops.specs.declared.stop.Stop.TheVariants as stops
 use Rattle.store_stops.specs.declared.stop.Stop.TheVariants.{DiskFailed}
 use Rattle.core_state.specs.Catalogue.{listed_by}
 use Rattle.core_state.specs.Changes.{Change, IsFirm, LeavesChange, after, by_stop, change_of}
 use Rattle.core_state.specs.Chunks.{Adds, IsSafe}
-use Rattle.core_state.specs.Closing.{HasClosed, closes, is_writer}
+use Rattle.core_state.specs.Closing.{HasClosed, HasEnded, closes, is_writer}
 use Rattle.core_state.specs.PassedTests.{PassesItsTests}
 use Rattle.core_state.specs.Holds.{Acts, Holds}
 use Rattle.core_state.specs.Indexed.{row_at}
@@ -67,8 +68,10 @@ reads_only _ = true
 abbrev pub is_admins : Act → Bool
 is_admins act = is_managing (family_of act)
 
--- and the reads of a VERIFY do too, and those of the remote
+-- and the reads of a VERIFY do too, those of the remote, and a reader's of chunks and of an archive
 abbrev pub is_still : Act → Bool
+is_still (Plain (GetChunk digest)) = true
+is_still (Plain (Range name offset len)) = true
 is_still (ReadFile name offset) = true
 is_still (ReadChunk name entry) = true
 is_still (RemoteList command) = true
@@ -108,15 +111,38 @@ leaves_writer (Blob name checked) = true
 leaves_writer (Chunk digest checked) = true
 leaves_writer _ = false
 
--- the acts after which the lane keeps of indexes what it kept
+-- the acts after which, done, the lane keeps of indexes what it kept
 abbrev pub keeps_row : Act → Bool
 keeps_row (ReadChunk name entry) = false
 keeps_row (Plain (Previous name offset)) = false
+keeps_row (Plain (Range name offset len)) = false
 keeps_row act = not (ends_session act)
 
--- and after any act all other lanes do
+-- the reads of a VERIFY that go by an index
+abbrev pub reads_chunk : Act → Bool
+reads_chunk (ReadChunk name entry) = true
+reads_chunk act = false
+
+-- By how the act ended: where it was done, by the act; where it was refused the lane keeps what it kept, but behind a read of a chunk
+-- that is damaged.
+abbrev pub row_stays : Result Reply Stop → Act → Bool
+row_stays (Ok reply) act = keeps_row act
+row_stays (Err (stops.Refused (Damaged digest fault))) act = not (reads_chunk act)
+row_stays (Err stop) act = true
+
+-- the same by its reply
+abbrev pub row_stays_by : Option Reply → Act → Bool
+row_stays_by (Some (Refused (Damaged digest fault))) act = not (reads_chunk act)
+row_stays_by (Some (Refused refusal)) act = true
+row_stays_by reply act = keeps_row act
+
+-- All other lanes keep what they kept; the lane too, where what it keeps stays.
+abbrev pub RowsStay : {D : Type 0} → Parts D → Parts D → ℕ → Bool → Type 0
+RowsStay old new lane stays = (i : ℕ) → (i ≡ lane → stays ≡ true) → row_at new i ≡ row_at old i
+
+-- so it is after an act that was done
 abbrev pub LeavesRows : {D : Type 0} → Parts D → Parts D → ℕ → Act → Type 0
-LeavesRows old new lane act = (i : ℕ) → (i ≡ lane → keeps_row act ≡ true) → row_at new i ≡ row_at old i
+LeavesRows old new lane act = RowsStay old new lane (keeps_row act)
 
 abbrev pub IsNoRefusal : Reply → Type 0
 IsNoRefusal (Refused refusal) = ⊥
@@ -138,7 +164,7 @@ pub record ActDoes {D : Type 0} (d : Ghosts D) (old new : Parts D) (at : Place) 
 
 -- What the act leaves, on any disk but for what is said of an honest one.
 pub record ActLeaves {D : Type 0} (d : Ghosts D) (old new : Parts D) (at : Place) (act : Act) (result : Result Reply Stop) : Type 0 where
-  -- refused it has changed nothing
+  -- refused it has changed nothing of catalogue, sessions, locks, and of the disk as it reads
   pub unchanged : Unchanged d old new (reply_by (told result))
   pub no_disk_call : calls_no_disk act ≡ true → new.disk ≡ old.disk
   -- an honest disk reads as before, whatever it held, in any case
@@ -156,10 +182,10 @@ pub record ActLeaves {D : Type 0} (d : Ghosts D) (old new : Parts D) (at : Place
   pub passed_its_tests : IsErrOf result DiskFailed → (s : Store) → Holds d old s → PassesItsTests act s at.lane
   -- an act that ends the session wants no memory
   pub closed : closes act (session_at old at.lane) ≡ true → HasClosed new at.lane (told result)
-  pub ended : ends_session act ≡ true → IfOk result (λ _. session_at new at.lane ≡ Idle)
+  pub ended : ends_session act ≡ true → IfOk result (λ _. HasEnded new at.lane)
   pub writes : leaves_writer act ≡ true → IfOk result (λ _. is_writer (session_at new at.lane) ≡ true)
   -- what the lanes keep of indexes
-  pub rows : LeavesRows old new at.lane act
+  pub rows : RowsStay old new at.lane (row_stays result act)
 
 -- ---- the two of a plain command
 

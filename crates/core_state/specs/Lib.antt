@@ -5,6 +5,7 @@ pub mod Indexed
 pub mod Locked
 pub mod States
 pub mod Replies
+pub mod MarkedPage
 pub mod Entries
 pub mod Collectors
 pub mod Holds

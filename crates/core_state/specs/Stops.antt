@@ -1,5 +1,5 @@
 -- A command that stops before its end.
-use Rattle.std.specs.Prelude.{Result, Ok, Err}
+use Rattle.std.specs.Prelude.{Option, None, Some, Result, Ok, Err}
 use Rattle.disk_trait.specs.declared.disk.DiskError.{DiskError}
 use Rattle.disk_trait.specs.declared.disk.DiskError.TheVariants as disks
 use Rattle.disk_trait.specs.declared.disk.Failed.{Failed}
@@ -19,3 +19,9 @@ told (Err DiskFailed) = Err disks.Failed
 abbrev pub ended_as : Result (Unit {0}) Failed → Result Reply Stop
 ended_as (Ok done) = Ok replies.Done
 ended_as (Err failed) = Err DiskFailed
+
+-- how an act ended, by its reply: want of memory and a fault are refusals there, and one without a reply is done
+abbrev pub ended_by : Option Reply → Result Reply Stop
+ended_by (Some (replies.Refused refusal)) = Err (Refused refusal)
+ended_by (Some reply) = Ok reply
+ended_by None = Ok replies.Done

@@ -4,7 +4,6 @@ use Rattle.std.specs.List.{All, find, flat_map}
 use Rattle.store_types.specs.declared.names.SnapshotKey.{SnapshotKey}
 use Rattle.store_files.specs.Archive.{File, Snapshot, file_named, file_text}
 use Rattle.store_files.specs.Folder.{file_path}
-use Rattle.paged_indexes.specs.declared.index.IndexPages.{IndexPages}
 use Rattle.restore_reader.specs.Shown.{pages_of}
 use Rattle.gc_plan.specs.Plan.{Stage, marking, sweeping, next_index}
 use Rattle.gc_plan.specs.declared.IndexAt.{IndexAt}
@@ -12,6 +11,8 @@ use Rattle.store_history.specs.Sweeping.{Sweep, Unmarked, digests_of, unmarked_o
 use Rattle.core_state.specs.declared.collector.Collector.{Collector}
 use Rattle.core_state.specs.declared.kept.Kept.{Kept}
 use Rattle.core_state.specs.declared.kept.Listed.{Listed}
+use Rattle.core_state.specs.declared.marked.MarkedPages.{MarkedPages}
+use Rattle.core_state.specs.MarkedPage.{IsPageOfText}
 use Rattle.core_state.specs.Numbers.{first_number}
 use Rattle.core_state.specs.Shown.{files_named}
 
@@ -59,13 +60,18 @@ abbrev pub FitsRemoved : Stage → ℕ → Type 0
 FitsRemoved (marking place first) removed = removed ≡ 0
 FitsRemoved (sweeping names) removed = removed + length names < 2 ^ 63
 
+-- what is at hand is of the index of this name with this text: what its opening at the path keeps, and the page that was read last
+pub record AreOfText (name path text : List ℕ) (p : MarkedPages) : Type 0 where
+  pub kept : p.kept ≡ pages_of name path text
+  pub last : IfSome p.last (IsPageOfText p.kept text)
+
 -- the pages at hand are those of the index's file, where its snapshot is still there
-abbrev pub ArePages : List Snapshot → List ℕ → IndexPages → Option Kept → Type 0
+abbrev pub ArePages : List Snapshot → List ℕ → MarkedPages → Option Kept → Type 0
 ArePages snapshots name p None = Unit {0}
 ArePages snapshots name p (Some k) =
-    IsSomeAnd (file_named name (files_named k.key snapshots)) (λ f. p ≡ pages_of name (file_path k.key name) (file_text f.content))
+    IsSomeAnd (file_named name (files_named k.key snapshots)) (λ f. AreOfText name (file_path k.key name) (file_text f.content) p)
 
-abbrev pub HasPages : List Listed → List Snapshot → IndexPages → Option IndexAt → Type 0
+abbrev pub HasPages : List Listed → List Snapshot → MarkedPages → Option IndexAt → Type 0
 HasPages catalogue snapshots p None = Unit {0}
 HasPages catalogue snapshots p (Some i) = ArePages snapshots i.name p (kept_at i.snapshot catalogue)
 

@@ -4,10 +4,10 @@ ghost use Rattle.std.specs.Prelude.{◌≡◌, ◌<◌, ◌+◌, ◌↔◌, IsTr
 ghost use Rattle.lock_book.specs.Locks.{Releases};
 ghost use Rattle.store_model.specs.Store.{Store, ended};
 ghost use Rattle.core_state.specs.Closing as closing;
+ghost use Rattle.core_state.specs.Closing.{HasEnded};
 ghost use Rattle.core_state.specs.Entering.{SameEntries};
 ghost use Rattle.core_state.specs.Holds.{Shows};
 ghost use Rattle.core_state.specs.Reserved.{HasRoom};
-ghost use Rattle.core_state.specs.Wanted.{session_at};
 ghost use Rattle.core_state.specs.declared.indexes.Indexes.TheVariants.{Unread};
 ghost use Rattle.core_state.specs.declared.kept.Session.TheVariants.{Idle};
 
@@ -37,7 +37,7 @@ pub fn end_session<D>(parts: &mut Parts<D>, lane: u32)
     ensures disk { parts.new.disk ≡ parts.old.disk }
     ensures catalogue { parts.new.catalogue.listed ≡ parts.old.catalogue.listed }
     ensures sessions { parts.new.sessions.items ≡ slice_set parts.old.sessions.items lane Idle }
-    ensures ended { session_at parts.new lane ≡ Idle }
+    ensures ended { HasEnded parts.new lane }
     ensures locks { Releases parts.old.locks parts.new.locks lane }
     ensures indexes { parts.new.indexes.items ≡ slice_set parts.old.indexes.items lane Unread }
     ensures shows { (s : Store) → Shows parts.old s → Shows parts.new (ended s lane) }

@@ -2,8 +2,8 @@
 
 ghost use Rattle.core_state.specs.Entries.{FitsPages};
 
+use crate::marked::MarkedPages;
 use gc_plan::Gc;
-use paged_indexes::IndexPages;
 use snapshot_files::FilePath;
 use store_types::Refusal;
 
@@ -42,8 +42,8 @@ impl Early {
 pub struct Collector {
     pub lane: u32,
     pub plan: Gc,
-    /// What its opening kept of the index that is being marked. None is at hand before it is opened.
-    pub pages: Option<IndexPages>,
+    /// What is at hand of the index that is being marked. Nothing is before it is opened.
+    pub pages: Option<MarkedPages>,
     /// Where something ended it early, its next act is its end.
     pub ended: Option<Early>,
     ghost fits: { FitsPages plan pages },

@@ -1,11 +1,12 @@
 //! What a lane keeps of indexes beside its session.
 
-ghost use Rattle.std.specs.Prelude.{◌≡◌, IfOk};
+ghost use Rattle.std.specs.Prelude.{◌≡◌, IfOk, option_map};
 ghost use Rattle.std.specs.List.{list_any};
 ghost use Rattle.std.specs.Str.{bytes_eq};
-ghost use Rattle.core_state.specs.Indexed.{is_pooled, pooling};
+ghost use Rattle.core_state.specs.Indexed.{is_pooled, pooling, ranged_of, ranged_to};
 ghost use Rattle.core_state.specs.declared.indexes.Indexes.TheVariants.{Pooled as PooledNames};
 
+use crate::pages::ReadPage;
 use paged_indexes::{IndexEntry, IndexPages};
 use std::alloc::{AllocError, Global};
 use store_types::{FileName, Rows};
@@ -34,6 +35,14 @@ pub struct OpenIndexes {
     pub page: OpenPage,
 }
 
+/// The page that a range read last.
+#[derive(Drop)]
+pub struct RangedPage {
+    /// The index's name.
+    pub name: FileName,
+    pub page: ReadPage,
+}
+
 /// What a lane keeps of indexes beside its session, so that they are not read again.
 #[derive(Drop)]
 pub enum Indexes {
@@ -43,6 +52,8 @@ pub enum Indexes {
     Pooled(Rows<FileName>),
     /// A reader's: the indexes of which a VERIFY read entries.
     Opened(OpenIndexes),
+    /// A reader's: the page that a range of an archive read last, as the download of its index opened it.
+    LastPage(RangedPage),
 }
 
 /// The name is one of these.
@@ -84,5 +95,32 @@ impl Indexes {
         };
         names.insert(0, name)?;
         Ok(Indexes::Pooled(names))
+    }
+
+    /// The page of the index of this name that a range read last.
+    pub fn ranged(&self, name: &FileName) -> Option<&ReadPage>
+        ensures { option_map (λ p. p.now) result ≡ ranged_of name.now self.now }
+    {
+        let Indexes::LastPage(ranged) = self else {
+            return None;
+        };
+        if ranged.name != *name {
+            return None;
+        }
+        Some(&ranged.page)
+    }
+
+    /// A range of this index was read, and this page of it last, where one was. Beside indexes of which a VERIFY read
+    /// entries no page of a range is kept.
+    pub fn note_ranged(&mut self, name: FileName, last: Option<ReadPage>)
+        ensures { self.new ≡ ranged_to name last self.old }
+    {
+        let Some(page) = last else {
+            return;
+        };
+        if let Indexes::Opened(_) = self {
+            return;
+        }
+        *self = Indexes::LastPage(RangedPage { name, page });
     }
 }

@@ -7,7 +7,7 @@ use disk_trait::{Disk, MemoryDisk};
 use dynamic_index::DynamicWriter;
 use std::alloc::Global;
 use std::process::Abort;
-use store_types::Digest32;
+use store_types::{Digest32, Piece};
 
 /// Files by name and content.
 pub(crate) type Contents = &'static [(&'static str, &'static [u8])];
@@ -44,13 +44,10 @@ const FIXED_FRONT: &[u8] =
 const FIXED_DIGESTS: &[u8] =
     b"\xa2\xe6Y\xda\xcbF\x91\xe8\x87\xac\x019\xf8\x89=\x04vN\xe1\x97\xd7\x0f\xb7=1\x90\xd5a\x13\xd1\x8e>\x95\x9aE\xd4No\xcfX6\x1e\xd0\x04h\x15V\xfeP\x12\x9f!\x09\xe8\x17\xde\xc0\x98\xc0\x0c\x9e]%x";
 
-/// A piece of an index, by its digest and its length.
-type Piece = (Digest32, u32);
-
 fn push(rt: &impl Abort, writer: &mut DynamicWriter, piece: &Piece) {
-    let (digest, length) = piece;
-    assert!(rt; writer.len() < 1_048_576 && *length > 0 && *length <= 16_777_216);
-    must(rt, writer.append(digest, *length));
+    let length = piece.length;
+    assert!(rt; writer.len() < 1_048_576 && length > 0 && length <= 16_777_216);
+    must(rt, writer.append(&piece.digest, length));
 }
 
 fn push_all(rt: &impl Abort, writer: &mut DynamicWriter, count: u32, piece: &Piece) {
@@ -101,7 +98,14 @@ pub(crate) fn folder(
     for (path, bytes) in files {
         put(rt, alloc, &mut disk, path, bytes);
     }
-    let (abc, de) = ((ABC, 3), (DE, 2));
+    let abc = Piece {
+        digest: ABC,
+        length: 3,
+    };
+    let de = Piece {
+        digest: DE,
+        length: 2,
+    };
     match archives {
         Archives::Root(0) => {}
         Archives::Root(entries) => {
@@ -113,18 +117,20 @@ pub(crate) fn folder(
             put_index(rt, alloc, &mut disk, ROOT_PATH, &pieces);
         }
         Archives::Pieces(length) => {
-            put_index(
-                rt,
-                alloc,
-                &mut disk,
-                ROOT_PATH,
-                &[(1, (ABC, length)), (1, de)],
-            );
+            let first = Piece {
+                digest: ABC,
+                length,
+            };
+            put_index(rt, alloc, &mut disk, ROOT_PATH, &[(1, first), (1, de)]);
         }
         Archives::Three(0) => put_first_two(rt, alloc, &mut disk),
         Archives::Three(entries) => {
             put_first_two(rt, alloc, &mut disk);
-            let pieces = [(entries.saturating_sub(1), (ABSENT, 4096)), (1, abc)];
+            let absent = Piece {
+                digest: ABSENT,
+                length: 4096,
+            };
+            let pieces = [(entries.saturating_sub(1), absent), (1, abc)];
             put_index(rt, alloc, &mut disk, THIRD_PATH, &pieces);
         }
     }

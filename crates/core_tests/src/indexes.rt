@@ -127,7 +127,7 @@ const HALTED_BY_1: &[u8] = b"\x09\0\0\0\x1b\x01\0\0\0\0\0\0\0";
 
 pub(crate) const HALTED_BY_2: &[u8] = b"\x09\0\0\0\x1b\x02\0\0\0\0\0\0\0";
 
-const HALTED_BY_3: &[u8] = b"\x09\0\0\0\x1b\x03\0\0\0\0\0\0\0";
+pub(crate) const HALTED_BY_3: &[u8] = b"\x09\0\0\0\x1b\x03\0\0\0\0\0\0\0";
 
 /// A writer may name none of the pieces, and then each.
 static BY_PREVIOUS: Opens = Opens {
@@ -275,6 +275,51 @@ static BY_MARK: Opens = Opens {
         (5, Step::Pass, IN_NONE, 0),
     ],
     whole: &[START, PASS, PASS, PASS, PASS, PASS, TWO_USED],
+};
+
+/// A later PREVIOUS of an index.
+static PREVIOUS_LATER: Reads = Reads {
+    files: FILES,
+    archives: ARCHIVES,
+    before: &[
+        (3, Step::Send(OPEN_SECOND), FIRST_BASE, 0),
+        (3, Step::Send(PREVIOUS_AT_END), AT_END, 0),
+    ],
+    act: (3, Step::Send(PREVIOUS)),
+    failed: &[
+        (3, Step::Send(PREVIOUS), FAULT, 5),
+        (5, Step::Send(LIST), HALTED_BY_2, 5),
+    ],
+};
+
+/// A later DOWNLOAD.
+static DOWNLOAD_LATER: Reads = Reads {
+    files: FILES,
+    archives: ARCHIVES,
+    before: &[
+        (4, Step::Send(READ_FIRST), DONE, 0),
+        (4, Step::Send(DOWNLOAD_AT_END), AT_END, 0),
+    ],
+    act: (4, Step::Send(DOWNLOAD)),
+    failed: &[
+        (4, Step::Send(DOWNLOAD), FAULT, 5),
+        (5, Step::Send(LIST), HALTED_BY_2, 5),
+    ],
+};
+
+/// A VERIFY's read of another entry of the page that was read last.
+static ENTRY_LATER: Reads = Reads {
+    files: FILES,
+    archives: ARCHIVES,
+    before: &[
+        (4, Step::Send(READ_FIRST), DONE, 0),
+        (4, Step::ReadChunk(NAME, 0), DE_DATA, 0),
+    ],
+    act: (4, Step::ReadChunk(NAME, 1_023)),
+    failed: &[
+        (4, Step::ReadChunk(NAME, 1_023), FAULT, 5),
+        (5, Step::Send(LIST), HALTED_BY_2, 5),
+    ],
 };
 
 /// What stands beside the snapshot of a fixed index and two dynamic ones.
@@ -478,6 +523,15 @@ fn each_read_of_an_index_fails(rt: HostRuntime) {
     try_faults(&rt, alloc, &BY_PREVIOUS.reads, 7);
     try_faults(&rt, alloc, &BY_PREVIOUS_OF_TWO.reads, 6);
     try_faults(&rt, alloc, &BY_DOWNLOAD.reads, 7);
-    try_faults(&rt, alloc, &BY_ENTRY.reads, 8);
+    try_faults(&rt, alloc, &BY_ENTRY.reads, 7);
     try_faults(&rt, alloc, &BY_MARK.reads, 5)
+}
+
+/// Of an index that was opened a size and a part are read, of an entry in the page at hand its chunk alone.
+#[test]
+fn each_later_read_of_an_index_fails(rt: HostRuntime) {
+    let alloc = rt.alloc();
+    try_faults(&rt, alloc, &PREVIOUS_LATER, 2);
+    try_faults(&rt, alloc, &DOWNLOAD_LATER, 2);
+    try_faults(&rt, alloc, &ENTRY_LATER, 2)
 }

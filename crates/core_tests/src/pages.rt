@@ -11,8 +11,8 @@ use crate::fixtures::{
 use crate::folders::{Archives, Contents, FIRST_PATH, THIRD_PATH, folder};
 use crate::indexes::{
     ABC_OF_THIRD, ARCHIVES, AT_END, BESIDE, DE_OF_FIXED, DOWNLOAD_AT_END, Damage, FAULT, FILES,
-    GIVEN_ABC, GIVEN_DE, HALTED_BY_2, NO_THIRD, NO_X, RANGE, READ_BOTH, Reads, put_damaged, state,
-    text_of, try_faults,
+    GIVEN_ABC, GIVEN_DE, HALTED_BY_2, HALTED_BY_3, NO_THIRD, NO_X, RANGE, READ_BOTH, Reads,
+    put_damaged, state, text_of, try_faults,
 };
 use crate::sent::{
     AT_END as OF_TWO_AT_END, DONE, FIRST_BASE, LIST, NO_INDEX, NUMBER, OPEN_SECOND, READ_FIRST,
@@ -72,6 +72,17 @@ const CHANGES: &[Change] = &[
     (Damage::Gone, [false, false, false]),
 ];
 
+/// A piece of each page, the last of the first page and the first of the second, and what is given.
+const RANGE_OF_FIRST: &[u8] = b"\x17\x09root.didx\0\0\0\0\0\0\0\0\x02\0\0\0";
+
+const RANGE_OF_SECOND: &[u8] = b"\x17\x09root.didx\0\x08\0\0\0\0\0\0\x02\0\0\0";
+
+const RANGE_OF_LAST: &[u8] = b"\x17\x09root.didx\0\x10\0\0\0\0\0\0\x03\0\0\0";
+
+const RANGE_OF_TWO: &[u8] = b"\x17\x09root.didx\xfe\x07\0\0\0\0\0\0\x04\0\0\0";
+
+const GIVEN_TWO: &[u8] = b"\x05\0\0\0\0dede";
+
 /// Ranges of one piece in each page, of two in two pages, and of no bytes within a page and at the archive's end.
 static BY_RANGE: Used = Used {
     files: FILES,
@@ -80,26 +91,10 @@ static BY_RANGE: Used = Used {
     before: DOWNLOADED,
     changes: CHANGES,
     asked: &[
-        (
-            Step::Send(b"\x17\x09root.didx\0\0\0\0\0\0\0\0\x02\0\0\0"),
-            [true, false, false],
-            GIVEN_DE,
-        ),
-        (
-            Step::Send(b"\x17\x09root.didx\0\x08\0\0\0\0\0\0\x02\0\0\0"),
-            [false, true, false],
-            GIVEN_DE,
-        ),
-        (
-            Step::Send(b"\x17\x09root.didx\0\x10\0\0\0\0\0\0\x03\0\0\0"),
-            [false, false, true],
-            GIVEN_ABC,
-        ),
-        (
-            Step::Send(b"\x17\x09root.didx\xfe\x07\0\0\0\0\0\0\x04\0\0\0"),
-            [true, true, false],
-            b"\x05\0\0\0\0dede",
-        ),
+        (Step::Send(RANGE_OF_FIRST), [true, false, false], GIVEN_DE),
+        (Step::Send(RANGE_OF_SECOND), [false, true, false], GIVEN_DE),
+        (Step::Send(RANGE_OF_LAST), [false, false, true], GIVEN_ABC),
+        (Step::Send(RANGE_OF_TWO), [true, true, false], GIVEN_TWO),
         (Step::Send(RANGE), [false, true, true], b"\x06\0\0\0\0deabc"),
         (
             Step::Send(b"\x17\x09root.didx\x01\x08\0\0\0\0\0\0\0\0\0\0"),
@@ -111,6 +106,33 @@ static BY_RANGE: Used = Used {
             [false, false, false],
             DONE,
         ),
+    ],
+    changed: NO_INDEX,
+};
+
+/// Ranges behind one of the first page, in order, and one of the first page again: each page is read once, until another was.
+static BY_RANGE_IN_ORDER: Used = Used {
+    files: FILES,
+    archives: ARCHIVES,
+    path: ROOT_PATH,
+    before: &[
+        (4, Step::Send(READ_FIRST), DONE, 0),
+        (4, Step::Send(DOWNLOAD_AT_END), AT_END, 0),
+        (4, Step::Send(RANGE_OF_FIRST), GIVEN_DE, 0),
+    ],
+    changes: &[
+        (Damage::Byte(0), [true, true, true]),
+        (Damage::Byte(4_104), [false, true, true]),
+        (Damage::Byte(45_064), [true, false, true]),
+        (Damage::Byte(86_024), [true, true, false]),
+        (Damage::Longer(40), [true, true, true]),
+    ],
+    asked: &[
+        (Step::Send(RANGE_OF_FIRST), [false, false, false], GIVEN_DE),
+        (Step::Send(RANGE_OF_TWO), [false, true, false], GIVEN_TWO),
+        (Step::Send(RANGE_OF_SECOND), [false, true, false], GIVEN_DE),
+        (Step::Send(RANGE_OF_LAST), [false, false, true], GIVEN_ABC),
+        (Step::Send(RANGE_OF_FIRST), [true, false, false], GIVEN_DE),
     ],
     changed: NO_INDEX,
 };
@@ -254,7 +276,9 @@ fn try_changes(rt: &impl Abort, alloc: Global, used: &Used) {
 /// A range in a page that is not as it was opened is refused, and others are given.
 #[test]
 fn pages_are_compared_by_ranges(rt: HostRuntime) {
-    try_changes(&rt, rt.alloc(), &BY_RANGE)
+    let alloc = rt.alloc();
+    try_changes(&rt, alloc, &BY_RANGE);
+    try_changes(&rt, alloc, &BY_RANGE_IN_ORDER)
 }
 
 #[test]
@@ -313,6 +337,38 @@ static READS_RANGE: Reads = Reads {
     ],
 };
 
+/// The same behind a range that ended on the first of them: that page is not read again.
+static READS_RANGE_IN_ORDER: Reads = Reads {
+    files: FILES,
+    archives: ARCHIVES,
+    before: &[
+        (4, Step::Send(READ_FIRST), DONE, 0),
+        (4, Step::Send(DOWNLOAD_AT_END), AT_END, 0),
+        (4, Step::Send(RANGE_OF_TWO), GIVEN_TWO, 0),
+    ],
+    act: (4, Step::Send(RANGE)),
+    failed: &[
+        (4, Step::Send(RANGE), FAULT, 5),
+        (5, Step::Send(LIST), HALTED_BY_3, 5),
+    ],
+};
+
+/// And within the page that was read last: two calls for its chunk.
+static READS_RANGE_AGAIN: Reads = Reads {
+    files: FILES,
+    archives: ARCHIVES,
+    before: &[
+        (4, Step::Send(READ_FIRST), DONE, 0),
+        (4, Step::Send(DOWNLOAD_AT_END), AT_END, 0),
+        (4, Step::Send(RANGE_OF_FIRST), GIVEN_DE, 0),
+    ],
+    act: (4, Step::Send(RANGE_OF_FIRST)),
+    failed: &[
+        (4, Step::Send(RANGE_OF_FIRST), FAULT, 5),
+        (5, Step::Send(LIST), HALTED_BY_3, 5),
+    ],
+};
+
 /// An entry in another page than the one that was read last: the page is read, and a chunk, by two calls.
 static READS_ENTRY: Reads = Reads {
     files: FILES,
@@ -340,43 +396,69 @@ static READS_MARK: Reads = Reads {
     ],
 };
 
+/// The third one, whose entries are in the page that the second one read last and in the next.
+static READS_MARK_ON: Reads = Reads {
+    files: FILES,
+    archives: ARCHIVES,
+    before: &[START, PASS, PASS],
+    act: (5, Step::Pass),
+    failed: &[
+        (5, Step::Pass, FAULT, 5),
+        (5, Step::Send(LIST), HALTED_BY_3, 5),
+    ],
+};
+
 #[test]
 fn each_read_of_a_page_fails(rt: HostRuntime) {
     let alloc = rt.alloc();
     try_faults(&rt, alloc, &READS_RANGE, 6);
+    try_faults(&rt, alloc, &READS_RANGE_IN_ORDER, 5);
+    try_faults(&rt, alloc, &READS_RANGE_AGAIN, 2);
     try_faults(&rt, alloc, &READS_ENTRY, 3);
-    try_faults(&rt, alloc, &READS_MARK, 2)
+    try_faults(&rt, alloc, &READS_MARK, 2);
+    try_faults(&rt, alloc, &READS_MARK_ON, 1)
 }
 
 const HALF_MARKED: Kept = (1_000_000, Some(5), Some(1_000_000), 0);
 
 const MARKED: Kept = (1_000_000, Some(1_000_000), Some(1_000_000), 0);
 
+const FIRST: Rows = &[START, PASS];
+
+const SECOND: Rows = &[START, PASS, PASS];
+
 const ENDS_BEHIND_ONE: Rows = &[PASS, (5, Step::Pass, NO_INDEX, 4)];
 
 const ENDS_BEHIND_TWO: Rows = &[PASS, PASS, (5, Step::Pass, NO_INDEX, 4)];
 
-/// How the index changes behind its first mark, what is told then, and what the core has in the end. The first mark touches `de`, and the
-/// second, of which `abc` is one, needs the first page and the next.
-static MARKS: [(Damage, Rows, Kept); 8] = [
-    (Damage::Byte(4_104), ENDS_BEHIND_ONE, HALF_MARKED),
-    (Damage::Byte(45_064), ENDS_BEHIND_ONE, HALF_MARKED),
-    (Damage::Front(45_056), ENDS_BEHIND_ONE, HALF_MARKED),
-    (Damage::Another(2_049), ENDS_BEHIND_ONE, HALF_MARKED),
-    (Damage::Gone, ENDS_BEHIND_ONE, HALF_MARKED),
-    (Damage::Byte(86_024), ENDS_BEHIND_TWO, MARKED),
-    (Damage::Front(86_055), ENDS_BEHIND_TWO, MARKED),
+const MARKS_ON: Rows = &[PASS, PASS, PASS, TWO_USED];
+
+/// How the index changes behind these marks, what is told then, and what the core has in the end. The first mark touches `de`. The second,
+/// of which `abc` is one, needs the first page and the next; the third needs that one, which is at hand, and the last.
+static MARKS: [(Rows, Damage, Rows, Kept); 12] = [
+    (FIRST, Damage::Byte(4_104), ENDS_BEHIND_ONE, HALF_MARKED),
+    (FIRST, Damage::Byte(45_064), ENDS_BEHIND_ONE, HALF_MARKED),
+    (FIRST, Damage::Front(45_056), ENDS_BEHIND_ONE, HALF_MARKED),
+    (FIRST, Damage::Another(2_049), ENDS_BEHIND_ONE, HALF_MARKED),
+    (FIRST, Damage::Gone, ENDS_BEHIND_ONE, HALF_MARKED),
+    (FIRST, Damage::Byte(86_024), ENDS_BEHIND_TWO, MARKED),
+    (FIRST, Damage::Front(86_055), ENDS_BEHIND_TWO, MARKED),
     (
+        FIRST,
         Damage::Longer(40),
         &[PASS, PASS, PASS, PASS, TWO_USED],
         MARKED,
     ),
+    (SECOND, Damage::Byte(4_104), MARKS_ON, MARKED),
+    (SECOND, Damage::Byte(45_064), MARKS_ON, MARKED),
+    (SECOND, Damage::Byte(86_024), ENDS_BEHIND_ONE, MARKED),
+    (SECOND, Damage::Gone, ENDS_BEHIND_ONE, MARKED),
 ];
 
-fn try_marks(rt: &impl Abort, alloc: Global, number: usize, row: &(Damage, Rows, Kept)) {
-    let (damage, rows, left) = *row;
+fn try_marks(rt: &impl Abort, alloc: Global, number: usize, row: &(Rows, Damage, Rows, Kept)) {
+    let (before, damage, rows, left) = *row;
     let mut core = opened(rt, alloc, folder(rt, alloc, FILES, Archives::Amid), STILL);
-    try_rows(rt, &mut core, alloc, [number, 0, 0, 0], &[START, PASS]);
+    try_rows(rt, &mut core, alloc, [number, 0, 0, 0], before);
     let text = text_of(rt, alloc, Archives::Amid, ROOT_PATH);
     put_damaged(rt, &mut core, alloc, ROOT_PATH, &text, damage);
     try_rows(rt, &mut core, alloc, [number, 1, 0, 0], rows);

@@ -2,6 +2,7 @@
 use Rattle.std.proofs.Common.{◌≡◌, ℕ, ◌+◌, Bool, true, false, length, Option, Some, None, List, [], ◌∷◌, Result, Ok, Err, IfErr, nat_le, refl, sym, ap, ◌∙◌}
 use Rattle.std.specs.Prelude.{◌==◌}
 use Rattle.store_types.specs.declared.names.Digest32.{Digest32}
+use Rattle.store_types.specs.declared.piece.Piece.{Piece}
 use Rattle.store_types.specs.declared.refusal.Refusal.{Refusal}
 use Rattle.store_types.specs.declared.refusal.Refusal.TheVariants.{WrongState, NoFile, TooMany, WrongSize, UnknownChunk, BadOffset}
 use Rattle.store_types.specs.declared.refusal.Refusal.TheVariants as refusals
@@ -9,7 +10,6 @@ use Rattle.store_types.specs.Chain.Refusing.{◌>>=◌, unless, or_else}
 use Rattle.store_files.specs.Cells.{entry_limit}
 use Rattle.store_files.specs.Archive.{Layout}
 use Rattle.store_model.specs.Archives.{change_first, fits_layout, piece_named, pieces_named}
-use Rattle.dynamic_index.specs.Writing.{Known}
 use Rattle.backup_session.specs.Session.{Open, Writing, Session, settled}
 use Rattle.backup_session.specs.Answers.{Does}
 use Rattle.backup_session.specs.Indexes.{layout_of, count_of, end_of}
@@ -58,10 +58,10 @@ module _ {A : Type 0} (find : Digest32 → Option A) (len : A → ℕ) (layout :
 -- ---- the command
 
 module _ (w : Writing) (number : ℕ) (entries : List (Digest32 × ℕ)) where
-  abbrev left : List Known → Result (Writing × Unit {0}) Refusal
+  abbrev left : List Piece → Result (Writing × Unit {0}) Refusal
   left known = Ok (record w { begun = change_first (rows.has_number number) (rows.grown known) w.begun }, tt)
 
-  by_left : (r : Refusal) (q : Result (List Known) Refusal) → (q ≡ Err r → refuses_append r ≡ true) → (q >>= λ known. left known) ≡ Err r → refuses_append r ≡ true
+  by_left : (r : Refusal) (q : Result (List Piece) Refusal) → (q ≡ Err r → refuses_append r ≡ true) → (q >>= λ known. left known) ≡ Err r → refuses_append r ≡ true
   by_left r (Ok known) rest e = cc
   by_left r (Err x) rest e = rest cc
 
@@ -69,11 +69,11 @@ module _ (w : Writing) (number : ℕ) (entries : List (Digest32 × ℕ)) where
   unfolding rows.pieces_for
   for_refused r b is = by_room (nat_le (length entries) 4096) (nat_le (count_of b.index + length entries) entry_limit) is
     where
-      by_room : (a c : Bool) → ((unless (TooMany 4096) a >>= λ _. unless (TooMany entry_limit) c) >>= λ _. pieces_named (rows.known_in w.pool) (λ k. k.1) (layout_of b.index) 0 (end_of b.index) entries) ≡ Err r
+      by_room : (a c : Bool) → ((unless (TooMany 4096) a >>= λ _. unless (TooMany entry_limit) c) >>= λ _. pieces_named (rows.known_in w.pool) (λ p. p.length) (layout_of b.index) 0 (end_of b.index) entries) ≡ Err r
           → refuses_append r ≡ true
       by_room false c e = let is : TooMany 4096 ≡ r = cc in ap refuses_append (sym is)
       by_room true false e = let is : TooMany entry_limit ≡ r = cc in ap refuses_append (sym is)
-      by_room true true e = pieces_refused (rows.known_in w.pool) (λ k. k.1) (layout_of b.index) r 0 (end_of b.index) entries e
+      by_room true true e = pieces_refused (rows.known_in w.pool) (λ p. p.length) (layout_of b.index) r 0 (end_of b.index) entries e
 
   pub append_refuses : (r : Refusal) → rows.append w number entries ≡ Err r → refuses_append r ≡ true
   unfolding rows.append
@@ -91,7 +91,7 @@ module _ (w : Writing) (number : ℕ) (entries : List (Digest32 × ℕ)) where
   unfolding rows.append
   append_key after is = by_begun (rows.begun_at number w) is
     where
-      by_pieces : (q : Result (List Known) Refusal) → (q >>= λ known. left known) ≡ Ok (after, tt) → after.key ≡ w.key
+      by_pieces : (q : Result (List Piece) Refusal) → (q >>= λ known. left known) ≡ Ok (after, tt) → after.key ≡ w.key
       by_pieces (Err x) e = cc
       by_pieces (Ok known) e = ap (λ (x : Writing). x.key) (left_same _ after e)
 

@@ -12,6 +12,7 @@ use Rattle.sha2.specs.Sha256.{sha256}
 use Rattle.disk_trait.specs.Files.{Files}
 use Rattle.disk_trait.specs.Laws.{by_name}
 use Rattle.store_types.specs.declared.names.Digest32.{Digest32}
+use Rattle.store_types.specs.declared.piece.Piece.{Piece}
 use Rattle.store_types.specs.declared.refusal.Refusal.{Refusal}
 use Rattle.store_types.specs.declared.refusal.Refusal.TheVariants.{BadBlob as BadBlobOf, WrongSize, WrongDigest}
 use Rattle.store_types.specs.declared.refusal.BadBlob.{BadBlob}
@@ -38,7 +39,7 @@ use Rattle.chunk_store.proofs.Blobs.{data_are_bytes, same_data}
 use Rattle.file_install.proofs.InstallLaws.{installed_name}
 use Rattle.chunk_store.proofs.Maps.{with_absent, with_present, with_other_chunk, with_kept, with_file, whole_with}
 use Rattle.backup_session.specs.Session.{length_at}
-use Rattle.backup_session.specs.Shown.{known_of, pool_of}
+use Rattle.backup_session.specs.Shown.{piece_of, pool_of}
 use Rattle.backup_session.proofs.Pools.{known_in-pool}
 use Rattle.core_state.specs.declared.kept.Session.TheVariants as kept
 use Rattle.core_state.specs.declared.parts.Parts.{Parts}
@@ -212,23 +213,23 @@ module _ (m : Files) (digest : Digest32) (bytes p : List ℕ) (is : IsSent diges
 
 -- ---- a piece that is known
 
-mapped : (digest : List ℕ) (o : Option ℕ) → is_some o ≡ true → is_some {T = List ℕ × ℕ} (option_map (λ len. (digest, len)) o) ≡ true
+mapped : (digest : Digest32) (o : Option ℕ) → is_some o ≡ true → is_some {T = Piece} (option_map (λ len. record { digest = digest; length = len }) o) ≡ true
 mapped digest (Some n) e = refl
 mapped digest None e = absurd (false_true e)
 
-piece_known : (digest : Digest32) (ps : List (List ℕ)) → is_some (option_map known_of (piece_with digest ps)) ≡ true → (q : List ℕ) × Contains ps q × (sha256 q ≡ digest.0)
+piece_known : (digest : Digest32) (ps : List (List ℕ)) → is_some (option_map piece_of (piece_with digest ps)) ≡ true → (q : List ℕ) × Contains ps q × (sha256 q ≡ digest.0)
 piece_known digest [] e = absurd (false_true e)
 piece_known digest (x ∷ ps) e = by_test (bytes_eq (sha256 x) digest.0) refl e (λ later. piece_known digest ps later)
   where
-    by_test : (b : Bool) → bytes_eq (sha256 x) digest.0 ≡ b → is_some (option_map known_of (cond b (Some x) (piece_with digest ps))) ≡ true
-        → (is_some (option_map known_of (piece_with digest ps)) ≡ true → (q : List ℕ) × Contains ps q × (sha256 q ≡ digest.0)) → (q : List ℕ) × Contains (x ∷ ps) q × (sha256 q ≡ digest.0)
+    by_test : (b : Bool) → bytes_eq (sha256 x) digest.0 ≡ b → is_some (option_map piece_of (cond b (Some x) (piece_with digest ps))) ≡ true
+        → (is_some (option_map piece_of (piece_with digest ps)) ≡ true → (q : List ℕ) × Contains ps q × (sha256 q ≡ digest.0)) → (q : List ℕ) × Contains (x ∷ ps) q × (sha256 q ≡ digest.0)
     by_test true t e go = (x, (0, omega arith, refl), (bytes_eq-Decides (sha256 x) digest.0).0 t)
     by_test false t e go = let (q, c, same) = go e in (q, Contains-append_right (x ∷ []) ps q c, same)
 
 -- it is one of the pool, and its chunk is there
 pub known_there : (m : Files) (w : Writer) (digest : Digest32) → is_some (length_at (pool_of w.pool) digest.0) ≡ true → HasUploads m w → (q : List ℕ) × Contains w.pool q × (get m (chunk_name digest.0) ≡ Some (blob q))
 known_there m w digest known h =
-    let (q, c, same) = piece_known digest w.pool (ap is_some (sym (known_in-pool w.pool digest)) ∙ mapped digest.0 (length_at (pool_of w.pool) digest.0) known) in
+    let (q, c, same) = piece_known digest w.pool (ap is_some (sym (known_in-pool w.pool digest)) ∙ mapped digest (length_at (pool_of w.pool) digest.0) known) in
     (q, c, ap (λ d. get m (chunk_name d)) (sym same) ∙ All-contains (HasChunk m) w.pool q h.pool c)
 
 -- ---- the act

@@ -1,6 +1,6 @@
 -- PREVIOUS is the store's: what is read of the base's file, and the pieces that the writer may name then.
 use Rattle.disk_trait.specs.declared.disk.Disk.{Ghosts}
-use Rattle.std.proofs.Common.{◌≡◌, ◌↔◌, ◌⊎◌, inl, inr, ⊎_elim, ◌<◌, ◌+◌, ◌-◌, ℕ, Bool, true, false, ◌&&◌, cond, List, [], ◌∷◌, length, nat_lt, nat_le, drop, find, map, set, Option, Some, None, Result, Ok, Err, OnOk, OnErr, IsErrOf, IsErrAnd, refl, sym, ap, subst, ◌∙◌, arith}
+use Rattle.std.proofs.Common.{◌≡◌, ◌↔◌, ◌⊎◌, inl, inr, ⊎_elim, ◌<◌, ◌+◌, ◌-◌, ℕ, Bool, true, false, ◌&&◌, cond, List, [], ◌∷◌, length, get_or, nat_lt, nat_le, drop, find, map, set, Option, Some, None, Result, Ok, Err, OnOk, OnErr, IsErrOf, IsErrAnd, refl, sym, ap, subst, ◌∙◌, arith}
 use Rattle.std.proofs.lemmas.Bool.{and_parts, and_from}
 use Rattle.std.proofs.Math.ListN.{get_or-append}
 use Rattle.std.proofs.lemmas.List.{get_or-set_same, length-append, get_or-append-add}
@@ -30,7 +30,6 @@ use Rattle.store_model.specs.Steps.{outcome}
 use Rattle.store_model.specs.ReaderSteps.{content_at}
 use Rattle.store_model.specs.WriterSteps.{previous, base_of, goes_on, with_pool, part_of}
 use Rattle.store_files.specs.DynamicIndex.{Ended}
-use Rattle.dynamic_index.specs.Writing.{Known}
 use Rattle.known_chunks.specs.Lengths.{Lengths}
 use Rattle.snapshot_files.specs.Reads.{StopHasText}
 use Rattle.snapshot_files.specs.Parts.{part_at, part_from, part_reply, IsPart, RefusesPart}
@@ -82,12 +81,12 @@ use Rattle.core_state.proofs.Finding.{mapped, found_in}
 use Rattle.core_state.proofs.Found.{IsThere, kept_is, not_kept, is_there, not_there, there_named, there_text, there_kind, there_fits}
 use Rattle.core_state.proofs.LockLemmas.{locked_writes_on}
 use Rattle.core_state.specs.declared.indexes.Indexes.{Indexes}
-use Rattle.core_state.specs.declared.indexes.Indexes.TheVariants.{Opened, Pooled, Unread}
+use Rattle.core_state.specs.declared.indexes.Indexes.TheVariants.{LastPage, Opened, Pooled, Unread}
 use Rattle.core_state.specs.Indexed.{FitsRow, FitsRows, IsPooled, files_of_base, is_pooled, pooling, row_at, row_in}
 use Rattle.core_state.proofs.Rows.{rows_but, rows_set, writer_keeps}
 use Rattle.core_uploads.proofs.PooledPieces.{all_pooled, lengths_there}
 use Rattle.core_state.proofs.Soundness.{IsAlone, sound_writer, disk_writer, shows_changed}
-use Rattle.core_uploads.specs.Previous.{NotesPooled, Previous, as_map, asked_at, asked_of_base, base_file, kept_by, kept_by_whole, known_by_whole, previous_by, shown_given, whole_for, with_known}
+use Rattle.core_uploads.specs.Previous.{ArePieces, NotesPooled, Previous, as_map, asked_at, asked_of_base, base_file, kept_by, kept_by_whole, known_by_whole, previous_by, shown_given, whole_for, with_known}
 use Rattle.core_uploads.specs.declared.previous_files.Given.{Given}
 use Rattle.core_uploads.specs.Names.{IsNoName}
 use Rattle.core_uploads.proofs.Pooled.{is_writer_pooled, has_uploads_pooled}
@@ -228,11 +227,11 @@ whole_blob name h = by_tests (is_fixed_name name) (is_dynamic_name name) (other_
 
 -- ---- what a file of the store gives
 
-abbrev known_pieces : Content → List Known
+abbrev known_pieces : Content → List (List ℕ × ℕ)
 known_pieces content = map known_of (pieces_of content)
 
 -- a part, with these pieces
-abbrev gives_with : List Known → Result Reply Refusal → Result Previous Refusal
+abbrev gives_with : List (List ℕ × ℕ) → Result Reply Refusal → Result Previous Refusal
 gives_with pieces part = part >>= λ reply. Ok (record { part = reply; pieces = as_map pieces })
 
 abbrev gives : Content → Result Reply Refusal → Result Previous Refusal
@@ -346,6 +345,7 @@ pooled_in : (snapshots : List Snapshot) (key : SnapshotKey) (name path : List �
     → is_pooled name row ≡ true → All (Contains w.pool) (pieces_of (t.file).content)
 pooled_in snapshots key name path w Unread t base fit is = cc
 pooled_in snapshots key name path w (Opened o) t base fit is = absurd fit
+pooled_in snapshots key name path w (LastPage p) t base fit is = absurd fit
 pooled_in snapshots key name path w (Pooled names) t base fit is =
     let (n, same, pooled) = named_of (IsPooled w.pool (files_of_base w.base snapshots)) (λ n. bytes_eq name n) names fit is in
     let here : content_at (files_named key snapshots) name ≡ Some (archive pooled.one) =
@@ -393,16 +393,16 @@ content_pieces : (x : Content) → FitsContent x → All IsPiece (pieces_of x)
 content_pieces (archive a) fits = fits.1
 content_pieces (blob bytes) fits = All-nil IsPiece
 
-refused_by : (s : Store) (lane : ℕ) (name : List ℕ) (offset : ℕ) (w : Writer) (x : Content) (pieces : List Known) (r : Refusal) (part : Result Reply Refusal) → gives_with pieces part ≡ Err r → with_part s lane name offset w x part ≡ Err r
+refused_by : (s : Store) (lane : ℕ) (name : List ℕ) (offset : ℕ) (w : Writer) (x : Content) (pieces : List (List ℕ × ℕ)) (r : Refusal) (part : Result Reply Refusal) → gives_with pieces part ≡ Err r → with_part s lane name offset w x part ≡ Err r
 refused_by s lane name offset w x pieces r (Ok reply) e = cc
 refused_by s lane name offset w x pieces r (Err q) e = let same : q ≡ r = cc in ap (λ x. let y : Outcome = Err x in y) same
 
 -- what is given
-pub record IsGiven (s : Store) (lane : ℕ) (name : List ℕ) (offset : ℕ) (w : Writer) (x : Content) (pieces : List Known) (part : Result Reply Refusal) (p : Previous) : Type 0 where
+pub record IsGiven (s : Store) (lane : ℕ) (name : List ℕ) (offset : ℕ) (w : Writer) (x : Content) (pieces : List (List ℕ × ℕ)) (part : Result Reply Refusal) (p : Previous) : Type 0 where
   pub step : with_part s lane name offset w x part ≡ Ok (with_session s lane (writer (with_pool (pieces_of x) w)), p.part)
   pub pieces_are : p.pieces ≡ as_map pieces
 
-given_by : (s : Store) (lane : ℕ) (name : List ℕ) (offset : ℕ) (w : Writer) (x : Content) (pieces : List Known) (part : Result Reply Refusal) (p : Previous) → gives_with pieces part ≡ Ok p → IsGiven s lane name offset w x pieces part p
+given_by : (s : Store) (lane : ℕ) (name : List ℕ) (offset : ℕ) (w : Writer) (x : Content) (pieces : List (List ℕ × ℕ)) (part : Result Reply Refusal) (p : Previous) → gives_with pieces part ≡ Ok p → IsGiven s lane name offset w x pieces part p
 given_by s lane name offset w x pieces (Err q) p e = cc
 given_by s lane name offset w x pieces (Ok reply) p e =
     let made : Previous = record { part = reply; pieces = as_map pieces } in
@@ -430,7 +430,7 @@ module _ {D : Type 0} (d : Ghosts D) (old new : Parts D) (s : Store) (lane m : �
   pooled = pooled_in s.snapshots b.key name path w row b.there b.base fit
 
   -- the pieces that are read of it
-  abbrev read_pieces : Bool → List Known
+  abbrev read_pieces : Bool → List (List ℕ × ℕ)
   read_pieces is = if is then [] else known_pieces file
 
   read_by_row : (is : Bool) → previous_by (if is then None else kind_named name) (d.content old.disk) path offset ≡ gives_with (read_pieces is) (part_from (file_text file) offset)
@@ -451,7 +451,7 @@ module _ {D : Type 0} (d : Ghosts D) (old new : Parts D) (s : Store) (lane m : �
   part_refused r is = outcome_is ∙ refused_by s lane name offset w file (read_pieces (is_pooled name row)) r (part_from (file_text file) offset) (sym read_is ∙ is)
 
   -- the session then has the pool with its pieces, whether they were read now or before
-  session_by : (whole : Option IndexKind) (pieces : List Known) → (whole ≡ None → All (Contains w.pool) (pieces_of file)) → (is_some whole ≡ true → pieces ≡ known_pieces file)
+  session_by : (whole : Option IndexKind) (pieces : List (List ℕ × ℕ)) → (whole ≡ None → All (Contains w.pool) (pieces_of file)) → (is_some whole ≡ true → pieces ≡ known_pieces file)
       → known_by_whole whole (as_map pieces) (kept.Writer (shown_writer w)) ≡ kept.Writer (shown_writer (with_pool (pieces_of file) w))
   session_by None pieces part are = shown_pooled w (pieces_of file) (part refl)
   session_by (Some of_kind) pieces part are = ap (λ ks. with_known (as_map ks) (kept.Writer (shown_writer w))) (are refl) ∙ shown_known w (pieces_of file)
@@ -484,6 +484,7 @@ module _ {D : Type 0} (d : Ghosts D) (old new : Parts D) (s : Store) (lane m : �
   fits_names Unread is now = All-cons (IsPooled (with_pool (pieces_of file) w).pool (files_of_base w.base s.snapshots)) name [] now (All-nil (IsPooled (with_pool (pieces_of file) w).pool (files_of_base w.base s.snapshots)))
   fits_names (Pooled names) is now = All-cons (IsPooled (with_pool (pieces_of file) w).pool (files_of_base w.base s.snapshots)) name names now is
   fits_names (Opened o) is now = absurd is
+  fits_names (LastPage p) is now = absurd is
 
   -- an index is an archive
   fits_whole : (whole : Option IndexKind) → (is_some whole ≡ true → is_some (kind_named name) ≡ true) → FitsRow s.snapshots (writer (with_pool (pieces_of file) w)) (kept_by_whole whole name row)
@@ -707,17 +708,32 @@ row_left old new lane lt left rows =
     let row_there : lane < length old.indexes.items = omega (arith, old.rows, old.indexes.ok.0, lt) in
     ap (λ xs. row_in xs lane) rows ∙ get_or-set_same old.indexes.items lane left Unread row_there
 
-module _ {D : Type 0} (old new : Parts D) (at : Place) (name : List ℕ) where
+module _ {D : Type 0} (d : Ghosts D) (old new : Parts D) (at : Place) (name : List ℕ) (offset : ℕ) where
   -- it stopped
-  pub notes_none : (stop : Stop) (result : Result Reply Stop) → IsErrAnd result (λ x. x ≡ stop) → new.indexes.items ≡ old.indexes.items → NotesPooled old new at name result
+  pub notes_none : (stop : Stop) (result : Result Reply Stop) → IsErrAnd result (λ x. x ≡ stop) → new.indexes.items ≡ old.indexes.items → NotesPooled d old new at.lane name offset result
   notes_none stop (Ok reply) is same = absurd is
-  notes_none stop (Err e) is same = record { noted = tt; stopped = ap (λ xs. row_in xs at.lane) same }
+  notes_none stop (Err e) is same = record { noted = tt; known = tt; stopped = ap (λ xs. row_in xs at.lane) same }
 
   -- it is done
-  pub notes_done : at.lane < 64 → (reply : Reply) → new.indexes.items ≡ set old.indexes.items at.lane (kept_by_whole (whole_for (row_at old at.lane) name) name (row_at old at.lane)) → NotesPooled old new at name (Ok reply)
-  notes_done lt reply rows =
-      let left = row_left old new at.lane lt (kept_by_whole (whole_for (row_at old at.lane) name) name (row_at old at.lane)) rows in
-      record { noted = left; stopped = tt }
+  pub notes_done : at.lane < 64 → (w : Writing) (path : List ℕ) (g : Given) (y : Session) → session_at old at.lane ≡ kept.Writer w → is_file_name name ≡ true
+      → base_file ((w.session).writer).base name old.catalogue.listed ≡ Ok path → ArePieces g.pieces
+      → (d.honest old.disk → previous_by (whole_for (row_at old at.lane) name) (d.content old.disk) path offset ≡ Ok (shown_given g))
+      → new.sessions.items ≡ set old.sessions.items at.lane y → y ≡ known_by_whole (whole_for (row_at old at.lane) name) g.pieces (session_at old at.lane)
+      → new.indexes.items ≡ set old.indexes.items at.lane (kept_by_whole (whole_for (row_at old at.lane) name) name (row_at old at.lane)) → NotesPooled d old new at.lane name offset (Ok (part_reply g.part))
+  notes_done lt w path g y writes good there are exact sessions noted rows =
+      let within : at.lane < length old.sessions.items = omega (arith, old.lanes, old.sessions.ok.0, lt) in
+      let left = row_left old new at.lane lt (kept_by_whole (whole_for (row_at old at.lane) name) name (row_at old at.lane)) rows in record {
+        noted = left;
+        known = record {
+          path = path;
+          asked = asked_writer (row_at old at.lane) name offset (session_at old at.lane) w old.catalogue.listed (Ok path) writes good there;
+          pieces = g.pieces;
+          are = are;
+          read = exact;
+          known = ap (λ (xs : List Session). get_or xs at.lane kept.Idle) sessions ∙ get_or-set_same old.sessions.items at.lane y kept.Idle within ∙ noted;
+        };
+        stopped = tt;
+      }
 
 module _ {D : Type 0} (d : Ghosts D) (parts : Parts D) (at : Place) (name : List ℕ) (offset : ℕ) where
   abbrev act : Act

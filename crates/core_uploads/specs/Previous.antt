@@ -1,5 +1,5 @@
 -- PREVIOUS, by what the core keeps and what the disk holds.
-use Rattle.std.specs.Prelude.{◌≡◌, OnOk, OnErr, ℕ, List, if◌then◌else◌, Option, None, Some, Result, Ok, Err, MatchResult}
+use Rattle.std.specs.Prelude.{◌≡◌, OnOk, OnErr, ℕ, List, if◌then◌else◌, Option, None, Some, Result, Ok, Err, IfOk, MatchResult}
 use Rattle.std.specs.FinMap.{empty, entries}
 use Rattle.std.specs.Borrow.{Bor}
 use Rattle.disk_trait.specs.declared.disk.Disk.{Ghosts}
@@ -10,7 +10,6 @@ use Rattle.store_types.specs.declared.refusal.Refusal.TheVariants.{NoSnapshot, N
 use Rattle.store_types.specs.Chain.Refusing.{◌>>=◌, or_else}
 use Rattle.store_types.specs.FileNames.{is_file_name}
 use Rattle.wire_commands.specs.declared.reply.Reply.{Reply}
-use Rattle.dynamic_index.specs.Writing.{Known}
 use Rattle.known_chunks.specs.Lengths.{Lengths, with_lengths}
 use Rattle.paged_indexes.specs.declared.kinds.IndexKind.{IndexKind}
 use Rattle.snapshot_files.specs.Indexes.{index_at, kind_named, lengths_from}
@@ -25,13 +24,13 @@ use Rattle.core_state.specs.declared.kept.Listed.{Listed}
 use Rattle.core_state.specs.declared.kept.Writing.{Writing}
 use Rattle.core_state.specs.declared.kept.Session.{Session}
 use Rattle.core_state.specs.declared.kept.Session.TheVariants.{Idle, Writer, Reader}
-use Rattle.core_state.specs.declared.entering.Place.{Place}
 use Rattle.core_state.specs.declared.indexes.Indexes.{Indexes}
 use Rattle.core_state.specs.declared.indexes.Indexes.TheVariants.{Pooled}
 use Rattle.core_state.specs.declared.parts.Parts.{Parts}
 use Rattle.core_state.specs.Found.{kept_named, path_named}
 use Rattle.core_state.specs.Indexed.{is_pooled, pooling, row_at}
 use Rattle.core_state.specs.Unreadables.{Asked, from_offset, read_by}
+use Rattle.core_state.specs.Wanted.{session_at}
 use Rattle.core_uploads.specs.declared.previous_files.Given.{Given}
 
 -- ---- the file of the base
@@ -69,7 +68,7 @@ asked_of_base row name offset (Reader r) catalogue = None
 -- ---- what is read of it
 
 -- the lengths of pieces by their digests
-abbrev pub as_map : List Known → Lengths
+abbrev pub as_map : List (List ℕ × ℕ) → Lengths
 as_map pieces = with_lengths empty pieces
 
 -- a part, and the lengths of an index's pieces by their digests
@@ -120,7 +119,18 @@ abbrev pub kept_by_whole : Option IndexKind → List ℕ → Indexes → Indexes
 kept_by_whole None name row = row
 kept_by_whole (Some of_kind) name row = Pooled (pooling name row)
 
--- what the lane keeps of indexes: where PREVIOUS stopped, what it kept
-pub record NotesPooled {D : Type 0} (old new : Parts D) (at : Place) (name : List ℕ) (result : Result Reply Stop) : Type 0 where
-  pub noted : OnOk result (row_at new at.lane ≡ kept_by_whole (whole_for (row_at old at.lane) name) name (row_at old at.lane))
-  pub stopped : OnErr result (row_at new at.lane ≡ row_at old at.lane)
+-- The file was asked for and its part is the reply. Of an index that was read whole the writer may name all pieces: those that an honest
+-- disk gave, whatever it holds, and on any disk some that have such lengths. By another file the session is as before.
+pub record NotesPieces {D : Type 0} (d : Ghosts D) (old new : Parts D) (lane : ℕ) (name : List ℕ) (offset : ℕ) (reply : Reply) : Type 0 where
+  pub path : List ℕ
+  pub asked : asked_of_base (row_at old lane) name offset (session_at old lane) old.catalogue.listed ≡ asked_at (whole_for (row_at old lane) name) offset (Ok path)
+  pub pieces : Lengths
+  pub are : ArePieces pieces
+  pub read : d.honest old.disk → previous_by (whole_for (row_at old lane) name) (d.content old.disk) path offset ≡ Ok (record { part = reply; pieces = pieces })
+  pub known : session_at new lane ≡ known_by_whole (whole_for (row_at old lane) name) pieces (session_at old lane)
+
+-- what the lane keeps of indexes, and what its session notes: where PREVIOUS stopped, what it kept
+pub record NotesPooled {D : Type 0} (d : Ghosts D) (old new : Parts D) (lane : ℕ) (name : List ℕ) (offset : ℕ) (result : Result Reply Stop) : Type 0 where
+  pub noted : OnOk result (row_at new lane ≡ kept_by_whole (whole_for (row_at old lane) name) name (row_at old lane))
+  pub known : IfOk result (NotesPieces d old new lane name offset)
+  pub stopped : OnErr result (row_at new lane ≡ row_at old lane)

@@ -183,8 +183,8 @@ pub fn previous<D: Disk>(
     // it is unreadable exactly where it is, as far as the disk tells
     ensures unreadable { ActUnreadable D.Disk
         (asked_of_base (row_at parts.old at.lane) name.now offset) parts.old at result }
-    // what the lane keeps of indexes then
-    ensures notes { NotesPooled parts.old parts.new at name.now result }
+    // what the lane keeps of indexes then, and which pieces its writer may name
+    ensures notes { NotesPooled D.Disk parts.old parts.new at.lane name.now offset result }
 {
     parts.writer(at.lane)?;
     let name = file_name(alloc, name)?;

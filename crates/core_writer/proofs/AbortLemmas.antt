@@ -41,6 +41,7 @@ use Rattle.core_state.specs.Chunks.{AddsChunks}
 use Rattle.core_state.specs.Commands.{ActDoes, ActLeaves}
 use Rattle.core_state.specs.Holds.{Does, Holds, Shows}
 use Rattle.core_state.specs.Unchanged.{SameKept}
+use Rattle.core_state.specs.Closing.{HasEnded}
 use Rattle.core_state.specs.Wanted.{session_at}
 use Rattle.core_state.specs.declared.indexes.Indexes.TheVariants.{Unread}
 use Rattle.core_state.proofs.Rows.{rows_but}
@@ -119,7 +120,7 @@ module _ {D : Type 0} (d : Ghosts D) where
 
   pub end_leaves : (old new : Parts D) (at : Place) (removed : D) → new.disk ≡ removed → LeavesBy d old.disk removed (MayLose (put_paths (files_in (session_at old at.lane))))
       → (d.honest old.disk → d.content removed ≡ without (put_paths (files_in (session_at old at.lane))) (d.content old.disk))
-      → new.catalogue.listed ≡ old.catalogue.listed → session_at new at.lane ≡ Idle → new.indexes.items ≡ set old.indexes.items at.lane Unread → ActLeaves d old new at acts.End (Ok Done)
+      → new.catalogue.listed ≡ old.catalogue.listed → HasEnded new at.lane → new.indexes.items ≡ set old.indexes.items at.lane Unread → ActLeaves d old new at acts.End (Ok Done)
   end_leaves old new at removed same crash content c idle emptied =
       let reads : d.honest old.disk → d.content new.disk ≡ without (put_paths (files_in (session_at old at.lane))) (d.content old.disk) = λ h. ap d.content same ∙ content h in
       writes_leaves d old new at acts.End Done tt refl
@@ -179,7 +180,7 @@ module _ {D : Type 0} (d : Ghosts D) where
         admin = λ e. cc;
         adds = ends.adds;
         passed_its_tests = λ failed s h. tt;
-        closed = λ _. ends.ended refl;
+        closed = λ _. (ends.ended refl).session;
         ended = λ _. ends.ended refl;
         writes = λ writes. cc;
         rows = ends.rows;

@@ -1,11 +1,16 @@
 -- A lane's end, by the place that it has in the order.
-use Rattle.std.proofs.Common.{◌≡◌, ℕ, true, false, Option, Some, None, refl, sym, subst}
+use Rattle.std.proofs.Common.{◌≡◌, ℕ, true, false, set, Option, Some, None, refl, sym, subst}
 use Rattle.std.specs.Option.{is_some}
 use Rattle.store_model.specs.Store.{Store, ended}
+use Rattle.store_history.specs.declared.act.Act.TheVariants.{End}
+use Rattle.core_state.specs.declared.indexes.Indexes.TheVariants.{Unread}
 use Rattle.core_state.specs.declared.kept.Session.TheVariants.{Idle}
 use Rattle.core_state.specs.declared.parts.Parts.{Parts}
+use Rattle.core_state.specs.Closing.{HasEnded}
+use Rattle.core_state.specs.Commands.{LeavesRows}
 use Rattle.core_state.specs.Holds.{Shows}
 use Rattle.core_state.specs.Wanted.{session_at}
+use Rattle.core_state.proofs.Rows.{rows_but}
 
 pub some_is : (o : Option ℕ) → is_some o ≡ true → (n : ℕ) × (o ≡ Some n)
 some_is None h = absurd (no_true h)
@@ -27,3 +32,10 @@ lane_shows parts s at lane is shows = subst (λ l. Shows parts (ended s l)) (sym
 
 pub lane_idle : {D : Type 0} (parts : Parts D) (at lane : ℕ) → at ≡ lane → session_at parts lane ≡ Idle → session_at parts at ≡ Idle
 lane_idle parts at lane is idle = subst (λ l. session_at parts l ≡ Idle) (sym is) idle
+
+pub lane_ended : {D : Type 0} (parts : Parts D) (at lane : ℕ) → at ≡ lane → HasEnded parts lane → HasEnded parts at
+lane_ended parts at lane is ended = subst (HasEnded parts) (sym is) ended
+
+-- the other lanes keep what they kept of indexes
+pub others_keep : {D : Type 0} (old new : Parts D) (at lane : ℕ) → at ≡ lane → new.indexes.items ≡ set old.indexes.items lane Unread → LeavesRows old new at End
+others_keep old new at lane is emptied = subst (λ l. LeavesRows old new l End) (sym is) (rows_but old new.indexes.items lane End Unread refl emptied)

@@ -7,4 +7,5 @@ pub mod FinishLemmas
 pub mod AbortLemmas
 pub mod LaneEnds
 pub mod ActLemmas
+pub mod ActNotes
 pub mod TouchLemmas

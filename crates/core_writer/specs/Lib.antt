@@ -5,3 +5,4 @@ pub mod WriterActs
 pub mod Finished
 pub mod Stopping
 pub mod Touching
+pub mod Notes

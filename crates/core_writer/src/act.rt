@@ -8,8 +8,10 @@ ghost use Rattle.core_state.specs.Applies.{ActApplies, ActKeeps};
 ghost use Rattle.core_state.specs.Commands.{ActDoes, ActLeaves};
 ghost use Rattle.core_state.specs.Indexed.{row_at};
 ghost use Rattle.core_state.specs.Reserved.{HasRoom};
+ghost use Rattle.core_state.specs.Stops.{ended_by};
 ghost use Rattle.core_state.specs.Unreadables.{ActUnreadable, CoreUnreadable};
 ghost use Rattle.core_writer.specs.AnsweredBy.{ActAnswersBy, CoreAnswersBy};
+ghost use Rattle.core_writer.specs.Notes.{Notes};
 ghost use Rattle.core_writer.specs.Touching.{ActTouches};
 ghost use Rattle.core_writer.specs.WriterActs.{asked_of_writer};
 
@@ -46,6 +48,7 @@ fn perform<D: Disk>(
     ensures from_state { ActAnswersBy parts.old at act result }
     ensures unreadable { ActUnreadable D.Disk (asked_of_writer (row_at parts.old at.lane) act)
         parts.old at result }
+    ensures notes { Notes D.Disk parts.old parts.new at.lane act result }
 {
     match act {
         Act::Plain(Command::OpenWriter { snapshot }) => {
@@ -103,6 +106,8 @@ pub fn writer_act<D: Disk, E, C: Clock>(
     // a file of the base is unreadable exactly where it is, as far as the disk tells
     ensures unreadable { CoreUnreadable D.Disk (asked_of_writer (row_at core.old.parts lane) act)
         core.old lane result }
+    // what the lane keeps of indexes then, and which pieces of one its writer may name
+    ensures notes { Notes D.Disk core.old.parts core.new.parts lane act (ended_by result.reply) }
 {
     match begin(core, alloc, lane, &act) {
         Admitted::Answered(answer) => {

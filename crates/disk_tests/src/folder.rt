@@ -77,11 +77,13 @@ fn play_watched<D: Disk>(
     }
 }
 
-// Plays a session by a disk of its own.
-fn play_run(rt: HostRuntime, abort: &impl Abort, session: &str) {
+// Plays sessions, one after another, by a disk of its own.
+fn play_run(rt: HostRuntime, abort: &impl Abort, sessions: &[&str]) {
     let record = Record::new(rt.alloc());
     let mut disk = must(abort, alone_at(rt, &record, ROOT));
-    play_watched(abort, rt.alloc(), &record, &mut disk, session)
+    for session in sessions {
+        play_watched(abort, rt.alloc(), &record, &mut disk, session);
+    }
 }
 
 fn make_root(rt: HostRuntime, abort: &impl Abort, below: &str) {
@@ -159,23 +161,10 @@ sync = done
 list '' = u/v/c x/h
 read x/h = one";
 
-fn play_all<D: Disk>(rt: &impl Abort, alloc: Global, record: &Record, disk: &mut D) {
-    play_watched(rt, alloc, record, disk, NAMES);
-    play_watched(rt, alloc, record, disk, EIGHT);
-    play_watched(rt, alloc, record, disk, FAILED);
-    play_watched(rt, alloc, record, disk, NINTH)
-}
-
-fn try_watched(rt: HostRuntime, abort: &impl Abort) {
-    let record = Record::new(rt.alloc());
-    let mut disk = must(abort, alone_at(rt, &record, ROOT));
-    play_all(abort, rt.alloc(), &record, &mut disk)
-}
-
 #[test]
 fn names_wait_for_the_sync(rt: HostRuntime) {
     make_root(rt, &rt, "disk_tests_synced/x/y");
-    try_watched(rt, &rt);
+    play_run(rt, &rt, &[NAMES, EIGHT, FAILED, NINTH]);
     must(&rt, fs::remove_dir_all(&rt, ROOT));
 }
 
@@ -205,8 +194,8 @@ rename c/1/k.tmp c/1/k = done",
 fn what_a_killed_run_left_is_synced(rt: HostRuntime) {
     for (killed, next) in &LEFT {
         make_root(rt, &rt, ROOT);
-        play_run(rt, &rt, killed);
-        play_run(rt, &rt, next);
+        play_run(rt, &rt, &[killed]);
+        play_run(rt, &rt, &[next]);
     }
     must(&rt, fs::remove_dir_all(&rt, ROOT));
 }
@@ -260,7 +249,7 @@ fn make_file(rt: HostRuntime, abort: &impl Abort) {
 fn a_first_sync_lists(rt: HostRuntime) {
     for session in &LISTED {
         make_file(rt, &rt);
-        play_run(rt, &rt, session);
+        play_run(rt, &rt, &[session]);
     }
     must(&rt, fs::remove_dir_all(&rt, ROOT));
 }
@@ -270,6 +259,6 @@ fn a_first_sync_lists(rt: HostRuntime) {
 fn names_below_a_folder_are_listed(rt: HostRuntime) {
     make_file(rt, &rt);
     must(&rt, fs::write(&rt, "disk_tests_synced/g", b"g"));
-    play_run(rt, &rt, "sync = done . x x/y\nlist x/ = x/f");
+    play_run(rt, &rt, &["sync = done . x x/y\nlist x/ = x/f"]);
     must(&rt, fs::remove_dir_all(&rt, ROOT));
 }

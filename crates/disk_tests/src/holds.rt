@@ -3,7 +3,7 @@
 use crate::asserts::{must, same, same_at};
 use crate::maps::ALL_FAIL;
 use crate::sessions::play;
-use crate::watched::{Record, alone_at, shared_at};
+use crate::watched::{Record, alone_at, play_alone, shared_at};
 use std::fs;
 use std::process::Abort;
 
@@ -11,8 +11,7 @@ const ROOT: &str = "disk_tests_held";
 
 // Each call of another disk fails.
 fn try_others(rt: HostRuntime, abort: &impl Abort, record: &Record) {
-    let mut second = must(abort, alone_at(rt, record, ROOT));
-    play(abort, rt.alloc(), &mut second, ALL_FAIL);
+    play_alone(rt, abort, record, ROOT, "", &[ALL_FAIL]);
     let mut third = must(abort, shared_at(rt, record, ROOT));
     play(abort, rt.alloc(), &mut third, ALL_FAIL)
 }
@@ -31,17 +30,6 @@ fn try_alone(rt: HostRuntime, abort: &impl Abort, record: &Record) {
     play(abort, rt.alloc(), &mut first, BEHIND)
 }
 
-// When it has gone, the next has it.
-fn try_next(rt: HostRuntime, abort: &impl Abort, record: &Record) {
-    let mut next = must(abort, alone_at(rt, record, ROOT));
-    play(abort, rt.alloc(), &mut next, "list '' = a b")
-}
-
-fn try_kept_out(rt: HostRuntime, abort: &impl Abort, record: &Record) {
-    let mut alone = must(abort, alone_at(rt, record, ROOT));
-    play(abort, rt.alloc(), &mut alone, ALL_FAIL)
-}
-
 // Its sync changes nothing.
 const NO_CHANGE: &str = "\
 put a one = failed
@@ -52,7 +40,7 @@ remove a = failed";
 fn try_second(rt: HostRuntime, abort: &impl Abort, record: &Record) {
     let mut second = must(abort, shared_at(rt, record, ROOT));
     play(abort, rt.alloc(), &mut second, "list '' = a b");
-    try_kept_out(rt, abort, record);
+    play_alone(rt, abort, record, ROOT, "", &[ALL_FAIL]);
     play(abort, rt.alloc(), &mut second, NO_CHANGE)
 }
 
@@ -87,7 +75,8 @@ fn try_other(rt: HostRuntime, abort: &impl Abort, record: &Record) {
 
 fn try_all(rt: HostRuntime, abort: &impl Abort, record: &Record) {
     try_alone(rt, abort, record);
-    try_next(rt, abort, record);
+    // when it has gone, the next has it
+    play_alone(rt, abort, record, ROOT, "", &["list '' = a b"]);
     try_shared(rt, abort, record);
     try_other(rt, abort, record)
 }

@@ -1,8 +1,8 @@
 //! Links, and folders in the place of files: each call that meets one fails, and nothing is changed behind it.
 
 use crate::asserts::{must, same_at};
-use crate::sessions::{parted, play, play_at};
-use crate::watched::{Record, alone_at};
+use crate::sessions::parted;
+use crate::watched::{Record, play_alone};
 use std::fs;
 use std::os::unix::fs::symlink;
 use std::process::Abort;
@@ -40,6 +40,15 @@ size old = 3
 calls = 11
 faults = 10";
 
+// The innermost folder of `host/a` that is there, where this is a link.
+fn beside(link: &str) -> &str {
+    match link {
+        "host" => ROOT,
+        "host/a" => "disk_tests_linked/host",
+        _ => "disk_tests_linked/host/a",
+    }
+}
+
 // A root with a file `old`, a folder `host/a` and a link, which leads to a folder beside it.
 fn make_linked(rt: HostRuntime, abort: &impl Abort, link: &str, to: &str) {
     let _ = fs::remove_dir_all(&rt, ROOT);
@@ -51,35 +60,18 @@ fn make_linked(rt: HostRuntime, abort: &impl Abort, link: &str, to: &str) {
     );
     must(abort, fs::create_dir(&rt, ROOT));
     must(abort, fs::write(&rt, "disk_tests_linked/old", b"old"));
-    if link != "host" {
-        must(abort, fs::create_dir(&rt, "disk_tests_linked/host"));
-    }
-    if link != "host" && link != "host/a" {
-        must(abort, fs::create_dir(&rt, "disk_tests_linked/host/a"));
-    }
+    must(abort, fs::create_dir_all(&rt, beside(link)));
     let place = must(abort, format!(in rt.alloc(); "{ROOT}/{link}"));
     must(abort, symlink(&rt, to, place.as_str()));
 }
 
-// Outside nothing has changed.
-fn try_outside(rt: HostRuntime, abort: &impl Abort, record: &Record) {
-    let mut outside = must(abort, alone_at(rt, record, OUTSIDE));
-    play(abort, rt.alloc(), &mut outside, "list '' = host/a/m")
-}
-
-fn try_link(rt: HostRuntime, abort: &impl Abort, record: &Record, name: &str) {
-    let mut disk = must(abort, alone_at(rt, record, ROOT));
-    play_at(abort, rt.alloc(), &mut disk, name, MET);
-    play_at(abort, rt.alloc(), &mut disk, name, MET_BELOW)
-}
-
-// One line of the links.
+// One line of the links. Outside nothing has changed.
 fn try_line(rt: HostRuntime, abort: &impl Abort, record: &Record, line: &str) {
     let (link, rest) = parted(line);
     let (to, name) = parted(rest);
     make_linked(rt, abort, link, to);
-    try_link(rt, abort, record, name);
-    try_outside(rt, abort, record);
+    play_alone(rt, abort, record, ROOT, name, &[MET, MET_BELOW]);
+    play_alone(rt, abort, record, OUTSIDE, "", &["list '' = host/a/m"]);
     let kept = must(
         abort,
         fs::read_to_string(&rt, "disk_tests_outside/host/a/m"),
@@ -98,13 +90,7 @@ fn no_link_is_followed(rt: HostRuntime) {
 }
 
 // A folder stands where a file should be. It may be listed.
-fn try_folder_as_file(rt: HostRuntime, abort: &impl Abort, root: &str) {
-    let record = Record::new(rt.alloc());
-    let mut disk = must(abort, alone_at(rt, &record, root));
-    play(abort, rt.alloc(), &mut disk, "sync = done");
-    play_at(abort, rt.alloc(), &mut disk, "m", MET);
-    play(abort, rt.alloc(), &mut disk, "list '' = old")
-}
+const AS_FILE: [&str; 3] = ["sync = done", MET, "list '' = old"];
 
 #[test]
 fn a_folder_is_no_file(rt: HostRuntime) {
@@ -112,6 +98,7 @@ fn a_folder_is_no_file(rt: HostRuntime) {
     let _ = fs::remove_dir_all(&rt, root);
     must(&rt, fs::create_dir_all(&rt, "disk_tests_as_file/m"));
     must(&rt, fs::write(&rt, "disk_tests_as_file/old", b"old"));
-    try_folder_as_file(rt, &rt, root);
+    let record = Record::new(rt.alloc());
+    play_alone(rt, &rt, &record, root, "m", &AS_FILE);
     must(&rt, fs::remove_dir_all(&rt, root));
 }

@@ -1,11 +1,14 @@
 //! The host's files, with a record of what is synced, on a disk that can be full, or fail to sync folders, or fail at one call.
 
+use crate::asserts::must;
+use crate::sessions::play_at;
 use disk_trait::Failed;
 use file_disk::{FileDisk, LockFile, SyncFolders, sync_each};
 use std::alloc::{Alloc, AllocError, Allocator, Global};
 use std::cell::{Cell, RefCell};
 use std::fs::{File, Metadata, OpenFile, OpenOptions, TryLockError};
 use std::io::{self, ErrorKind, Read, Seek, SeekFrom, Write};
+use std::process::Abort;
 use std::rt::Files;
 
 #[derive(Drop)]
@@ -78,6 +81,21 @@ pub fn shared_at<'a>(
 ) -> Result<WatchedDisk<'a>, AllocError> {
     let watched = Watched { rt, record };
     FileDisk::shared(watched, watched, rt.alloc(), root)
+}
+
+/// Plays sessions at a name, one after another, by a disk of its own, which then lets the folder go.
+pub fn play_alone(
+    rt: HostRuntime,
+    abort: &impl Abort,
+    record: &Record,
+    root: &str,
+    name: &str,
+    sessions: &[&str],
+) {
+    let mut disk = must(abort, alone_at(rt, record, root));
+    for session in sessions {
+        play_at(abort, rt.alloc(), &mut disk, name, session);
+    }
 }
 
 #[derive(Drop)]

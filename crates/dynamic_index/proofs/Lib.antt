@@ -1,7 +1,7 @@
 mod Steps
 mod Cells
 mod LastEntry
-mod KnownPieces
+mod MorePieces
 mod Faults
 mod TextParts
 pub mod Spelling

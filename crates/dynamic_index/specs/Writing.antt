@@ -1,10 +1,10 @@
 -- A dynamic index as it is written: its pieces come one by one.
-use Rattle.std.specs.Prelude.{ℕ, ◌≡◌, ◌+◌, ◌<◌, ◌≤◌, FitsSigned, All, List, [], ◌∷◌, ◌++◌, length, map, replicate, ℤ, IsTrue}
+use Rattle.std.specs.Prelude.{ℕ, ◌≡◌, ◌+◌, ◌<◌, ◌≤◌, FitsSigned, All, List, [], ◌∷◌, ◌++◌, length, replicate, ℤ, IsTrue}
 use Rattle.std.specs.List.{AllByRecursion}
 use Rattle.std.specs.Int.{w64, to_le_bytes, cast_unsigned}
 use Rattle.store_files.specs.Cells.{entry_limit}
 use Rattle.store_files.specs.DynamicIndex.{DynamicIndex, Ended, magic, csum_of, steps_fit}
-use Rattle.store_types.specs.declared.names.Digest32.{Digest32}
+use Rattle.store_types.specs.declared.piece.Piece.{Piece}
 use Rattle.dynamic_index.specs.Pieces.{size_of}
 
 -- the rest of the header
@@ -33,30 +33,20 @@ pub record FitsPiece (x : DynamicIndex) (len : ℕ) : Type 0 where
 abbrev pub with_piece : DynamicIndex → List ℕ → ℕ → DynamicIndex
 with_piece x digest len = record x { entries = x.entries ++ record { end = size_of x + len; digest = digest } ∷ [] }
 
--- ---- several pieces at once, each by its digest and its length
-
-abbrev pub Known : Type 0
-Known = List ℕ × ℕ
-
-abbrev pub known_of : Digest32 × ℕ → Known
-known_of piece = ((piece.0).0, piece.1)
+-- ---- several pieces at once
 
 -- where each of them ends, behind a start
-abbrev pub ends_behind : ℕ → List Known → List Ended
+abbrev pub ends_behind : ℕ → List Piece → List Ended
 ends_behind start [] = []
-ends_behind start (k ∷ ks) = record { end = start + k.1; digest = k.0 } ∷ ends_behind (start + k.1) ks
-
--- so for pieces as they are handed in
-abbrev pub piece_ends : ℕ → List (Digest32 × ℕ) → List Ended
-piece_ends start pieces = ends_behind start (map known_of pieces)
+ends_behind start (p ∷ ps) = record { end = start + p.length; digest = (p.digest).0 } ∷ ends_behind (start + p.length) ps
 
 -- there is room for them all
-pub record FitsPieces (x : DynamicIndex) (pieces : List Known) : Type 0 where
+pub record FitsPieces (x : DynamicIndex) (pieces : List Piece) : Type 0 where
   pub room : length x.entries + length pieces ≤ entry_limit
-  pub lengths : AllByRecursion (λ k. (1 ≤ k.1) × (k.1 ≤ 16_777_216)) pieces
+  pub lengths : AllByRecursion (λ p. (1 ≤ p.length) × (p.length ≤ 16_777_216)) pieces
 
 -- they all stand behind the others
-abbrev pub with_pieces : DynamicIndex → List Known → DynamicIndex
+abbrev pub with_pieces : DynamicIndex → List Piece → DynamicIndex
 with_pieces x pieces = record x { entries = x.entries ++ ends_behind (size_of x) pieces }
 
 -- what a writer keeps

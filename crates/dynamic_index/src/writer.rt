@@ -1,17 +1,17 @@
 //! An index as it is written.
 
-ghost use Rattle.std.specs.Prelude.{◌≡◌, ◌≤◌, ◌*◌, ◌++◌, length, map, IfOk, OnOk, OnErr, Ok};
+ghost use Rattle.std.specs.Prelude.{◌≡◌, ◌≤◌, ◌*◌, ◌++◌, length, IfOk, OnOk, OnErr, Ok};
 ghost use Rattle.sha2.specs.Sha256.{sha256};
 ghost use Rattle.store_files.specs.DynamicIndex.{DynamicIndex, dynamic_text, dynamic_of, csum_of};
 ghost use Rattle.dynamic_index.specs.Pieces.{size_of};
 ghost use Rattle.dynamic_index.specs.Entries.{ended_of, ends_of, spelled};
-ghost use Rattle.dynamic_index.specs.Writing.{reserved, begun, header_text, with_piece, FitsPiece, known_of, piece_ends, HaveDigests, with_pieces, FitsPieces};
+ghost use Rattle.dynamic_index.specs.Writing.{reserved, begun, header_text, with_piece, FitsPiece, ends_behind, HaveDigests, with_pieces, FitsPieces};
 
 use crate::{ENTRY_SIZE, HEADER_SIZE, MAGIC};
 use sha2::{Digest, Sha256};
 use std::alloc::{AllocError, Global};
 use std::marker::Model;
-use store_types::Digest32;
+use store_types::{Digest32, Piece};
 
 // Where a piece ends, and which it is.
 #[derive(Drop)]
@@ -83,15 +83,11 @@ impl DynamicWriter {
         Ok(())
     }
 
-    /// The digests and lengths of the next pieces, each of 1 to 16,777,216 bytes. With those that are there they are at
-    /// most 1,048,576. At want of memory nothing has changed.
-    pub fn append_all(
-        &mut self,
-        alloc: Global,
-        pieces: &[(Digest32, u32)],
-    ) -> Result<(), AllocError>
-        requires { FitsPieces self.old (map known_of pieces.now) }
-        ensures ok { OnOk result (self.new ≡ with_pieces self.old (map known_of pieces.now)) }
+    /// The next pieces, each of 1 to 16,777,216 bytes. With those that are there they are at most 1,048,576. At want of
+    /// memory nothing has changed.
+    pub fn append_all(&mut self, alloc: Global, pieces: &[Piece]) -> Result<(), AllocError>
+        requires { FitsPieces self.old pieces.now }
+        ensures ok { OnOk result (self.new ≡ with_pieces self.old pieces.now) }
         ensures err { OnErr result (self.new ≡ self.old) }
     {
         let mut more = entries_behind(alloc, self.end(), pieces)?;
@@ -142,21 +138,17 @@ fn entry_at(end: u64, digest: &Digest32) -> Entry
 }
 
 // The entries of these pieces, which begin at a start.
-fn entries_behind(
-    alloc: Global,
-    start: u64,
-    pieces: &[(Digest32, u32)],
-) -> Result<Vec<Entry>, AllocError>
+fn entries_behind(alloc: Global, start: u64, pieces: &[Piece]) -> Result<Vec<Entry>, AllocError>
     requires count { length pieces.now ≤ 1_048_576 }
     requires start { start ≤ 1_048_576 * 16_777_216 }
-    ensures ends { IfOk result (λ entries. ends_of entries.items ≡ piece_ends start pieces.now) }
+    ensures ends { IfOk result (λ entries. ends_of entries.items ≡ ends_behind start pieces.now) }
     ensures digests { IfOk result (λ entries. HaveDigests (ends_of entries.items)) }
 {
     let mut entries = Vec::with_capacity(alloc, pieces.len())?;
     let mut end = start;
     for piece in pieces {
-        end += piece.1 as u64;
-        entries.push(entry_at(end, &piece.0))?;
+        end += piece.length as u64;
+        entries.push(entry_at(end, &piece.digest))?;
     }
     Ok(entries)
 }

@@ -6,7 +6,8 @@ use Rattle.std.proofs.lemmas.Bool.{cases_lt, leb-true}
 use Rattle.std.proofs.lemmas.List.{length-append}
 use Rattle.std.proofs.lemmas.List.Elements.{All-push, All-head, All-tail}
 use Rattle.std.specs.Int.{div_ceil}
-use Rattle.fixed_index.specs.Writing.{IsBegun, Known, FitsFrom}
+use Rattle.store_types.specs.declared.piece.Piece.{Piece}
+use Rattle.fixed_index.specs.Writing.{IsBegun, piece_digests, FitsFrom}
 use Rattle.store_files.specs.FixedIndex.{FixedIndex, is_chunk_size, piece_count, has_sizes}
 
 left_true : (a b : Bool) → IsTrue (a && b) → IsTrue a
@@ -93,15 +94,16 @@ append_nothing : (ds : List (List ℕ)) → ds ++ [] ≡ ds
 append_nothing [] = refl
 append_nothing (d ∷ ds) = ap (λ (l : List (List ℕ)). d ∷ l) (append_nothing ds)
 
-pub begun_all : (uuid : List ℕ) (ctime : ℤ) (size cut : ℕ) (digests : List (List ℕ)) (pieces : List Known) → IsBegun uuid ctime size cut digests →
-    FitsFrom size cut (min size (length digests * cut)) pieces → All (λ d. length d ≡ 32) (map (λ k. k.0) pieces) →
-    IsBegun uuid ctime size cut (digests ++ map (λ k. k.0) pieces)
+pub begun_all : (uuid : List ℕ) (ctime : ℤ) (size cut : ℕ) (digests : List (List ℕ)) (pieces : List Piece) → IsBegun uuid ctime size cut digests →
+    FitsFrom size cut (min size (length digests * cut)) pieces → All (λ d. length d ≡ 32) (piece_digests pieces) →
+    IsBegun uuid ctime size cut (digests ++ piece_digests pieces)
 begun_all uuid ctime size cut digests [] is fits long = subst (IsBegun uuid ctime size cut) (sym (append_nothing digests)) is
-begun_all uuid ctime size cut digests (k ∷ ks) is fits long =
+begun_all uuid ctime size cut digests (p ∷ ps) is fits long =
+    let digest = (p.digest).0 in
     let IsLong : List ℕ → Type 0 = λ d. length d ≡ 32 in
-    let more = begun_more uuid ctime size cut digests k.0 is fits.0 (All-head IsLong k.0 (map (λ j. j.0) ks) long) in
-    let count : length (digests ++ k.0 ∷ []) ≡ length digests + 1 = omega (arith, length-append digests (k.0 ∷ [])) in
-    let ends : min size (length digests * cut) + k.1 ≡ min size (length (digests ++ k.0 ∷ []) * cut) =
+    let more = begun_more uuid ctime size cut digests digest is fits.0 (All-head IsLong digest (piece_digests ps) long) in
+    let count : length (digests ++ digest ∷ []) ≡ length digests + 1 = omega (arith, length-append digests (digest ∷ [])) in
+    let ends : min size (length digests * cut) + p.length ≡ min size (length (digests ++ digest ∷ []) * cut) =
     ap (λ n. min size (length digests * cut) + n) (fits.1) ∙ next_end size cut (length digests) ∙ ap (λ n. min size (n * cut)) (sym count) in
-    subst (IsBegun uuid ctime size cut) (append_assoc digests (k.0 ∷ []) (map (λ j. j.0) ks))
-    (begun_all uuid ctime size cut (digests ++ k.0 ∷ []) ks more (subst (λ end. FitsFrom size cut end ks) ends fits.2) (All-tail IsLong k.0 (map (λ j. j.0) ks) long))
+    subst (IsBegun uuid ctime size cut) (append_assoc digests (digest ∷ []) (piece_digests ps))
+    (begun_all uuid ctime size cut (digests ++ digest ∷ []) ps more (subst (λ end. FitsFrom size cut end ps) ends fits.2) (All-tail IsLong digest (piece_digests ps) long))

@@ -4,6 +4,7 @@ use Rattle.std.specs.Int.{w64, to_le_bytes, cast_unsigned}
 use Rattle.store_files.specs.Cells.{entry_limit}
 use Rattle.store_files.specs.FixedIndex.{FixedIndex, magic, csum_of, is_chunk_size, piece_count, piece_len}
 use Rattle.store_types.specs.declared.names.Digest32.{Digest32}
+use Rattle.store_types.specs.declared.piece.Piece.{Piece}
 
 -- the rest of the header
 unfoldable pub reserved : List ℕ
@@ -41,29 +42,23 @@ pub record FitsPiece (x : FixedIndex) (len : ℕ) : Type 0 where
 abbrev pub with_digest : FixedIndex → List ℕ → FixedIndex
 with_digest x digest = record x { digests = x.digests ++ digest ∷ [] }
 
--- ---- several pieces at once, each by its digest and its length
+-- ---- several pieces at once
 
-abbrev pub Known : Type 0
-Known = List ℕ × ℕ
-
-abbrev pub known_of : Digest32 × ℕ → Known
-known_of piece = ((piece.0).0, piece.1)
-
--- the digests of pieces as they are handed in
-abbrev pub piece_digests : List (Digest32 × ℕ) → List (List ℕ)
-piece_digests pieces = map (λ k. k.0) (map known_of pieces)
+-- their digests' bytes
+abbrev pub piece_digests : List Piece → List (List ℕ)
+piece_digests pieces = map (λ p. (p.digest).0) pieces
 
 -- from an end on, each is as long as is asked where it begins
-abbrev pub FitsFrom : ℕ → ℕ → ℕ → List Known → Type 0
+abbrev pub FitsFrom : ℕ → ℕ → ℕ → List Piece → Type 0
 FitsFrom size cut end [] = Unit {0}
-FitsFrom size cut end (k ∷ ks) = (end < size) × (k.1 ≡ piece_len size cut end) × FitsFrom size cut (end + k.1) ks
+FitsFrom size cut end (p ∷ ps) = (end < size) × (p.length ≡ piece_len size cut end) × FitsFrom size cut (end + p.length) ps
 
-abbrev pub FitsPieces : FixedIndex → List Known → Type 0
+abbrev pub FitsPieces : FixedIndex → List Piece → Type 0
 FitsPieces x pieces = FitsFrom x.size x.chunk_size (end_of x) pieces
 
 -- they all stand behind the others
-abbrev pub with_pieces : FixedIndex → List Known → FixedIndex
-with_pieces x pieces = record x { digests = x.digests ++ map (λ k. k.0) pieces }
+abbrev pub with_pieces : FixedIndex → List Piece → FixedIndex
+with_pieces x pieces = record x { digests = x.digests ++ piece_digests pieces }
 
 -- what a writer keeps
 pub record IsBegun (uuid : List ℕ) (ctime : ℤ) (size cut : ℕ) (digests : List (List ℕ)) : Type 0 where

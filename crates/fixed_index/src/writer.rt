@@ -1,16 +1,16 @@
 //! An index as it is written.
 
-ghost use Rattle.std.specs.Prelude.{◌≡◌, ◌*◌, ◌++◌, ◌≤◌, All, length, map, IfOk, OnOk, OnErr, Ok};
+ghost use Rattle.std.specs.Prelude.{◌≡◌, ◌*◌, ◌++◌, ◌≤◌, All, length, IfOk, OnOk, OnErr, Ok};
 ghost use Rattle.std.specs.List.{concat};
 ghost use Rattle.sha2.specs.Sha256.{sha256};
 ghost use Rattle.store_files.specs.FixedIndex.{FixedIndex, fixed_text, fixed_of, csum_of};
-ghost use Rattle.fixed_index.specs.Writing.{reserved, begun, header_text, bytes_of, end_of, with_digest, FitsSizes, FitsPiece, known_of, piece_digests, with_pieces, FitsPieces};
+ghost use Rattle.fixed_index.specs.Writing.{reserved, begun, header_text, bytes_of, end_of, with_digest, FitsSizes, FitsPiece, piece_digests, with_pieces, FitsPieces};
 
 use crate::{HEADER_SIZE, MAGIC};
 use sha2::{Digest, Sha256};
 use std::alloc::{AllocError, Global};
 use std::marker::Model;
-use store_types::Digest32;
+use store_types::{Digest32, Piece};
 
 /// What the index says so far, as contracts see it. Its reserved bytes are zeros.
 #[derive(Drop)]
@@ -90,15 +90,10 @@ impl FixedWriter {
         Ok(())
     }
 
-    /// The digests and lengths of the next pieces, each as long as is asked where it begins. At want of memory nothing
-    /// has changed.
-    pub fn append_all(
-        &mut self,
-        alloc: Global,
-        pieces: &[(Digest32, u32)],
-    ) -> Result<(), AllocError>
-        requires { FitsPieces self.old (map known_of pieces.now) }
-        ensures ok { OnOk result (self.new ≡ with_pieces self.old (map known_of pieces.now)) }
+    /// The next pieces, each as long as is asked where it begins. At want of memory nothing has changed.
+    pub fn append_all(&mut self, alloc: Global, pieces: &[Piece]) -> Result<(), AllocError>
+        requires { FitsPieces self.old pieces.now }
+        ensures ok { OnOk result (self.new ≡ with_pieces self.old pieces.now) }
         ensures err { OnErr result (self.new ≡ self.old) }
     {
         let mut more = digests_of(alloc, pieces)?;
@@ -151,13 +146,13 @@ fn copy_of(digest: &Digest32) -> Digest32
     Digest32(digest)
 }
 
-fn digests_of(alloc: Global, pieces: &[(Digest32, u32)]) -> Result<Vec<Digest32>, AllocError>
+fn digests_of(alloc: Global, pieces: &[Piece]) -> Result<Vec<Digest32>, AllocError>
     ensures values { IfOk result (λ digests. bytes_of digests.items ≡ piece_digests pieces.now) }
     ensures lengths { IfOk result (λ digests. All (λ d. length d ≡ 32) (bytes_of digests.items)) }
 {
     let mut digests = Vec::with_capacity(alloc, pieces.len())?;
     for piece in pieces {
-        digests.push(copy_of(&piece.0))?;
+        digests.push(copy_of(&piece.digest))?;
     }
     Ok(digests)
 }

@@ -9,13 +9,14 @@ use Rattle.std.proofs.lemmas.Bool.Decides.{nat_tests}
 use Rattle.sha2.specs.Sha256.{sha256}
 use Rattle.sha2.proofs.Facts256.{length-sha256}
 use Rattle.store_types.specs.declared.append.AppendEntry.{AppendEntry}
+use Rattle.store_types.specs.declared.piece.Piece.{Piece}
 use Rattle.store_files.specs.Archive.{ends_from}
 use Rattle.store_files.specs.DynamicIndex.{entry_text}
 use Rattle.dynamic_index.specs.Pieces.{last_end}
-use Rattle.dynamic_index.specs.Writing.{piece_ends}
+use Rattle.dynamic_index.specs.Writing.{ends_behind}
 use Rattle.wire_commands.specs.HasText.{FitsEntry}
 use Rattle.generator.specs.Pieces.{after, bytes_after, piece, seed_of, piece_at, pieces, is_sent}
-use Rattle.generator.specs.Archives.{Fact, fact_of, facts, begins_from, entries_from, AreLengths, size_of, csum_of}
+use Rattle.generator.specs.Archives.{fact_of, facts, begins_from, entries_from, AreLengths, size_of, csum_of}
 
 pub after-lt : (x : ℕ) → after x < 2 ^ 64
 unfolding after
@@ -86,7 +87,7 @@ pub entries-from : (start : ℕ) (ps : List (List ℕ)) → entries_from start (
 entries-from start [] = refl
 entries-from start (p ∷ ps) = ap (λ (es : List AppendEntry). record { digest = record { 0 = sha256 p }; offset = start } ∷ es) (entries-from (start + length p) ps)
 
-pub ends-behind : (start : ℕ) (ps : List (List ℕ)) → piece_ends start (map fact_of ps) ≡ ends_from start ps
+pub ends-behind : (start : ℕ) (ps : List (List ℕ)) → ends_behind start (map fact_of ps) ≡ ends_from start ps
 ends-behind start [] = refl
 ends-behind start (p ∷ ps) = ap (λ es. record { end = start + length p; digest = sha256 p } ∷ es) (ends-behind (start + length p) ps)
 
@@ -108,7 +109,7 @@ entries_fit start (p ∷ ps) h =
 
 -- ---- one piece after another
 
-abbrev pub first_facts : ℕ → ℕ → ℕ → List Fact
+abbrev pub first_facts : ℕ → ℕ → ℕ → List Piece
 first_facts k j n = map fact_of (map (piece_at k j) (range_with_len 0 n))
 
 pub facts_more : (k j n : ℕ) → first_facts k j (n + 1) ≡ first_facts k j n ++ fact_of (piece_at k j n) ∷ []
@@ -131,7 +132,7 @@ not_sent k j i h = record {
   same = grind (arith, nat_tests);
 }
 
-pub fact_at : (k j i : ℕ) (d : Fact) → i < 64 → slice_index_or (facts k j) i d ≡ fact_of (piece_at k j i)
+pub fact_at : (k j i : ℕ) (d : Piece) → i < 64 → slice_index_or (facts k j) i d ≡ fact_of (piece_at k j i)
 unfolding pieces
 fact_at k j i d h =
     get_or-map fact_of (map (piece_at k j) (range_with_len 0 64)) i [] d h ∙ ap fact_of (get_or-map-range_with_len (piece_at k j) 0 64 i i [] h (omega arith))
@@ -142,14 +143,14 @@ length-facts k j = refl
 
 -- ---- what the index of a snapshot's pieces tells
 
-pub size_is : (k j : ℕ) (made : List Fact) → made ≡ facts k j → last_end 0 (piece_ends 0 made) ≡ size_of (pieces k j)
+pub size_is : (k j : ℕ) (made : List Piece) → made ≡ facts k j → last_end 0 (ends_behind 0 made) ≡ size_of (pieces k j)
 size_is k j made are =
-    ap (λ (fs : List Fact). last_end 0 (piece_ends 0 fs)) are ∙ ap (last_end 0) (ends-behind 0 (pieces k j)) ∙ last-end 0 (pieces k j) ∙ zero-add (size_of (pieces k j))
+    ap (λ (fs : List Piece). last_end 0 (ends_behind 0 fs)) are ∙ ap (last_end 0) (ends-behind 0 (pieces k j)) ∙ last-end 0 (pieces k j) ∙ zero-add (size_of (pieces k j))
 
-pub csum_is : (k j : ℕ) (made : List Fact) → made ≡ facts k j → sha256 (flat_map entry_text (piece_ends 0 made)) ≡ (csum_of (pieces k j)).0
+pub csum_is : (k j : ℕ) (made : List Piece) → made ≡ facts k j → sha256 (flat_map entry_text (ends_behind 0 made)) ≡ (csum_of (pieces k j)).0
 csum_is k j made are =
-    ap (λ (fs : List Fact). sha256 (flat_map entry_text (piece_ends 0 fs))) are ∙ ap (λ es. sha256 (flat_map entry_text es)) (ends-behind 0 (pieces k j))
+    ap (λ (fs : List Piece). sha256 (flat_map entry_text (ends_behind 0 fs))) are ∙ ap (λ es. sha256 (flat_map entry_text es)) (ends-behind 0 (pieces k j))
 
-pub kept_fact : (k j i : ℕ) (before : List Fact) (d : Fact) → IsKept k j i → i < 64 → before ≡ facts k (j - 1) → slice_index_or before i d ≡ fact_of (piece_at k j i)
+pub kept_fact : (k j i : ℕ) (before : List Piece) (d : Piece) → IsKept k j i → i < 64 → before ≡ facts k (j - 1) → slice_index_or before i d ≡ fact_of (piece_at k j i)
 kept_fact k j i before d kept h are =
-    ap (λ (fs : List Fact). slice_index_or fs i d) are ∙ fact_at k (j - 1) i d h ∙ ap (λ s. fact_of (piece s)) kept.same
+    ap (λ (fs : List Piece). slice_index_or fs i d) are ∙ fact_at k (j - 1) i d h ∙ ap (λ s. fact_of (piece s)) kept.same

@@ -4,9 +4,9 @@ use Rattle.std.specs.List.{AllByRecursion, concat, flat_map}
 use Rattle.sha2.specs.Sha256.{sha256}
 use Rattle.store_types.specs.declared.append.AppendEntry.{AppendEntry}
 use Rattle.store_types.specs.declared.names.Digest32.{Digest32}
+use Rattle.store_types.specs.declared.piece.Piece.{Piece}
 use Rattle.store_files.specs.Archive.{digest_of, ends_from}
 use Rattle.store_files.specs.DynamicIndex.{entry_text}
-use Rattle.dynamic_index.specs.Writing.{known_of}
 use Rattle.generator.specs.Pieces.{pieces}
 
 -- each piece with the offset at which it begins, from a start on
@@ -24,21 +24,18 @@ csum_of ps = record { 0 = sha256 (flat_map entry_text (ends_from 0 ps)) }
 
 -- ---- what is kept of a piece: its digest, and its length
 
-abbrev pub Fact : Type 0
-Fact = Digest32 × ℕ
-
-abbrev pub fact_of : List ℕ → Fact
-fact_of p = (digest_of p, length p)
+abbrev pub fact_of : List ℕ → Piece
+fact_of p = record { digest = digest_of p; length = length p }
 
 -- the entries of an APPEND of these pieces
-abbrev pub entries_from : ℕ → List Fact → List AppendEntry
+abbrev pub entries_from : ℕ → List Piece → List AppendEntry
 entries_from start [] = []
-entries_from start (f ∷ fs) = record { digest = f.0; offset = start } ∷ entries_from (start + f.1) fs
+entries_from start (f ∷ fs) = record { digest = f.digest; offset = start } ∷ entries_from (start + f.length) fs
 
 -- the lengths are those of pieces
-abbrev pub AreLengths : List Fact → Type 0
-AreLengths facts = AllByRecursion (λ k. (1 ≤ k.1) × (k.1 ≤ 16_777_216)) (map known_of facts)
+abbrev pub AreLengths : List Piece → Type 0
+AreLengths facts = AllByRecursion (λ f. (1 ≤ f.length) × (f.length ≤ 16_777_216)) facts
 
 -- of the pieces of snapshot j of lane k
-abbrev pub facts : ℕ → ℕ → List Fact
+abbrev pub facts : ℕ → ℕ → List Piece
 facts k j = map fact_of (pieces k j)

@@ -7,7 +7,7 @@ ghost use Rattle.blob_codec.specs.Blob.{FitsBlob};
 ghost use Rattle.blob_codec.specs.Blob as blobs;
 ghost use Rattle.store_files.specs.DynamicIndex.{entry_text};
 ghost use Rattle.dynamic_index.specs.Pieces.{last_end};
-ghost use Rattle.dynamic_index.specs.Writing.{piece_ends};
+ghost use Rattle.dynamic_index.specs.Writing.{ends_behind};
 ghost use Rattle.wire_commands.specs.HasText.{HasText};
 ghost use Rattle.generator.specs.Pieces.{piece as piece_of, piece_at};
 ghost use Rattle.generator.specs.Archives.{AreLengths, entries_from, fact_of, facts};
@@ -19,7 +19,7 @@ use blob_codec::encode;
 use dynamic_index::DynamicWriter;
 use sha2::{Digest, Sha256};
 use std::alloc::{AllocError, Global};
-use store_types::{AppendEntry, Bytes, Digest32, Keep, Rows};
+use store_types::{AppendEntry, Bytes, Digest32, Keep, Piece, Rows};
 use wire_commands::Command;
 
 /// The pieces of an archive.
@@ -94,7 +94,7 @@ fn put_opening(alloc: Global, input: &mut Vec<u8>, k: u32, j: u32) -> Result<(),
 }
 
 /// Sends the piece of a seed, and gives its digest and its length.
-fn put_chunk(alloc: Global, input: &mut Vec<u8>, seed: u64) -> Result<(Digest32, u32), AllocError>
+fn put_chunk(alloc: Global, input: &mut Vec<u8>, seed: u64) -> Result<Piece, AllocError>
     ensures puts { Puts input.old.items input.new.items (chunk_of (piece_of seed) ∷ []) result }
     ensures fact { IfOk result (λ fact. fact ≡ fact_of (piece_of seed)) }
 {
@@ -102,7 +102,8 @@ fn put_chunk(alloc: Global, input: &mut Vec<u8>, seed: u64) -> Result<(Digest32,
     let digest = Digest32(Sha256::digest(bytes.as_slice()));
     let blob = blob_of(alloc, &bytes)?;
     put(alloc, input, Command::Chunk { digest, blob })?;
-    Ok((digest, bytes.len() as u32))
+    let length = bytes.len() as u32;
+    Ok(Piece { digest, length })
 }
 
 /// Sends piece `i`, if it isn't one that the snapshot before had, and gives its digest and its length, by those of that
@@ -113,8 +114,8 @@ fn put_piece(
     k: u32,
     j: u32,
     i: u32,
-    before: &[(Digest32, u32)],
-) -> Result<(Digest32, u32), AllocError>
+    before: &[Piece],
+) -> Result<Piece, AllocError>
     requires lane { k ≤ 63 }
     requires snapshot { j < 4 }
     requires piece { i < 64 }
@@ -135,8 +136,8 @@ fn put_chunks(
     input: &mut Vec<u8>,
     k: u32,
     j: u32,
-    before: &[(Digest32, u32)],
-) -> Result<Vec<(Digest32, u32)>, AllocError>
+    before: &[Piece],
+) -> Result<Vec<Piece>, AllocError>
     requires lane { k ≤ 63 }
     requires snapshot { j < 4 }
     requires before { 0 < j → before.now ≡ facts k (j - 1) }
@@ -151,7 +152,7 @@ fn put_chunks(
 }
 
 /// The entries of an APPEND of these pieces.
-fn entries_of(alloc: Global, made: &[(Digest32, u32)]) -> Result<Vec<AppendEntry>, AllocError>
+fn entries_of(alloc: Global, made: &[Piece]) -> Result<Vec<AppendEntry>, AllocError>
     requires { length made.now ≤ 64 }
     ensures { IfOk result (λ entries. entries.items ≡ entries_from 0 made.now) }
 {
@@ -159,21 +160,21 @@ fn entries_of(alloc: Global, made: &[(Digest32, u32)]) -> Result<Vec<AppendEntry
     let mut offset = 0;
     for fact in made {
         entries.push(AppendEntry {
-            digest: fact.0,
+            digest: fact.digest,
             offset,
         })?;
-        offset += fact.1 as u64;
+        offset += fact.length as u64;
     }
     Ok(entries)
 }
 
 /// The size of the archive of these pieces, and the checksum of its index.
-fn index_of(alloc: Global, made: &[(Digest32, u32)]) -> Result<(u64, Digest32), AllocError>
+fn index_of(alloc: Global, made: &[Piece]) -> Result<(u64, Digest32), AllocError>
     requires count { length made.now ≤ 64 }
     requires lengths { AreLengths made.now }
-    ensures size { IfOk result (λ x. x.0 ≡ last_end 0 (piece_ends 0 made.now)) }
+    ensures size { IfOk result (λ x. x.0 ≡ last_end 0 (ends_behind 0 made.now)) }
     ensures csum { IfOk result
-        (λ x. (x.1).0 ≡ sha256 (flat_map entry_text (piece_ends 0 made.now))) }
+        (λ x. (x.1).0 ≡ sha256 (flat_map entry_text (ends_behind 0 made.now))) }
 {
     let mut index = DynamicWriter::new(alloc, [0; 16], 0);
     index.append_all(alloc, made)?;
@@ -187,7 +188,7 @@ fn put_append(
     input: &mut Vec<u8>,
     k: u32,
     j: u32,
-    made: &[(Digest32, u32)],
+    made: &[Piece],
 ) -> Result<(), AllocError>
     requires { made.now ≡ facts k j }
     ensures { Puts input.old.items input.new.items (append k j ∷ []) result }
@@ -221,7 +222,7 @@ fn put_closing(
     input: &mut Vec<u8>,
     k: u32,
     j: u32,
-    made: &[(Digest32, u32)],
+    made: &[Piece],
 ) -> Result<(), AllocError>
     requires lane { k ≤ 63 }
     requires snapshot { j < 4 }
@@ -249,8 +250,8 @@ fn put_backup(
     input: &mut Vec<u8>,
     k: u32,
     j: u32,
-    before: &[(Digest32, u32)],
-) -> Result<Vec<(Digest32, u32)>, AllocError>
+    before: &[Piece],
+) -> Result<Vec<Piece>, AllocError>
     requires lane { k ≤ 63 }
     requires snapshot { j < 4 }
     requires before { 0 < j → before.now ≡ facts k (j - 1) }

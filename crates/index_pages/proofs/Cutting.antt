@@ -1,14 +1,16 @@
 -- Bytes cut into pages.
-use Rattle.std.proofs.Common.{◌≡◌, ℕ, zero, suc, ◌+◌, ◌-◌, ◌*◌, ◌<◌, ◌≤◌, min, inl, inr, List, [], ◌∷◌, ◌++◌, length, map, take, drop, get_or, refl, sym, ap, subst, ◌∙◌, add-one, arith}
-use Rattle.std.proofs.lemmas.List.{drop-drop, take_min, take_all, length-drop}
+use Rattle.std.proofs.Common.{◌≡◌, ℕ, zero, suc, ◌+◌, ◌-◌, ◌*◌, ◌<◌, ◌≤◌, min, inl, inr, List, [], ◌∷◌, ◌++◌, length, take, drop, refl, sym, ap, subst, ◌∙◌, arith}
+use Rattle.std.proofs.lemmas.List.{take_min, take_all, length-drop}
+use Rattle.std.proofs.lemmas.List.FromFn.{map-range_with_len_more}
 use Rattle.std.proofs.Math.ListN.{drop_of_length-le}
 use Rattle.std.proofs.Math.Seq.{take-add}
 use Rattle.sha2.specs.Sha256.{sha256}
 use Rattle.store_files.specs.Cells.{first_cells}
 use Rattle.index_pages.specs.declared.opening.Opening.{Opening}
 use Rattle.index_pages.specs.declared.opening.Body.{Body}
-use Rattle.index_pages.specs.Opening.{AreBytes, Begins, ClosesAt, HasPages, HasRead, IsBody, NotesPage, page_of}
-use Rattle.index_pages.specs.Paged.{IsWidth, entries_at, page_count, page_size}
+use Rattle.index_pages.specs.Opening.{AreBytes, Begins, ClosesAt, HasPages, HasRead, IsBody, NotesPage, noted_sum, page_of}
+use Rattle.index_pages.specs.Paged.{IsWidth, entries_at, first_sums, front_of, page_count, page_size, page_sum}
+use Rattle.index_pages.specs.States.{state_after}
 
 -- by both widths
 pub by_width : (P : ℕ → Type 0) (width : ℕ) → IsWidth width → P 32 → P 40 → P width
@@ -17,27 +19,10 @@ by_width P width (inr is) narrow wide = subst P (sym is) wide
 
 -- ---- cells
 
-pub cells_push : (size n : ℕ) (bytes : List ℕ) → first_cells size (suc n) bytes ≡ first_cells size n bytes ++ take size (drop (n * size) bytes) ∷ []
-unfolding first_cells
-cells_push size zero bytes = let start : 0 ≡ 0 * size = omega arith in ap (λ k. take size (drop k bytes) ∷ []) start
-cells_push size (suc n) bytes =
-    let at : size + n * size ≡ suc n * size = omega arith in
-    ap (λ xs. take size bytes ∷ xs) (cells_push size n (drop size bytes)
-    ∙ ap (λ x. first_cells size n (drop size bytes) ++ x ∷ []) (ap (take size) (drop-drop (n * size) size bytes) ∙ ap (λ k. take size (drop k bytes)) at))
-
 pub length-cells : (size n : ℕ) (bytes : List ℕ) → length (first_cells size n bytes) ≡ n
 unfolding first_cells
 length-cells size zero bytes = refl
 length-cells size (suc n) bytes = ap suc (length-cells size n (drop size bytes))
-
-pub cell_at : (size n : ℕ) (bytes : List ℕ) (i : ℕ) → i < n → get_or (first_cells size n bytes) i [] ≡ take size (drop (i * size) bytes)
-unfolding first_cells
-cell_at size zero bytes i below = absurd (omega arith)
-cell_at size (suc n) bytes zero below = let start : 0 ≡ 0 * size = omega arith in ap (λ k. take size (drop k bytes)) start
-cell_at size (suc n) bytes (suc i) below =
-    let at : size + i * size ≡ suc i * size = omega arith in
-    cell_at size n (drop size bytes) i (omega arith)
-    ∙ ap (take size) (drop-drop (i * size) size bytes) ∙ ap (λ k. take size (drop k bytes)) at
 
 -- ---- pages
 
@@ -101,37 +86,43 @@ no_bytes i = omega arith
 -- ---- what was read
 
 pub none_read : (width : ℕ) (body : List ℕ) (o : Opening) → Begins o → HasPages width 0 body o
-unfolding first_cells
 none_read width body o is =
     let none : 0 ≡ 0 * page_size width = omega arith in
     record { read = subst (λ n. HasRead [] (take n body) o) none is; small = subst (λ n. AreBytes (take n body)) none no_bytes }
+
+-- a page behind all before it
+pub front_more : (width count i : ℕ) (body page : List ℕ) → IsWidth width → length body ≡ count * width → page ≡ page_of width count i body
+    → front_of width body i ++ page ≡ front_of width body (i + 1)
+front_more width count i body page is len same =
+    let size = page_size width in
+    let at : i * size + size ≡ (i + 1) * size = omega arith in
+    ap (λ p. take (i * size) body ++ p) (same ∙ page_is width count i body is len)
+    ∙ sym (take-add (i * size) size body) ∙ ap (λ n. take n body) at
 
 -- one page more
 pub pages_more : (width count i : ℕ) (body : List ℕ) (old new : Opening) (page : List ℕ) → IsWidth width → length body ≡ count * width
     → page ≡ page_of width count i body → AreBytes page → NotesPage old new page → HasPages width i body old → HasPages width (i + 1) body new
 pages_more width count i body old new page is len same small notes before =
-    let size = page_size width in
-    let whole = same ∙ page_is width count i body is len in
-    let cells : first_cells size i body ++ page ∷ [] ≡ first_cells size (i + 1) body =
-    ap (λ p. first_cells size i body ++ p ∷ []) whole ∙ sym (cells_push size i body) ∙ ap (λ n. first_cells size n body) (sym (add-one i)) in
-    let at : i * size + size ≡ (i + 1) * size = omega arith in
-    let more : take (i * size) body ++ page ≡ take ((i + 1) * size) body =
-    ap (λ p. take (i * size) body ++ p) whole ∙ sym (take-add (i * size) size body) ∙ ap (λ n. take n body) at in
+    let sums = first_sums width i body in
+    let front = front_of width body i in
+    let more = front_more width count i body page is len same in
+    let noted : sums ++ noted_sum front page ∷ [] ≡ first_sums width (i + 1) body =
+    ap (λ b. sums ++ record { before = state_after front; sum = record { 0 = sha256 b } } ∷ []) more
+    ∙ sym (map-range_with_len_more (page_sum width body) 0 i i (omega arith)) in
     record {
-      read = subst (λ ps. HasRead ps (take ((i + 1) * size) body) new) cells
-          (subst (λ bs. HasRead (first_cells size i body ++ page ∷ []) bs new) more (notes (first_cells size i body) (take (i * size) body) before.read));
-      small = subst AreBytes more (bytes_joined (take (i * size) body) page before.small small);
+      read = subst (λ ks. HasRead ks (front_of width body (i + 1)) new) noted
+          (subst (λ bs. HasRead (sums ++ noted_sum front page ∷ []) bs new) more (notes sums front before.read));
+      small = subst AreBytes more (bytes_joined front page before.small small);
     }
 
 -- behind the last page
 pub pages_end : (width count i : ℕ) (body : List ℕ) (o : Opening) (b : Body) → IsWidth width → length body ≡ count * width → i ≡ page_count count
     → HasPages width i body o → ClosesAt o b → IsBody width count body b
 pages_end width count i body o b is len past before closes =
-    let size = page_size width in
     let all = (all_read width count i body is len (omega (arith, past))).0 in
-    let closed = closes (first_cells size i body) (take (i * size) body) before.read in
+    let closed = closes (first_sums width i body) (front_of width body i) before.read in
     record {
-      sums = closed.sums ∙ ap (λ n. map sha256 (first_cells size n body)) past;
+      sums = closed.sums ∙ ap (λ n. first_sums width n body) past;
       csum = closed.csum ∙ ap sha256 all;
       small = subst AreBytes all before.small;
     }

@@ -1,16 +1,15 @@
 -- What was read of a file, and why nothing was.
-use Rattle.std.proofs.Common.{◌≡◌, ℕ, ◌+◌, ◌-◌, ◌*◌, ◌<◌, ◌≤◌, Bool, true, false, ◌&&◌, cond, List, [], length, take, drop, get_or, nat_lt, Option, Some, None, Result, Ok, Err, refl, sym, ap, ap₂, ◌∙◌, eq-eqb, arith}
-use Rattle.std.specs.Str.{bytes_eq}
-use Rattle.std.proofs.lemmas.Bool.{ltb-true, ltb-false, le-ltb, ne_eqb}
+use Rattle.std.proofs.Common.{◌≡◌, ℕ, zero, suc, ◌+◌, ◌-◌, ◌*◌, ◌<◌, ◌≤◌, Bool, true, false, ◌&&◌, cond, List, [], ◌∷◌, length, take, drop, get_or, nat_lt, Option, Some, None, Result, Ok, Err, refl, sym, ap, ap₂, ◌∙◌, eq-eqb, arith}
+use Rattle.std.proofs.lemmas.Bool.{and_parts, eqb-true, ltb-true, ltb-false, le-ltb, ne_eqb}
 use Rattle.std.proofs.lemmas.List.{drop-drop, length-drop, length-take}
+use Rattle.std.specs.Prelude.{◌==◌}
 use Rattle.std.specs.FinMap.{get}
 use Rattle.disk_trait.specs.Files.{Files}
-use Rattle.sha2.specs.Sha256.{sha256}
 use Rattle.index_pages.specs.declared.fault.PageFault.{PageFault}
 use Rattle.index_pages.specs.declared.fault.PageFault.TheVariants.{Missing, BadIndex, Changed, Failed, NoMemory}
 use Rattle.index_pages.specs.Gives.{Gives, part_in}
 use Rattle.index_pages.specs.Opening.{page_of}
-use Rattle.index_pages.specs.Paged.{Paged, entries_at, is_kept, page_in, page_len, page_size, page_start, page_text}
+use Rattle.index_pages.specs.Paged.{Paged, entries_at, has_sum, is_kept, page_in, page_len, page_size, page_start, page_text, sum_at}
 
 -- by a Bool and what it is
 pub by_bool : (b : Bool) (P : Type 0) → (b ≡ true → P) → (b ≡ false → P) → P
@@ -76,16 +75,25 @@ same_part m n k s t l r fewer name start len =
 
 -- ---- a page that is read again
 
+-- an element that is there, whatever stands for none
+pub other_default : {A : Type 0} (xs : List A) (i : ℕ) (a b : A) → i < length xs → get_or xs i a ≡ get_or xs i b
+other_default [] i a b below = absurd (omega arith)
+other_default (x ∷ xs) zero a b below = refl
+other_default (x ∷ xs) (suc i) a b below = other_default xs i a b (omega arith)
+
 not_kept : (p : Paged) (i : ℕ) (bytes : List ℕ) → length bytes < page_len p i → is_kept p i bytes ≡ false
 not_kept p i bytes short =
-    ap (λ b. b && bytes_eq (sha256 bytes) (get_or p.sums i [])) (ne_eqb (length bytes) (page_len p i) (λ e. lower e))
+    ap (λ b. b && has_sum (sum_at p i) bytes) (ne_eqb (length bytes) (page_len p i) (λ e. lower e))
   where
     lower : length bytes ≡ page_len p i → ⊥
     lower e = omega (arith, short, e)
 
-pub kept_is : (p : Paged) (i : ℕ) (bytes : List ℕ) (b : Bool) → length bytes ≡ page_len p i → bytes_eq (sha256 bytes) (get_or p.sums i []) ≡ b → is_kept p i bytes ≡ b
+pub kept_is : (p : Paged) (i : ℕ) (bytes : List ℕ) (b : Bool) → length bytes ≡ page_len p i → has_sum (sum_at p i) bytes ≡ b → is_kept p i bytes ≡ b
 kept_is p i bytes b len sum =
     ap₂ (λ x y. x && y) (eq-eqb (length bytes) (page_len p i) len) sum
+
+pub is_kept_len : (p : Paged) (i : ℕ) (bytes : List ℕ) → is_kept p i bytes ≡ true → length bytes ≡ page_len p i
+is_kept_len p i bytes is = eqb-true (length bytes) (page_len p i) (and_parts (length bytes == page_len p i) (has_sum (sum_at p i) bytes) is).0
 
 page_some : (p : Paged) (i : ℕ) (text : List ℕ) (b : Bool) → is_kept p i (page_text p i text) ≡ b
     → page_in p i (Some text) ≡ cond b (Ok (page_text p i text)) (Err (Changed i))

@@ -1,3 +1,4 @@
+pub mod States
 pub mod Carried
 pub mod Cutting
 pub mod Filled

@@ -1,10 +1,9 @@
 -- An opening by pages tells what the reading of the whole text tells.
-use Rattle.std.proofs.Common.{◌≡◌, ℕ, ◌+◌, ◌-◌, ◌*◌, ◌/◌, ◌%◌, ◌≤◌, Bool, true, false, not, cond, List, length, map, take, drop, nat_lt, slice_range, Option, Some, None, Result, Ok, Err, refl, sym, ap, ap₂, ◌∙◌, arith}
+use Rattle.std.proofs.Common.{◌≡◌, ℕ, ◌+◌, ◌-◌, ◌*◌, ◌/◌, ◌%◌, ◌≤◌, Bool, true, false, not, cond, List, length, take, drop, nat_lt, slice_range, Option, Some, None, Result, Ok, Err, refl, sym, ap, ap₂, ◌∙◌, arith}
 use Rattle.std.specs.Prelude.{◌==◌}
 use Rattle.std.specs.Str.{bytes_eq}
 use Rattle.std.proofs.lemmas.Bool.{ltb-false, le-ltb, eqb-true}
 use Rattle.std.proofs.lemmas.List.{drop-take, take-take}
-use Rattle.sha2.specs.Sha256.{sha256}
 use Rattle.store_files.specs.Cells.{header_len, entry_limit}
 use Rattle.store_files.specs.declared.causes.IndexFault.{IndexFault}
 use Rattle.store_files.specs.declared.causes.IndexFault.TheVariants.{Short, Magic, Length, Count}
@@ -13,7 +12,7 @@ use Rattle.index_pages.specs.declared.fault.PageFault.TheVariants.{Missing, BadI
 use Rattle.index_pages.specs.declared.head.Head.{Head}
 use Rattle.index_pages.specs.declared.opening.Body.{Body}
 use Rattle.index_pages.specs.Opening.{IsBody, count_told, front_in, opened_by, told_by}
-use Rattle.index_pages.specs.Paged.{IsWidth, count_of, paged, pages_of}
+use Rattle.index_pages.specs.Paged.{IsWidth, count_of, first_sums, page_count, paged}
 use Rattle.index_pages.proofs.Carried.{same_err}
 use Rattle.index_pages.proofs.Cutting.{by_width}
 use Rattle.index_pages.proofs.Filled.{by_bool}
@@ -175,8 +174,8 @@ module _ {X P : Type 0} (magic : List ℕ) (width : ℕ) (read rest : List ℕ �
 -- ---- what is kept is the text's
 
 pub pages_are : (name text : List ℕ) (width count : ℕ) (b : Body) → count_of width text ≡ count → IsBody width count (drop 4096 text) b
-    → record { name = name; width = width; count = count; sums = map (λ d. d.0) b.sums.items } ≡ paged width name text
+    → record { name = name; width = width; count = count; sums = b.sums.items } ≡ paged width name text
 unfolding paged
 pages_are name text width count b counted is =
     ap (λ s. record { name = name; width = width; count = count; sums = s }) is.sums
-    ∙ ap (λ (n : ℕ). record { name = name; width = width; count = n; sums = map sha256 (pages_of width n (drop header_len text)) }) (sym counted)
+    ∙ ap (λ (n : ℕ). record { name = name; width = width; count = n; sums = first_sums width (page_count n) (drop header_len text) }) (sym counted)

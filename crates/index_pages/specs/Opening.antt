@@ -1,11 +1,10 @@
 -- The opening of an index, page by page.
-use Rattle.std.specs.Prelude.{◌≡◌, ℕ, ◌+◌, ◌-◌, ◌*◌, ◌/◌, ◌%◌, ◌<◌, not, List, [], ◌++◌, ◌∷◌, length, map, take, drop, ◌==◌, nat_lt, if◌then◌else◌, Option, Some, None, Result, Ok, Err, get_or}
+use Rattle.std.specs.Prelude.{◌≡◌, ℕ, ◌+◌, ◌-◌, ◌*◌, ◌/◌, ◌%◌, ◌<◌, not, List, [], ◌++◌, ◌∷◌, length, take, drop, ◌==◌, nat_lt, if◌then◌else◌, Option, Some, None, Result, Ok, Err, get_or}
 use Rattle.std.specs.Str.{bytes_eq}
 use Rattle.std.specs.FinMap.{get}
 use Rattle.sha2.specs.Sha256.{sha256}
-use Rattle.sha2.specs.Hashers.{Holds256}
 use Rattle.disk_trait.specs.declared.disk.Disk.{Ghosts}
-use Rattle.store_files.specs.Cells.{first_cells, header_len, entry_limit}
+use Rattle.store_files.specs.Cells.{header_len, entry_limit}
 use Rattle.store_files.specs.declared.causes.IndexFault.{IndexFault}
 use Rattle.store_files.specs.declared.causes.IndexFault.TheVariants.{Short, Magic, Length, Count}
 use Rattle.index_pages.specs.declared.fault.PageFault.{PageFault}
@@ -14,7 +13,9 @@ use Rattle.index_pages.specs.declared.opening.Opening.{Opening}
 use Rattle.index_pages.specs.declared.opening.Body.{Body}
 use Rattle.index_pages.specs.declared.head.Head.{Head}
 use Rattle.index_pages.specs.Gives.{Gives}
-use Rattle.index_pages.specs.Paged.{entries_at, page_size, pages_of}
+use Rattle.index_pages.specs.declared.state.PageSum.{PageSum}
+use Rattle.index_pages.specs.Paged.{entries_at, first_sums, front_of, page_count, page_size}
+use Rattle.index_pages.specs.States.{state_after}
 
 -- ---- what an opening tells
 
@@ -45,17 +46,22 @@ count_told magic width h =
     else (if nat_lt entry_limit ((h.size - header_len) / width) then Err (BadIndex Count)
     else Ok ((h.size - header_len) / width)))
 
--- ---- the machine: of these pages the sums are kept, and the hasher holds their bytes
+-- ---- the machine: these sums are kept, and these bytes were hashed
 
-pub record HasRead (pages : List (List ℕ)) (bytes : List ℕ) (o : Opening) : Type 0 where
-  pub sums : map (λ d. d.0) o.sums.items ≡ map sha256 pages
-  pub hashed : Holds256 o.hasher bytes
+pub record HasRead (kept : List PageSum) (bytes : List ℕ) (o : Opening) : Type 0 where
+  pub sums : o.sums.items ≡ kept
+  pub hashed : o.state ≡ state_after bytes
 
 abbrev pub Begins : Opening → Type 0
 Begins o = HasRead [] [] o
 
+-- of a page behind these bytes
+abbrev pub noted_sum : List ℕ → List ℕ → PageSum
+noted_sum bytes page = record { before = state_after bytes; sum = record { 0 = sha256 (bytes ++ page) } }
+
 abbrev pub NotesPage : Opening → Opening → List ℕ → Type 0
-NotesPage old new page = (pages : List (List ℕ)) (bytes : List ℕ) → HasRead pages bytes old → HasRead (pages ++ page ∷ []) (bytes ++ page) new
+NotesPage old new page =
+    (sums : List PageSum) (bytes : List ℕ) → HasRead sums bytes old → HasRead (sums ++ noted_sum bytes page ∷ []) (bytes ++ page) new
 
 -- each is one of a byte
 abbrev pub AreBytes : List ℕ → Type 0
@@ -63,8 +69,8 @@ AreBytes bytes = (i : ℕ) → get_or bytes i 0 < 256
 
 -- the first so many pages of a body were read
 pub record HasPages (width i : ℕ) (body : List ℕ) (o : Opening) : Type 0 where
-  pub read : HasRead (first_cells (page_size width) i body) (take (i * page_size width) body) o
-  pub small : AreBytes (take (i * page_size width) body)
+  pub read : HasRead (first_sums width i body) (front_of width body i) o
+  pub small : AreBytes (front_of width body i)
 
 -- ---- a page
 
@@ -92,15 +98,15 @@ TakesPage d disk name width count i old new page result =
 
 -- ---- all pages
 
--- of each page the SHA-256, and the one of them all
+-- of each page what is kept, and the SHA-256 of them all
 pub record IsBody (width count : ℕ) (body : List ℕ) (b : Body) : Type 0 where
-  pub sums : map (λ d. d.0) b.sums.items ≡ map sha256 (pages_of width count body)
+  pub sums : b.sums.items ≡ first_sums width (page_count count) body
   pub csum : b.csum ≡ sha256 body
   pub small : AreBytes body
 
-pub record Closes (pages : List (List ℕ)) (bytes : List ℕ) (b : Body) : Type 0 where
-  pub sums : map (λ d. d.0) b.sums.items ≡ map sha256 pages
+pub record Closes (kept : List PageSum) (bytes : List ℕ) (b : Body) : Type 0 where
+  pub sums : b.sums.items ≡ kept
   pub csum : b.csum ≡ sha256 bytes
 
 abbrev pub ClosesAt : Opening → Body → Type 0
-ClosesAt o b = (pages : List (List ℕ)) (bytes : List ℕ) → HasRead pages bytes o → Closes pages bytes b
+ClosesAt o b = (sums : List PageSum) (bytes : List ℕ) → HasRead sums bytes o → Closes sums bytes b

@@ -1,5 +1,6 @@
 //! Indexes that are read page by page, of either kind: behind a header of 4,096 bytes stand entries of one width, 32 or 40
-//! bytes, and a page has 1,024 of them, the last one the rest. Of each page its opening keeps the SHA-256.
+//! bytes, and a page has 1,024 of them, the last one the rest. Of each page its opening keeps the state of the SHA-256 of
+//! all entries before it, and that SHA-256 at its end: one pass gives them and the checksum of the whole.
 #![tactic(auto)]
 
 mod fault;
@@ -7,12 +8,14 @@ mod head;
 mod opening;
 mod page;
 mod pages;
+mod state;
 
 pub use fault::PageFault;
 pub use head::{Head, count_in, read_head};
 pub use opening::{Body, Opening};
 pub use page::Page;
 pub use pages::{Pages, pages_in};
+pub use state::{HashState, PageSum};
 pub use store_files::IndexFault;
 
 /// The bytes before the entries.

@@ -8,24 +8,22 @@ ghost use Rattle.index_pages.specs.Opening.{AreBytes, Begins, ClosesAt, NotesPag
 ghost use Rattle.index_pages.specs.Paged.{IsWidth, entries_at, page_count};
 
 use crate::pages::entries_in;
-use crate::{HEADER_SIZE, PAGE_ENTRIES, Page, PageFault};
+use crate::{HEADER_SIZE, HashState, PAGE_ENTRIES, Page, PageFault, PageSum};
 use disk_trait::Disk;
-use sha2::{Digest, Sha256};
 use std::alloc::{AllocError, Global};
 use store_files::IndexFault;
-use store_types::Digest32;
 
-/// What is kept of an index as its pages are read in turn: of each page the SHA-256, and the bytes so far in a hasher.
+/// What is kept of an index as its pages are read in turn, and the state of the SHA-256 behind them.
 #[derive(Drop)]
 pub struct Opening {
-    sums: Vec<Digest32>,
-    hasher: Sha256,
+    sums: Vec<PageSum>,
+    state: HashState,
 }
 
-/// What is kept of all pages: of each the SHA-256, and the one of all entries.
+/// What is kept of all pages, and the SHA-256 of all entries.
 #[derive(Drop)]
 pub struct Body {
-    pub sums: Vec<Digest32>,
+    pub sums: Vec<PageSum>,
     pub csum: [u8; 32],
 }
 
@@ -38,7 +36,7 @@ impl Opening {
         let sums = Vec::with_capacity(alloc, pages as usize)?;
         Ok(Opening {
             sums,
-            hasher: Sha256::new(),
+            state: HashState::new(),
         })
     }
 
@@ -62,6 +60,8 @@ impl Opening {
         // on any disk
         ensures len { OnOk result (length self.new.sums.items ≡ length self.old.sums.items + 1) }
         ensures size { OnOk result (length room.new ≡ entries_at count i * width) }
+        ensures bytes { OnOk result (AreBytes room.new) }
+        ensures notes { OnOk result (NotesPage self.old self.new room.new) }
     {
         let start = HEADER_SIZE + u64::from(i) * (PAGE_ENTRIES * width) as u64;
         let len = entries_in(count, i) * width;
@@ -79,9 +79,8 @@ impl Opening {
         ensures notes { OnOk result (NotesPage self.old self.new bytes.now) }
         ensures len { OnOk result (length self.new.sums.items ≡ length self.old.sums.items + 1) }
     {
-        let sum = Sha256::digest(bytes);
-        self.sums.push(Digest32(sum))?;
-        self.hasher.update(bytes);
+        let sum = PageSum::of(&mut self.state, bytes);
+        self.sums.push(sum)?;
         Ok(())
     }
 
@@ -90,10 +89,9 @@ impl Opening {
         ensures closes { ClosesAt self result }
         ensures len { length result.sums.items ≡ length self.sums.items }
     {
-        let Opening { sums, hasher } = self;
-        Body {
-            sums,
-            csum: hasher.finalize(),
-        }
+        let Opening { sums, state } = self;
+        let digest = state.digest();
+        let csum = digest.0;
+        Body { sums, csum }
     }
 }

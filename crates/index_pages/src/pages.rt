@@ -1,28 +1,24 @@
 //! The pages of an index.
 
-ghost use Rattle.std.specs.Str.{bytes_eq};
-ghost use Rattle.sha2.specs.Sha256.{sha256};
-ghost use Rattle.std.specs.Prelude.{◌≡◌, ◌<◌, ◌≤◌, [], length, map, IfOk, IsErrOf, IsTrue, OnErr, OnOk};
+ghost use Rattle.std.specs.Prelude.{◌≡◌, ◌<◌, ◌≤◌, [], length, IfOk, IsErrOf, IsTrue, OnErr, OnOk};
 ghost use Rattle.disk_trait.specs.Disk.{TicksOnce};
 ghost use Rattle.disk_trait.specs.Effects.{OnlyReads};
 ghost use Rattle.index_pages.specs.declared.fault.PageFault.TheVariants.{Failed as ReadFailed, NoMemory as NoRoom};
-ghost use Rattle.index_pages.specs.Paged.{IsWidth, ReadsPage, entries_at, is_kept, page_count, paged_by};
+ghost use Rattle.index_pages.specs.Paged.{IsOfBytes, IsWidth, ReadsPage, entries_at, is_kept, page_count, paged_by};
 
-use crate::{HEADER_SIZE, PAGE_ENTRIES, Page, PageFault};
+use crate::{HEADER_SIZE, PAGE_ENTRIES, Page, PageFault, PageSum};
 use disk_trait::Disk;
-use sha2::{Digest, Sha256};
 use std::alloc::{AllocError, Global};
 use std::marker::Model;
-use store_types::Digest32;
 
-/// An index as contracts see it: where it stands, how wide its entries are and how many there are; of each page the
-/// SHA-256 that its opening read.
+/// An index as contracts see it: where it stands, how wide its entries are and how many there are; of each page what its
+/// opening kept.
 #[derive(Drop)]
 pub struct Pages {
     name: String,
     width: usize,
     count: u32,
-    sums: Vec<Digest32>,
+    sums: Vec<PageSum>,
 }
 
 impl Model for Pages {
@@ -52,25 +48,18 @@ pub(crate) fn entries_in(count: u32, i: u32) -> usize
     (count as usize - i as usize * PAGE_ENTRIES).min(PAGE_ENTRIES)
 }
 
-/// Whether the bytes have this SHA-256.
-fn has_sum(bytes: &[u8], sum: &Digest32) -> bool
-    ensures { result ≡ bytes_eq (sha256 bytes.now) sum.now.0 }
-{
-    Sha256::digest(bytes).as_slice() == sum.0.as_slice()
-}
-
 impl Pages {
-    /// Of so many entries of a width, and the SHA-256 of each page of them.
+    /// Of so many entries of a width, and what was kept of each page of them.
     pub fn of(
         alloc: Global,
         name: &str,
         width: usize,
         count: u32,
-        sums: Vec<Digest32>,
+        sums: Vec<PageSum>,
     ) -> Result<Pages, AllocError>
         requires width { IsWidth width }
         requires count { count ≤ 1_048_576 }
-        requires sums { length sums.items ≡ page_count count }
+        requires bytes { IsOfBytes (paged_by name.now width count sums.items) }
         ensures { IfOk result (λ pages. pages ≡ paged_by name.now width count sums.items) }
     {
         let name = String::from_str(alloc, name)?;
@@ -96,8 +85,8 @@ impl Pages {
         pages_in(self.count)
     }
 
-    /// Reads a page. Its bytes are the file's at this moment, and have the SHA-256 that the opening kept. It takes no
-    /// memory.
+    /// Reads a page. Its bytes are the file's at this moment, and behind the entries before them have the SHA-256 that the
+    /// opening kept. It takes no memory.
     pub fn read<D: Disk>(&self, disk: &mut D, i: u32, into: &mut Page) -> Result<(), PageFault>
         requires { i < page_count self.now.count }
         ensures reads { OnlyReads D.Disk disk.old disk.new (IsErrOf result ReadFailed) }
@@ -105,6 +94,7 @@ impl Pages {
         ensures exact { ReadsPage D.Disk disk.old self.now i into.new result }
         // on any disk
         ensures kept { OnOk result (IsTrue (is_kept self.now i into.new)) }
+        ensures bytes { IsOfBytes self.now }
         ensures err { OnErr result (into.new ≡ []) }
         ensures memory { IsErrOf result NoRoom → ⊥ }
     {
@@ -112,7 +102,7 @@ impl Pages {
         let start = HEADER_SIZE + u64::from(i) * (PAGE_ENTRIES * self.width) as u64;
         let changed = PageFault::Changed { page: i };
         into.fill(disk, self.name.as_str(), start, len, changed)?;
-        if !has_sum(into.as_slice(), &self.sums[i as usize]) {
+        if !self.sums[i as usize].has(into.as_slice()) {
             into.clear();
             return Err(changed);
         }

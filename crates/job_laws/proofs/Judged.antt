@@ -32,7 +32,7 @@ use Rattle.wire_commands.specs.declared.rows.FileFault.TheVariants.{Differs, Unr
 use Rattle.store_model.specs.AdminSteps.{fact_shown, facts_in}
 use Rattle.store_model.specs.Manifests.{blob_data, data_in, fact_of, listed_names}
 use Rattle.store_model.specs.Stands.{fills_size, FitsContent, IsSnapshot, names_content}
-use Rattle.store_model.specs.declared.piece.Piece.{Piece}
+use Rattle.store_types.specs.declared.piece.Piece.{Piece}
 use Rattle.store_model.specs.SizeLimits.{size_limit}
 use Rattle.store_model.specs.VerifyJob.{Judged, without_entries, compared, fixed_pieces, fixed_judged, dynamic_pieces, dynamic_judged, blob_judged, last_end, manifest_fault, judged}
 use Rattle.store_history.proofs.Found.{each_file}

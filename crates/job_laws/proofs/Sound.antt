@@ -31,7 +31,7 @@ use Rattle.wire_commands.specs.declared.reply.Reply.{Reply}
 use Rattle.wire_commands.specs.declared.reply.Reply.TheVariants.{Data, Done, Files, Part, Refused, Verified}
 use Rattle.store_model.specs.declared.step.Step.{Step}
 use Rattle.store_model.specs.AdminSteps.{fact_shown, facts_in, file_row, file_rows, files}
-use Rattle.store_model.specs.declared.piece.Piece.{Piece}
+use Rattle.store_types.specs.declared.piece.Piece.{Piece}
 use Rattle.store_model.specs.SizeLimits.{size_limit}
 use Rattle.store_model.specs.Job.{Visit, opening, listing, reading, checking, closing, Asking, Job, asking, step_of}
 use Rattle.store_model.specs.Jobs.{take}

@@ -13,7 +13,7 @@ use Rattle.blob_codec.proofs.Reading.{HasParts-from_data_of}
 use Rattle.chunk_store.specs.Pieces.{TestsPiece, by_data, checked}
 use Rattle.wire_commands.specs.declared.rows.FileFault.{FileFault}
 use Rattle.wire_commands.specs.declared.rows.FileFault.TheVariants as faults
-use Rattle.store_model.specs.declared.piece.Piece.{Piece}
+use Rattle.store_types.specs.declared.piece.Piece.{Piece}
 use Rattle.store_model.specs.VerifyJob.{chunk_fault, digest, is_piece, is_piece_of}
 use Rattle.job_steps.specs.declared.chunks.Chunks.{Chunks}
 use Rattle.job_steps.specs.declared.part.Waiting.{Waiting}

@@ -12,7 +12,7 @@ use Rattle.fixed_index.specs.Viewing.{start_of, stop_of}
 use Rattle.fixed_index.proofs.Reading.{fixed_of-fits, fixed_of-ok}
 use Rattle.dynamic_index.specs.Pieces as pieces
 use Rattle.dynamic_index.proofs.Reading.{dynamic_of-fits}
-use Rattle.store_model.specs.declared.piece.Piece.{Piece}
+use Rattle.store_types.specs.declared.piece.Piece.{Piece}
 use Rattle.store_model.specs.VerifyJob.{last_end, fixed_pieces, dynamic_pieces}
 use Rattle.store_model.proofs.VerifyLemmas.{piece, fixed_pieces_more, end_behind, dynamic_pieces_more}
 use Rattle.job_steps.specs.Visits.{HasPieces}

@@ -11,7 +11,7 @@ use Rattle.wire_commands.specs.declared.rows.FileFault.TheVariants as faults
 use Rattle.wire_commands.specs.declared.reply.Reply.{Reply}
 use Rattle.wire_commands.specs.declared.reply.Reply.TheVariants.{Part, Data, Refused}
 use Rattle.store_model.specs.declared.step.Step.TheVariants.{ReadChunk}
-use Rattle.store_model.specs.declared.piece.Piece.{Piece}
+use Rattle.store_types.specs.declared.piece.Piece.{Piece}
 use Rattle.store_model.specs.SizeLimits.{size_limit}
 use Rattle.store_model.specs.Job.{Visit, asking, reading, closing, next, ended_by}
 use Rattle.store_model.specs.Jobs.{take, take_more}

@@ -9,7 +9,7 @@ use Rattle.wire_commands.specs.declared.rows.FileFault.{FileFault}
 use Rattle.wire_commands.specs.declared.rows.FileRow.{FileRow}
 use Rattle.wire_commands.specs.declared.reply.Reply.{Reply}
 use Rattle.wire_commands.specs.declared.reply.Reply.TheVariants.{Part}
-use Rattle.store_model.specs.declared.piece.Piece.{Piece}
+use Rattle.store_types.specs.declared.piece.Piece.{Piece}
 use Rattle.store_model.specs.declared.step.Step.{Step}
 use Rattle.store_model.specs.declared.step.Step.TheVariants.{ReadFile}
 use Rattle.store_model.specs.SizeLimits.{size_limit}

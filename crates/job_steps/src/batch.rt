@@ -15,8 +15,7 @@ use crate::testing::{PART_LIMIT, first_of};
 use blob_codec::HEADER_SIZE;
 use std::alloc::{AllocError, Global};
 use std::thread::Threads;
-use store_model::Piece;
-use store_types::Bytes;
+use store_types::{Bytes, Piece};
 use wire_commands::FileFault;
 
 /// How many chunks a batch has at most.

@@ -5,7 +5,7 @@ ghost use Rattle.job_steps.specs.FaultRows.{IsFitFault};
 
 use crate::handed::Handed;
 use crate::part::Part;
-use store_model::Piece;
+use store_types::Piece;
 use wire_commands::FileFault;
 
 /// The pieces that an index names, how many of their chunks are tested or at a thread, and those behind them that wait.

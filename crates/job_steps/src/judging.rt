@@ -11,8 +11,8 @@ use dynamic_index::DynamicView;
 use fixed_index::FixedView;
 use sha2::{Digest, Sha256};
 use std::alloc::{AllocError, Global};
-use store_model::{Piece, size_limit};
-use store_types::FileName;
+use store_model::size_limit;
+use store_types::{FileName, Piece};
 use wire_commands::{FileFault, FileRow};
 
 fn without_entries(alloc: Global, fault: Option<FileFault>) -> Judged

@@ -2,8 +2,7 @@
 
 ghost use Rattle.std.specs.Prelude.{◌≡◌, ◌+◌, ◌≤◌, length, vec_capacity, vec_len};
 
-use store_model::Piece;
-use store_types::Bytes;
+use store_types::{Bytes, Piece};
 
 /// A chunk that was read, and is to be tested with its batch. It is as long as its index says: so a batch holds no more than that.
 #[derive(Drop)]

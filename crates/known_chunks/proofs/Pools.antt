@@ -9,10 +9,10 @@ use Rattle.store_types.specs.Names.{text_cmp}
 use Rattle.known_chunks.specs.Lengths.{Lengths, first_of, found_in, joined, joined_all, with_length, with_lengths}
 
 -- two maps in which the same is found
-same : (m n : Lengths) → ((q : List ℕ) → get m q ≡ get n q) → m ≡ n
+pub same : (m n : Lengths) → ((q : List ℕ) → get m q ≡ get n q) → m ≡ n
 same m n is = same_map nat_list_cmp_total (slice_cmp-IsAntisymmetric nat_cmp-IsAntisymmetric) m n is
 
-same_text : (a b : List ℕ) → eq_by_cmp text_cmp a b ≡ true → a ≡ b
+pub same_text : (a b : List ℕ) → eq_by_cmp text_cmp a b ≡ true → a ≡ b
 same_text a b e = (bytes_eq-Decides a b).0 (sym (is_eq-slice_cmp a b) ∙ e)
 
 -- ---- what is found

@@ -1,6 +1,6 @@
 -- Lengths by digest, as a finite map.
 use Rattle.std.specs.Prelude.{ℕ, List, [], ◌∷◌, map, Option, None, Some, is_some, if◌then◌else◌}
-use Rattle.std.specs.FinMap.{FinMap, entries, from_entries, get, insert, remove}
+use Rattle.std.specs.FinMap.{FinMap, entries, from_entries, get, insert}
 use Rattle.store_types.specs.declared.names.Digest32.{Digest32}
 use Rattle.store_types.specs.Names.{text_cmp}
 

@@ -51,10 +51,8 @@ impl Known {
         ensures ok { OnOk result (self.new ≡ with_length self.old (digest.now.0, length)) }
         ensures err { OnErr result (self.new ≡ self.old) }
     {
-        if self.find(digest).is_some() {
-            return Ok(());
-        }
-        self.add(digest, length)
+        self.lengths.entry(*digest)?.or_insert(length);
+        Ok(())
     }
 
     /// Takes a chunk out, where it is there. It takes no memory.

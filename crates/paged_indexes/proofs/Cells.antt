@@ -1,6 +1,6 @@
 -- The cells of a page are those of the body at its place.
-use Rattle.std.proofs.Common.{◌≡◌, ℕ, zero, suc, ◌+◌, ◌-◌, ◌*◌, ◌/◌, ◌<◌, ◌≤◌, min, List, ◌∷◌, length, take, drop, refl, sym, ap, ap₂, ◌∙◌, arith}
-use Rattle.std.proofs.lemmas.List.{drop-drop, drop-take, take-take, take_min, length-drop, length-take-le}
+use Rattle.std.proofs.Common.{◌≡◌, ℕ, zero, suc, ◌+◌, ◌-◌, ◌*◌, ◌/◌, ◌<◌, ◌≤◌, min, List, [], ◌∷◌, ◌++◌, length, take, drop, refl, sym, ap, ap₂, ◌∙◌, arith}
+use Rattle.std.proofs.lemmas.List.{drop-append-le, drop-drop, drop-take, take-append-le, take-take, take_min, length-append, length-drop, length-take-le}
 use Rattle.store_files.specs.Cells.{first_cells, cells}
 use Rattle.index_pages.specs.Opening.{page_of}
 use Rattle.index_pages.specs.Paged.{IsWidth, entries_at, page_count, page_size}
@@ -47,6 +47,37 @@ counted_40 count size is = omega (arith, is)
 pub counted : (width count size : ℕ) → IsWidth width → size ≡ count * width → size / width ≡ count
 counted width count size is =
     by_width (λ w. size ≡ count * w → size / w ≡ count) width is (counted_32 count size) (counted_40 count size)
+
+more_32 : (k n size : ℕ) → size ≡ k * 32 + n → size / 32 ≡ k + n / 32
+more_32 k n size is = omega (arith, is)
+
+more_40 : (k n size : ℕ) → size ≡ k * 40 + n → size / 40 ≡ k + n / 40
+more_40 k n size is = omega (arith, is)
+
+counted_more : (width k n size : ℕ) → IsWidth width → size ≡ k * width + n → size / width ≡ k + n / width
+counted_more width k n size is =
+    by_width (λ w. size ≡ k * w + n → size / w ≡ k + n / w) width is (more_32 k n size) (more_40 k n size)
+
+first_both : (size k n : ℕ) (xs ys : List ℕ) → length xs ≡ k * size → first_cells size (k + n) (xs ++ ys) ≡ first_cells size k xs ++ first_cells size n ys
+unfolding first_cells
+first_both size zero n [] ys e =
+    let none : 0 + n ≡ n = omega arith in
+    ap (λ m. first_cells size m ys) none
+first_both size zero n (x ∷ xs) ys e = absurd (omega (arith, e))
+first_both size (suc k) n xs ys e =
+    let fits : size ≤ length xs = omega (arith, e) in
+    let next : suc k + n ≡ suc (k + n) = omega arith in
+    ap (λ m. first_cells size m (xs ++ ys)) next
+    ∙ ap₂ (λ c rest. c ∷ first_cells size (k + n) rest) (take-append-le size xs ys fits) (drop-append-le size xs ys fits)
+    ∙ ap (λ cs. take size xs ∷ cs) (first_both size k n (drop size xs) ys (omega (arith, e, length-drop size xs)))
+
+-- so many whole cells, and those behind them
+pub cells_both : (width k : ℕ) (xs ys : List ℕ) → IsWidth width → length xs ≡ k * width → cells width (xs ++ ys) ≡ cells width xs ++ cells width ys
+cells_both width k xs ys is len =
+    let size : length (xs ++ ys) ≡ k * width + length ys = omega (arith, length-append xs ys, len) in
+    ap (λ n. first_cells width n (xs ++ ys)) (counted_more width k (length ys) (length (xs ++ ys)) is size)
+    ∙ first_both width k (length ys / width) xs ys len
+    ∙ ap (λ n. first_cells width n xs ++ cells width ys) (sym (counted width k (length xs) is len))
 
 pub page_cells : (width count i : ℕ) (body : List ℕ) → IsWidth width → length body ≡ count * width → i < page_count count
     → cells width (page_of width count i body) ≡ take 1024 (drop (i * 1024) (cells width body))

@@ -138,22 +138,13 @@ page_cuts c start count i bytes room below same len is =
     let few = cells_count (entries_at count i) bytes size in
     front_cuts c start (length (cells 32 bytes)) (count - i * 1024) (omega (arith, few)) is
 
-pub record PageFacts (c : Cut) (start end count i : ℕ) (bytes : List ℕ) : Type 0 where
-  pub next : Cuts c end (count - (i + 1) * 1024)
-  pub few : length (ends_in c start bytes) ≡ entries_at count i
-  pub steps : stepped start (ends_in c start bytes) ≡ Some end
-
-pub page_facts : (c : Cut) (start end count i : ℕ) (bytes room : List ℕ) → i < page_count count → bytes ≡ room → length room ≡ entries_at count i * 32
-    → Cuts c start (count - i * 1024) → end ≡ last_end start (ends_in c start bytes) → PageFacts c start end count i bytes
-page_facts c start end count i bytes room below same len is ends =
+-- behind a page the rest is cut so too
+pub cuts_behind : (c : Cut) (start end count i : ℕ) (bytes room : List ℕ) → i < page_count count → bytes ≡ room → length room ≡ entries_at count i * 32
+    → Cuts c start (count - i * 1024) → end ≡ last_end start (ends_in c start bytes) → Cuts c end (count - (i + 1) * 1024)
+cuts_behind c start end count i bytes room below same len is ends =
     let size : length bytes ≡ entries_at count i * 32 = ap length same ∙ len in
-    let few = cells_count (entries_at count i) bytes size in
-    let left : count - i * 1024 ≡ length (cells 32 bytes) + (count - (i + 1) * 1024) = omega (arith, few, below) in
-    record {
-      next = subst (λ n. Cuts c n (count - (i + 1) * 1024)) (sym ends) (rest_cuts c start (count - (i + 1) * 1024) (count - i * 1024) (cells 32 bytes) left is);
-      few = length-ends_by c.size c.chunk_size start (cells 32 bytes) ∙ few;
-      steps = steps_cut c start (cells 32 bytes) (page_cuts c start count i bytes room below same len is) ∙ ap Some (sym ends);
-    }
+    let left : count - i * 1024 ≡ length (cells 32 bytes) + (count - (i + 1) * 1024) = omega (arith, cells_count (entries_at count i) bytes size, below) in
+    subst (λ n. Cuts c n (count - (i + 1) * 1024)) (sym ends) (rest_cuts c start (count - (i + 1) * 1024) (count - i * 1024) (cells 32 bytes) left is)
 
 -- of the pieces that are left, those of the page, and the rest
 pub next_page : (c : Cut) (start end i : ℕ) (all : List (List ℕ)) (bytes : List ℕ) → cells 32 bytes ≡ take 1024 (drop (i * 1024) all) → end ≡ last_end start (ends_in c start bytes)

@@ -1,16 +1,14 @@
 -- Entries that are handed on, page by page.
-use Rattle.std.proofs.Common.{◌≡◌, ℕ, ◌+◌, ◌*◌, ◌<◌, ◌≤◌, true, min, List, [], ◌++◌, length, take, drop, nat_lt, nat_le, Some, refl, sym, ap, subst, ◌∙◌, append-nil, append_assoc, arith}
-use Rattle.std.specs.Prelude.{is_some}
+use Rattle.std.proofs.Common.{◌≡◌, ℕ, ◌+◌, ◌*◌, ◌≤◌, true, List, [], ◌++◌, length, take, drop, nat_lt, nat_le, Some, sym, ap, subst, ◌∙◌, append-nil, append_assoc, arith}
 use Rattle.std.proofs.lemmas.Bool.{and_from, and_parts, le-leb, leb-true, lt-ltb, ltb-true}
-use Rattle.std.proofs.lemmas.List.{drop-drop, length-append, take-append-drop}
+use Rattle.std.proofs.lemmas.List.{drop-drop, take-append-drop}
 use Rattle.std.proofs.Math.ListN.{drop_of_length-le}
-use Rattle.store_files.specs.Cells.{entry_limit}
 use Rattle.store_files.specs.DynamicIndex.{Ended}
 use Rattle.dynamic_index.specs.Pieces.{last_end}
-use Rattle.index_pages.specs.Paged.{entries_at, page_count}
-use Rattle.paged_indexes.specs.Handing.{HandsOn, HandsSome, IsStep}
-use Rattle.paged_indexes.specs.Steps.{is_step, stepped}
-use Rattle.paged_indexes.proofs.Stepping.{last_end-append, stepped_fits, stepped_last, stepped_some}
+use Rattle.index_pages.specs.Paged.{page_count}
+use Rattle.paged_indexes.specs.Handing.{HandsOn, IsStep}
+use Rattle.paged_indexes.specs.Steps.{is_step}
+use Rattle.paged_indexes.proofs.Stepping.{last_end-append}
 
 pub same_some : {A : Type 0} (x y : A) → Some x ≡ Some y → x ≡ y
 same_some x y e = cc
@@ -66,35 +64,3 @@ module _ {T : Type 0} (taken : T → ℕ → List Ended → Type 0) where
       → HandsRest first all initial start rest now → HandsOn taken first all initial now
   unfolding HandsRest
   rest_none first all initial start rest now is before = before now (hands_none start rest now is)
-
-  -- so many entries were taken, and the last ends there
-  pub record SomeTaken (many end : ℕ) (old new : T) : Type 0 where
-    pub entries : List Ended
-    pub len : length entries ≡ many
-    pub steps : stepped 0 entries ≡ Some end
-    pub hands : HandsOn taken 0 entries old new
-
-  pub some_none : (many : ℕ) (a : T) → many ≡ 0 → SomeTaken many 0 a a
-  some_none many a none = record { entries = []; len = sym none; steps = refl; hands = hands_none 0 [] a refl }
-
-  pub some_more : (count i start end : ℕ) (page : List Ended) (a b c : T) → i < page_count count → length page ≡ entries_at count i → stepped start page ≡ Some end
-      → HandsOn taken start page b c → SomeTaken (min count (i * 1024)) start a b → SomeTaken (min count ((i + 1) * 1024)) end a c
-  some_more count i start end page a b c below len steps hands before =
-      let es = before.entries in
-      record {
-        entries = es ++ page;
-        len = omega (arith, length-append es page, len, before.len, below);
-        steps = stepped_some 0 start es page before.steps ∙ steps;
-        hands = hands_both 0 start (es ++ page) es page a b c refl (sym (last_is es start before.steps)) before.hands hands;
-      }
-    where
-      last_is : (es : List Ended) (last : ℕ) → stepped 0 es ≡ Some last → last ≡ last_end 0 es
-      last_is es last is = stepped_last 0 last es is
-
-  pub some_all : (count many end : ℕ) (old new : T) → count ≤ entry_limit → many ≡ count → SomeTaken many end old new → HandsSome taken count old new
-  some_all count many end old new most all is = record {
-    entries = is.entries;
-    many = is.len ∙ all;
-    fit = record { limit = omega (arith, most, all, is.len); steps = stepped_fits 0 is.entries ∙ ap (λ o. is_some o) is.steps };
-    hands = is.hands;
-  }

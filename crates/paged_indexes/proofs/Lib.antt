@@ -2,6 +2,7 @@ pub mod Cells
 pub mod Entries
 pub mod Stepping
 pub mod Handed
+pub mod AnyDisk
 pub mod Cutting
 pub mod Joined
 pub mod Opened
@@ -11,3 +12,4 @@ pub mod Finding
 pub mod Indexing
 pub mod Paging
 pub mod PagesRead
+pub mod Spelled

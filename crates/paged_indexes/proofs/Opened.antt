@@ -1,5 +1,5 @@
 -- An opening by pages of either kind, behind the tests that go by its front and its length.
-use Rattle.std.proofs.Common.{◌≡◌, ℕ, ◌+◌, ◌-◌, ◌*◌, ◌/◌, Bool, true, false, not, ◌&&◌, cond, List, length, map, take, drop, slice_range, Some, Result, Ok, Err, inl, refl, sym, ap, ap₂, ◌∙◌, arith}
+use Rattle.std.proofs.Common.{◌≡◌, ℕ, ◌+◌, ◌-◌, ◌*◌, ◌/◌, Bool, true, false, not, ◌&&◌, cond, List, length, take, drop, slice_range, Some, Result, Ok, Err, inl, refl, sym, ap, ap₂, ◌∙◌, arith}
 use Rattle.std.specs.Prelude.{◌==◌}
 use Rattle.std.specs.Int.{w64, from_le_bytes}
 use Rattle.std.specs.Str.{bytes_eq}
@@ -91,7 +91,7 @@ summed keep text front count b same front_is long by is e =
 
 -- what is kept is the text's
 pub paged_is : (name text : List ℕ) (count : ℕ) (b : DynamicBody) (p : Paged)
-    → p ≡ record { name = name; width = 40; count = count; sums = map (λ d. d.0) (b.body).sums.items } → (length text - 4096) / 40 ≡ count → IsDynamicBody (drop 4096 text) count b
+    → p ≡ record { name = name; width = 40; count = count; sums = (b.body).sums.items } → (length text - 4096) / 40 ≡ count → IsDynamicBody (drop 4096 text) count b
     → ◌≡◌ {A = DynamicPaged} (record { pages = p; ends = b.ends.items }) (dynamic_paged name text)
 paged_is name text count b p e counts is =
     let all : count ≡ length (dynamic.fields_of text).entries = sym counts ∙ count_is text in
@@ -165,7 +165,7 @@ no_fixed_body f body count Failed w b = tt
 no_fixed_body f body count NoMemory w b = tt
 
 pub fixed_paged_is : (name text : List ℕ) (size chunk_size count : ℕ) (b : Body) (p : Paged)
-    → p ≡ record { name = name; width = 32; count = count; sums = map (λ d. d.0) b.sums.items } → (length text - 4096) / 32 ≡ count → IsBody 32 count (drop 4096 text) b
+    → p ≡ record { name = name; width = 32; count = count; sums = b.sums.items } → (length text - 4096) / 32 ≡ count → IsBody 32 count (drop 4096 text) b
     → size ≡ (fixed.fields_of text).size → chunk_size ≡ (fixed.fields_of text).chunk_size
     → ◌≡◌ {A = FixedPaged} (record { pages = p; size = size; chunk_size = chunk_size }) (fixed_paged name text)
 fixed_paged_is name text size chunk_size count b p e counts is s c =

@@ -1,8 +1,8 @@
 -- What was opened is the index that stands there.
-use Rattle.std.proofs.Common.{◌≡◌, ℕ, zero, suc, ◌+◌, ◌-◌, ◌*◌, ◌/◌, ◌<◌, ◌≤◌, Bool, true, false, cond, min, List, [], ◌∷◌, ◌++◌, length, take, drop, get_or, nat_lt, Option, Some, None, Result, Ok, Err, IsTrue, refl, sym, ap, ap₂, subst, ◌∙◌, arith}
+use Rattle.std.proofs.Common.{◌≡◌, ℕ, zero, suc, ◌+◌, ◌-◌, ◌*◌, ◌/◌, ◌<◌, Bool, true, false, cond, min, List, [], ◌∷◌, ◌++◌, length, take, drop, get_or, nat_lt, Option, Some, None, Result, Ok, Err, IsTrue, refl, sym, ap, ap₂, subst, ◌∙◌, arith}
 use Rattle.std.specs.Prelude.{◌==◌, is_some}
 use Rattle.std.specs.FinMap.{get}
-use Rattle.std.specs.List.{position, position_or_len}
+use Rattle.std.specs.List.{position_or_len}
 use Rattle.std.proofs.lemmas.Bool.{and_parts, eqb-true, ltb-true, ltb-false, ne_eqb}
 use Rattle.std.proofs.lemmas.List.{length-drop, length-take, take-append-drop}
 use Rattle.std.proofs.Math.Nat.{div-mul-le_self}
@@ -18,19 +18,18 @@ use Rattle.dynamic_index.proofs.Reading.{dynamic_of-fits}
 use Rattle.fixed_index.proofs.Reading.{fixed_of-ok, fixed_of-fits}
 use Rattle.index_pages.specs.declared.fault.PageFault.{PageFault}
 use Rattle.index_pages.specs.Opening.{opened_by, told_by}
-use Rattle.index_pages.specs.Paged.{count_of, page_count, page_len, page_start, paged}
-use Rattle.index_pages.specs.Paged.{entries_at as index_entries}
+use Rattle.index_pages.specs.Paged.{count_of, entries_at, page_count, page_len, paged}
 use Rattle.paged_indexes.specs.declared.index.IndexPages.{IndexPages}
 use Rattle.paged_indexes.specs.declared.index.IndexPages.TheVariants as pages
-use Rattle.paged_indexes.specs.declared.kinds.IndexKind.{IndexKind}
 use Rattle.paged_indexes.specs.declared.kinds.IndexKind.TheVariants.{Fixed, Dynamic}
 use Rattle.paged_indexes.specs.Dynamic.{DynamicPaged, dynamic_paged}
 use Rattle.paged_indexes.specs.Dynamic as dynamics
 use Rattle.paged_indexes.specs.Fixed.{Cuts, FixedPaged, HasSizes, cut_of, fixed_ends, fixed_ends_from, fixed_paged}
 use Rattle.paged_indexes.specs.Fixed as fixeds
-use Rattle.paged_indexes.specs.Index.{entries_at, entries_in, entries_read, opened, opened_as, page_behind, pages_by, start_by}
+use Rattle.paged_indexes.specs.Index.{entries_in, entries_read, opened, opened_as, page_with, told_at}
 use Rattle.paged_indexes.specs.Laws.{BeginsLow, IsIndex, OpenedIsTheIndex, PageIs, page}
-use Rattle.paged_indexes.specs.Steps.{entries_of, entries_told, page_ends, page_with, stepped}
+use Rattle.paged_indexes.specs.Steps as by_steps
+use Rattle.paged_indexes.specs.Steps.{entries_told, page_ends, stepped}
 use Rattle.paged_indexes.proofs.Cutting.{all_cut, cut_ends, front_cuts, length-ends_by}
 use Rattle.paged_indexes.proofs.Finding.{is_behind, length-page_ends, page_begins, page_end_at, past_all, piece_within}
 use Rattle.paged_indexes.proofs.Handed.{same_some}
@@ -83,16 +82,8 @@ page_steps es i fit =
 
 -- ---- of a dynamic index
 
-module _ (m : Files) (name text : List ℕ) (x : DynamicIndex) (ok : dynamic_of text ≡ Ok x) (there : get m name ≡ Some text) where
-  abbrev q : DynamicPaged
-  q = dynamic_paged name text
-
-  abbrev es : List Ended
-  es = x.entries
-
-  ends_are : q.ends ≡ page_ends (page_count (length es)) es
-  ends_are = ap (λ (y : DynamicIndex). page_ends (page_count (length y.entries)) y.entries) (sym (dynamic_sized text x ok).is)
-
+-- what is kept of entries tells where their pages begin and stop
+module _ (q : DynamicPaged) (es : List Ended) (ends_are : q.ends ≡ page_ends (page_count (length es)) es) where
   starts_are : (i : ℕ) → i < page_count (length es) → dynamics.start_in q i ≡ last_end 0 (take (i * 1024) es)
   starts_are i below = by_first i below
     where
@@ -106,31 +97,46 @@ module _ (m : Files) (name text : List ℕ) (x : DynamicIndex) (ok : dynamic_of 
   stops_are : (i : ℕ) → i < page_count (length es) → dynamics.stop_in q i ≡ last_end 0 (take (suc i * 1024) es)
   stops_are i below = ap (λ (xs : List ℕ). get_or xs i 0) ends_are ∙ page_end_at (page_count (length es)) es i 0 below
 
+  -- and so they are told
+  pub dynamic_page_told : (i : ℕ) → i < page_count (length es) → IsTrue (steps_fit 0 es)
+      → entries_told i (dynamics.start_in q i) (dynamics.stop_in q i) (take 1024 (drop (i * 1024) es)) ≡ Ok (take 1024 (drop (i * 1024) es))
+  dynamic_page_told i below fit =
+      let g = take 1024 (drop (i * 1024) es) in
+      told_there i (dynamics.start_in q i) (dynamics.stop_in q i) (last_end 0 (take (suc i * 1024) es)) g
+      (ap (λ n. stepped n g) (starts_are i below) ∙ page_steps es i fit) (sym (stops_are i below))
+
+module _ (m : Files) (name text : List ℕ) (x : DynamicIndex) (ok : dynamic_of text ≡ Ok x) (there : get m name ≡ Some text) where
+  abbrev q : DynamicPaged
+  q = dynamic_paged name text
+
+  abbrev es : List Ended
+  es = x.entries
+
+  ends_are : q.ends ≡ page_ends (page_count (length es)) es
+  ends_are = ap (λ (y : DynamicIndex). page_ends (page_count (length y.entries)) y.entries) (sym (dynamic_sized text x ok).is)
+
   dynamic_page_is : (i : ℕ) → i < page_count (length es) → PageIs m (pages.Dynamic q) es i
-  unfolding entries_at
+  unfolding told_at
   dynamic_page_is i below =
       let are = dynamic_pages_are name text x ok in
       let given = dynamic_stays text x ok m name i there (subst (λ c. i < page_count c) (sym are.count) below) in
-      let g = take 1024 (drop (i * 1024) es) in
-      let start = starts_are i below in
-      let steps = ap (λ n. stepped n g) start ∙ page_steps es i (dynamic_of-fits text x ok).1 in
       record {
         read =
             ap (entries_read (pages.Dynamic q) i) given
             ∙ ap (entries_told i (dynamics.start_in q i) (dynamics.stop_in q i)) (are.entries i below)
-            ∙ told_there i (dynamics.start_in q i) (dynamics.stop_in q i) (last_end 0 (take (suc i * 1024) es)) g steps (sym (stops_are i below));
-        start = start;
+            ∙ dynamic_page_told q es ends_are i below (dynamic_of-fits text x ok).1;
+        start = starts_are q es ends_are i below;
       }
 
-  found_low : (offset : ℕ) → BeginsLow (pages.Dynamic q) es offset (page_behind (pages.Dynamic q) offset)
+  found_low : (offset : ℕ) → BeginsLow (pages.Dynamic q) es offset (page_with (pages.Dynamic q) offset)
   found_low offset =
       let n = page_count (length es) in
       let ends = page_ends n es in
       let k = position_or_len (is_behind offset) ends in
       let long = length-page_ends n es in
-      subst (BeginsLow (pages.Dynamic q) es offset) (sym (ap (page_with offset) ends_are))
+      subst (BeginsLow (pages.Dynamic q) es offset) (sym (ap (by_steps.page_with offset) ends_are))
       (by_bool (nat_lt k (length ends)) (λ b. BeginsLow (pages.Dynamic q) es offset (cond b (Some k) None))
-      (λ t. let within : k < n = omega (arith, ltb-true k (length ends) t, long) in (within, omega (arith, starts_are k within, page_begins n es offset k refl within)))
+      (λ t. let within : k < n = omega (arith, ltb-true k (length ends) t, long) in (within, omega (arith, starts_are q es ends_are k within, page_begins n es offset k refl within)))
       (λ f. past_all es offset (ltb-false k (length ends) f)))
 
   pub dynamic_is_index : IsIndex m (pages.Dynamic q) es
@@ -154,6 +160,29 @@ ends-drop : (size cut start k : ℕ) (ds : List (List ℕ))
 ends-drop size cut start zero ds = refl
 ends-drop size cut start (suc k) [] = refl
 ends-drop size cut start (suc k) (d ∷ ds) = ends-drop size cut (start + piece_len size cut start) k ds
+
+-- what is kept of digests tells where their pages begin
+module _ (f : FixedPaged) (ds : List (List ℕ)) (all : Cuts (cut_of f) 0 (length ds)) where
+  begins_at : (i : ℕ) → i < page_count (length ds) → fixeds.start_in f i ≡ last_end 0 (take (i * 1024) (fixed_ends_from f.size f.chunk_size 0 ds))
+  begins_at i below =
+      let k = i * 1024 in
+      let few : length (take k ds) ≡ k = omega (arith, below, length-take k ds) in
+      let c = cut_of f in
+      let ends = cut_ends c 0 (take k ds) (front_cuts c 0 (length (take k ds)) (length ds) (omega (arith, below, few)) all) in
+      sym (ap (last_end 0) (ends-take f.size f.chunk_size 0 k ds) ∙ ends ∙ ap (λ n. min f.size (0 + n * f.chunk_size)) few ∙ (let z : min f.size (0 + k * f.chunk_size) ≡ min f.size (k * f.chunk_size) = omega arith in z))
+
+  -- and so they are told
+  pub fixed_page_told : HasSizes f.pages f.size f.chunk_size → (f.pages).count ≡ length ds → (i : ℕ) (bytes : List ℕ) → i < page_count (length ds)
+      → length bytes ≡ page_len f.pages i → cells 32 bytes ≡ take 1024 (drop (i * 1024) ds)
+      → fixeds.fixed_told f i bytes ≡ Ok (take 1024 (drop (i * 1024) (fixed_ends_from f.size f.chunk_size 0 ds)))
+  fixed_page_told sizes count i bytes below len are =
+      let k = i * 1024 in
+      let begin = last_end 0 (fixed_ends_from f.size f.chunk_size 0 (take k ds)) in
+      let from : fixeds.start_in f i ≡ begin = begins_at i below ∙ ap (last_end 0) (ends-take f.size f.chunk_size 0 k ds) in
+      (fixed_page f i bytes sizes (subst (λ n. i < page_count n) (sym count) below) len).told
+      ∙ ap Ok (ap₂ (λ a (cs : List (List ℕ)). fixed_ends_from f.size f.chunk_size a cs) from are
+      ∙ sym (ends-take f.size f.chunk_size begin 1024 (drop k ds))
+      ∙ ap (take 1024) (sym (ends-drop f.size f.chunk_size 0 k ds)))
 
 module _ (m : Files) (name text : List ℕ) (x : FixedIndex) (ok : fixed_of text ≡ Ok x) (there : get m name ≡ Some text) where
   abbrev f : FixedPaged
@@ -196,22 +225,13 @@ module _ (m : Files) (name text : List ℕ) (x : FixedIndex) (ok : fixed_of text
       let s = sized in
       let n = count_of 32 text in
       let count : n ≡ length y.digests = s.count in
-      let few = index_entries n i * 32 in
+      let few = entries_at n i * 32 in
       let at = 4096 + i * 32_768 in
       let left : length (drop at text) ≡ length text - at = length-drop at text in
       length-take few (drop at text) ∙ (let all : min few (length (drop at text)) ≡ few = omega (arith, below, count, s.len, left) in all)
 
-  begins_at : (i : ℕ) → i < page_count (length y.digests) → fixeds.start_in f i ≡ last_end 0 (take (i * 1024) fs)
-  begins_at i below =
-      let s = sized in
-      let k = i * 1024 in
-      let few : length (take k y.digests) ≡ k = omega (arith, below, length-take k y.digests) in
-      let c = cut_of f in
-      let ends = cut_ends c 0 (take k y.digests) (front_cuts c 0 (length (take k y.digests)) (length y.digests) (omega (arith, below, few)) s.all) in
-      sym (ap (last_end 0) (ends-take y.size y.chunk_size 0 k y.digests) ∙ ends ∙ ap (λ n. min y.size (0 + n * y.chunk_size)) few ∙ (let z : min y.size (0 + k * y.chunk_size) ≡ min y.size (k * y.chunk_size) = omega arith in z))
-
   fixed_page_is : (i : ℕ) → i < page_count (length y.digests) → PageIs m (pages.Fixed f) fs i
-  unfolding entries_at
+  unfolding told_at
   fixed_page_is i below =
       let s = sized in
       let k = i * 1024 in
@@ -220,20 +240,12 @@ module _ (m : Files) (name text : List ℕ) (x : FixedIndex) (ok : fixed_of text
       let below_x : i < page_count (length x.digests) = omega (arith, below, same) in
       let given = fixed_stays text x ok m name i there (subst (λ c. i < page_count c) (sym are.count) below_x) in
       let cells_are : cells 32 (page 32 name text i) ≡ take 1024 (drop k y.digests) = are.entries i below_x ∙ ap (λ (z : FixedIndex). take 1024 (drop k z.digests)) s.is in
-      let told = fixed_page f i (page 32 name text i) s.sizes (subst (λ c. i < page_count c) (sym s.count) below) (page_len_is i below) in
-      let start = begins_at i below in
-      let begin = last_end 0 (fixed_ends_from y.size y.chunk_size 0 (take k y.digests)) in
-      let from : fixeds.start_in f i ≡ begin = start ∙ ap (last_end 0) (ends-take y.size y.chunk_size 0 k y.digests) in
       record {
-        read =
-            ap (entries_read (pages.Fixed f) i) given ∙ told.told
-            ∙ ap Ok (ap₂ (λ a (ds : List (List ℕ)). fixed_ends_from y.size y.chunk_size a ds) from cells_are
-            ∙ sym (ends-take y.size y.chunk_size begin 1024 (drop k y.digests))
-            ∙ ap (take 1024) (sym (ends-drop y.size y.chunk_size 0 k y.digests)));
-        start = start;
+        read = ap (entries_read (pages.Fixed f) i) given ∙ fixed_page_told f y.digests s.all s.sizes s.count i (page 32 name text i) below (page_len_is i below) cells_are;
+        start = begins_at f y.digests s.all i below;
       }
 
-  low_at : (offset : ℕ) → BeginsLow (pages.Fixed f) fs offset (page_behind (pages.Fixed f) offset)
+  low_at : (offset : ℕ) → BeginsLow (pages.Fixed f) fs offset (page_with (pages.Fixed f) offset)
   low_at offset =
       let s = sized in
       let c = cut_of f in

@@ -10,13 +10,13 @@ use Rattle.dynamic_index.specs.Pieces.{last_end}
 use Rattle.index_pages.specs.declared.fault.PageFault.{PageFault}
 use Rattle.index_pages.specs.declared.fault.PageFault.TheVariants.{Missing, BadIndex, Changed, Failed, NoMemory}
 use Rattle.index_pages.specs.Gives.{Gives}
-use Rattle.index_pages.specs.Paged.{entries_at as index_entries, page_at, page_count, page_len}
+use Rattle.index_pages.specs.Paged.{entries_at, page_at, page_count, page_len}
 use Rattle.paged_indexes.specs.Fixed.{Cuts, FixedPaged, HasSizes, cut_of, ends_in, fixed_told, start_in, stop_in}
 use Rattle.paged_indexes.specs.Handing.{HandsTold}
 use Rattle.paged_indexes.specs.declared.index.IndexPages.{IndexPages}
 use Rattle.paged_indexes.specs.declared.index.IndexPages.TheVariants as pages
 use Rattle.paged_indexes.specs.Dynamic as dynamics
-use Rattle.paged_indexes.specs.Index.{HandsPage, entries_at, entries_read, pages_by, start_by, stop_by, told_by}
+use Rattle.paged_indexes.specs.Index.{HandsInto, entries_read, pages_by, start_by, stop_by, told_at, told_by}
 use Rattle.paged_indexes.specs.Steps.{ends_at, entries_of, entries_told, stepped}
 use Rattle.paged_indexes.proofs.Cutting.{all_cut, cells_count, cut_ends, front_cuts, page_begins, steps_cut}
 use Rattle.paged_indexes.proofs.Finding.{pieces_reach}
@@ -44,10 +44,10 @@ pub fixed_page : (p : FixedPaged) (i : ℕ) (bytes : List ℕ) → HasSizes p.pa
     → length bytes ≡ page_len p.pages i → FixedPage p i bytes
 fixed_page p i bytes has below all_len =
     let count = (p.pages).count in
-    let len : length bytes ≡ index_entries count i * 32 = all_len ∙ ap (λ w. index_entries count i * w) has.width in
+    let len : length bytes ≡ entries_at count i * 32 = all_len ∙ ap (λ w. entries_at count i * w) has.width in
     let c = cut_of p in
     let all = all_cut p.size p.chunk_size count (and_from (is_chunk_size p.chunk_size) (count == piece_count p.size p.chunk_size) has.allowed (eq-eqb count (piece_count p.size p.chunk_size) has.pieces)) in
-    let few = cells_count (index_entries count i) bytes len in
+    let few = cells_count (entries_at count i) bytes len in
     let begins = page_begins c count i all.least all.most (omega (arith, all.reach)) below in
     let start : start_in p i ≡ i * 1024 * p.chunk_size = omega (arith, begins.within) in
     let cuts = front_cuts c (i * 1024 * p.chunk_size) (length (cells 32 bytes)) (count - i * 1024) (omega (arith, few)) begins in
@@ -61,7 +61,7 @@ fixed_page p i bytes has below all_len =
           (ends ∙ stops (length (cells 32 bytes)) few start (omega (arith, pieces_reach p.size p.chunk_size all.least, ap (λ n. n * p.chunk_size) has.pieces)));
     }
   where
-    stops : (n : ℕ) → n ≡ index_entries (p.pages).count i → start_in p i ≡ i * 1024 * p.chunk_size → p.size ≤ (p.pages).count * p.chunk_size
+    stops : (n : ℕ) → n ≡ entries_at (p.pages).count i → start_in p i ≡ i * 1024 * p.chunk_size → p.size ≤ (p.pages).count * p.chunk_size
         → min p.size (start_in p i + n * p.chunk_size) ≡ stop_in p i
     stops n few start reach =
         let count = (p.pages).count in
@@ -117,11 +117,11 @@ stops_next (pages.Dynamic p) i =
 module _ {T : Type 0} (taken : T → ℕ → List Ended → Type 0) (m : Files) (p : IndexPages) (i : ℕ) (old new : T) where
   -- its bytes were read
   pub hands_page : (bytes : List ℕ) (result : Result (Unit {0}) PageFault) → page_at m (pages_by p) i ≡ Ok bytes → HandsTold taken (start_by p i) (told_by p i bytes) old new result
-      → HandsPage m p i taken old new result
-  unfolding entries_at
+      → HandsInto m p i taken old new result
+  unfolding told_at
   hands_page bytes result read hands = by_result result (subst (λ told. HandsTold taken (start_by p i) told old new result) (sym (ap (entries_read p i) read)) hands)
     where
-      by_result : (r : Result (Unit {0}) PageFault) → HandsTold taken (start_by p i) (entries_read p i (page_at m (pages_by p) i)) old new r → HandsPage m p i taken old new r
+      by_result : (r : Result (Unit {0}) PageFault) → HandsTold taken (start_by p i) (entries_read p i (page_at m (pages_by p) i)) old new r → HandsInto m p i taken old new r
       by_result (Ok x) hands = hands
       by_result (Err Missing) hands = hands
       by_result (Err (BadIndex cause)) hands = hands
@@ -131,12 +131,12 @@ module _ {T : Type 0} (taken : T → ℕ → List Ended → Type 0) (m : Files) 
 
   -- or they were not
   pub unread_page : {A : Type 0} (f : A → List ℕ) (fault : PageFault) (result : Result (Unit {0}) PageFault) → IsErrAnd result (λ x. x ≡ fault) → Gives f (Err fault) (page_at m (pages_by p) i)
-      → HandsPage m p i taken old new result
-  unfolding entries_at
+      → HandsInto m p i taken old new result
+  unfolding told_at
   unread_page f fault (Ok x) is gives = absurd is
-  unread_page f fault (Err x) is gives = subst (λ y. HandsPage m p i taken old new (Err y)) (sym is) (by_fault fault gives)
+  unread_page f fault (Err x) is gives = subst (λ y. HandsInto m p i taken old new (Err y)) (sym is) (by_fault fault gives)
     where
-      by_fault : (fault : PageFault) → Gives f (Err fault) (page_at m (pages_by p) i) → HandsPage m p i taken old new (Err fault)
+      by_fault : (fault : PageFault) → Gives f (Err fault) (page_at m (pages_by p) i) → HandsInto m p i taken old new (Err fault)
       by_fault Missing gives = ap (entries_read p i) gives
       by_fault (BadIndex cause) gives = ap (entries_read p i) gives
       by_fault (Changed page) gives = ap (entries_read p i) gives

@@ -16,7 +16,7 @@ use Rattle.paged_indexes.specs.declared.kinds.IndexKind.TheVariants.{Fixed, Dyna
 use Rattle.paged_indexes.specs.Dynamic as dynamics
 use Rattle.paged_indexes.specs.Fixed as fixeds
 use Rattle.paged_indexes.specs.Handing.{HandsAll, HandsOn, HandsTold}
-use Rattle.paged_indexes.specs.Steps.{page_with}
+use Rattle.paged_indexes.specs.Steps as by_steps
 
 -- ---- what is kept
 
@@ -52,17 +52,17 @@ entries_read p i (Ok bytes) = told_by p i bytes
 entries_read p i (Err fault) = Err fault
 
 -- the entries of page i of the file that stands there, where it is as it was opened
-unfoldable pub entries_at : Files → IndexPages → ℕ → Result (List Ended) PageFault
-entries_at m p i = entries_read p i (page_at m (pages_by p) i)
+unfoldable pub told_at : Files → IndexPages → ℕ → Result (List Ended) PageFault
+told_at m p i = entries_read p i (page_at m (pages_by p) i)
 
 -- on an honest disk they are handed on behind those that were taken, or the fault is told; where memory is wanting or the disk failed nothing
 -- is said
-abbrev pub HandsPage : {T : Type 0} → Files → IndexPages → ℕ → (T → ℕ → List Ended → Type 0) → T → T → Result (Unit {0}) PageFault → Type 0
-HandsPage m p i taken old new (Err Failed) = Unit {0}
-HandsPage m p i taken old new result = HandsTold taken (start_by p i) (entries_at m p i) old new result
+abbrev pub HandsInto : {T : Type 0} → Files → IndexPages → ℕ → (T → ℕ → List Ended → Type 0) → T → T → Result (Unit {0}) PageFault → Type 0
+HandsInto m p i taken old new (Err Failed) = Unit {0}
+HandsInto m p i taken old new result = HandsTold taken (start_by p i) (told_at m p i) old new result
 
 abbrev pub ReadsInto : {D T : Type 0} → Ghosts D → D → IndexPages → ℕ → (T → ℕ → List Ended → Type 0) → T → T → Result (Unit {0}) PageFault → Type 0
-ReadsInto d disk p i taken old new result = d.honest disk → HandsPage (d.content disk) p i taken old new result
+ReadsInto d disk p i taken old new result = d.honest disk → HandsInto (d.content disk) p i taken old new result
 
 -- on any disk those that bytes with the SHA-256 that was kept spell
 pub record HandsKept {T : Type 0} (p : IndexPages) (i : ℕ) (taken : T → ℕ → List Ended → Type 0) (old new : T) : Type 0 where
@@ -71,9 +71,9 @@ pub record HandsKept {T : Type 0} (p : IndexPages) (i : ℕ) (taken : T → ℕ 
   pub hands : HandsAll taken (start_by p i) (told_by p i bytes) old new
 
 -- the first page that ends behind an offset
-abbrev pub page_behind : IndexPages → ℕ → Option ℕ
-page_behind (pages.Fixed p) offset = fixeds.page_with p offset
-page_behind (pages.Dynamic p) offset = page_with offset p.ends
+abbrev pub page_with : IndexPages → ℕ → Option ℕ
+page_with (pages.Fixed p) offset = fixeds.page_with p offset
+page_with (pages.Dynamic p) offset = by_steps.page_with offset p.ends
 
 -- ---- an opening
 

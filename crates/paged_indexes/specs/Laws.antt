@@ -1,5 +1,5 @@
 -- What holds of indexes that are read page by page.
-use Rattle.std.specs.Prelude.{◌≡◌, ◌↔◌, ◌<◌, ◌≤◌, ◌*◌, ℕ, List, length, take, drop, Option, None, Some, Ok, MatchResult, IsNone, IfSome}
+use Rattle.std.specs.Prelude.{◌≡◌, ◌↔◌, ◌<◌, ◌≤◌, ◌*◌, ℕ, List, length, take, drop, Option, None, Some, Ok, MatchResult, IsNone, IsTrue, IfSome}
 use Rattle.std.specs.FinMap.{get}
 use Rattle.disk_trait.specs.Files.{Files}
 use Rattle.store_files.specs.Cells.{cells}
@@ -7,12 +7,12 @@ use Rattle.store_files.specs.DynamicIndex.{DynamicIndex, Ended, dynamic_of}
 use Rattle.store_files.specs.FixedIndex.{FixedIndex, fixed_of}
 use Rattle.dynamic_index.specs.Pieces.{HoldsOffset, last_end, size_of}
 use Rattle.fixed_index.specs.Viewing.{start_of, stop_of}
-use Rattle.index_pages.specs.Paged.{page_at, page_count, page_text, paged}
+use Rattle.index_pages.specs.Paged.{IsOfBytes, IsPageOf, Paged, is_kept, page_at, page_count, page_text, paged}
 use Rattle.paged_indexes.specs.Dynamic.{chunk_in, dynamic_paged, size_by}
 use Rattle.paged_indexes.specs.Fixed.{chunk_in as fixed_chunk_in, fixed_paged}
 use Rattle.paged_indexes.specs.declared.index.IndexPages.{IndexPages}
 use Rattle.paged_indexes.specs.declared.kinds.IndexKind.{IndexKind}
-use Rattle.paged_indexes.specs.Index.{entries_at, entries_in, opened, page_behind, pages_by, start_by}
+use Rattle.paged_indexes.specs.Index.{entries_in, opened, page_with, pages_by, start_by, told_at}
 use Rattle.paged_indexes.specs.Steps.{entries_of}
 
 -- the bytes of page i of a text of entries of a width
@@ -48,6 +48,11 @@ DynamicStays = (text : List ℕ) (x : DynamicIndex) → dynamic_of text ≡ Ok x
 abbrev pub FixedStays : Type 0
 FixedStays = (text : List ℕ) (x : FixedIndex) → fixed_of text ≡ Ok x → WhatStaysIsGiven 32 text
 
+-- ---- what is kept of a page is the SHA-256 of bytes
+
+abbrev pub KeptHasTheSum : Type 0
+KeptHasTheSum = (p : Paged) (is : IsOfBytes p) (i : ℕ) (bytes : List ℕ) → i < page_count p.count → IsTrue (is_kept p i bytes) ↔ IsPageOf p is.body i bytes
+
 -- ---- the piece at an offset is the view's: none from the archive's size on, else the one that has the byte there
 
 pub record FindsTheChunk (m : Files) (name text : List ℕ) (x : DynamicIndex) (offset : ℕ) : Type 0 where
@@ -77,7 +82,7 @@ FixedChunksAreFound = (name text : List ℕ) (x : FixedIndex) (offset : ℕ) →
 
 -- of page i, whose first piece begins there, the index's entries are read
 pub record PageIs (m : Files) (p : IndexPages) (entries : List Ended) (i : ℕ) : Type 0 where
-  pub read : entries_at m p i ≡ Ok (take 1024 (drop (i * 1024) entries))
+  pub read : told_at m p i ≡ Ok (take 1024 (drop (i * 1024) entries))
   pub start : start_by p i ≡ last_end 0 (take (i * 1024) entries)
 
 -- a page that is found begins at the offset or before it, and where none is the archive ends so
@@ -88,7 +93,7 @@ BeginsLow p entries offset (Some i) = (i < page_count (length entries)) × (star
 pub record IsIndex (m : Files) (p : IndexPages) (entries : List Ended) : Type 0 where
   pub count : (pages_by p).count ≡ length entries
   pub pages : (i : ℕ) → i < page_count (length entries) → PageIs m p entries i
-  pub found : (offset : ℕ) → BeginsLow p entries offset (page_behind p offset)
+  pub found : (offset : ℕ) → BeginsLow p entries offset (page_with p offset)
 
 -- while the file stands there from which it was opened
 abbrev pub OpenedIsTheIndex : Type 0

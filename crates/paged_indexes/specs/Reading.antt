@@ -8,7 +8,7 @@ use Rattle.store_files.specs.declared.causes.IndexFault.TheVariants.{Sizes}
 use Rattle.store_files.specs.DynamicIndex.{Ended, steps_fit}
 use Rattle.index_pages.specs.declared.fault.PageFault.{PageFault}
 use Rattle.index_pages.specs.declared.fault.PageFault.TheVariants.{BadIndex, Failed, NoMemory}
-use Rattle.index_pages.specs.Opening.{HasPages, IsBody, page_of}
+use Rattle.index_pages.specs.Opening.{AreBytes, HasPages, IsBody, NotesPage, page_of}
 use Rattle.index_pages.specs.declared.opening.Body.{Body}
 use Rattle.index_pages.specs.Paged.{entries_at, page_count}
 use Rattle.paged_indexes.specs.declared.reading.Reading.{Reading}
@@ -48,10 +48,13 @@ TakesPage d disk name count i old new page result =
     d.honest disk → (text : List ℕ) → get (d.content disk) name ≡ Some text → length text ≡ header_len + count * 40
     → TakesThe count i (drop header_len text) old new page result
 
--- a page has its bytes, and its entries are handed on behind those before
+-- a page's bytes are noted, and its entries are handed on behind those before
 pub record HandsPage {T : Type 0} (taken : T → ℕ → List Ended → Type 0) (count i : ℕ) (old new : Reading) (page : List ℕ) (before after : T) : Type 0 where
   pub len : length page ≡ entries_at count i * 40
+  pub small : AreBytes page
+  pub notes : NotesPage old.opening new.opening page
   pub steps : stepped old.end (entries_of page) ≡ Some new.end
+  pub ends : new.ends.items ≡ old.ends.items ++ new.end ∷ []
   pub hands : HandsOn taken old.end (entries_of page) before after
 
 -- no page ends before the one in front of it, nor behind the last piece so far
@@ -87,6 +90,13 @@ HandsBody d disk name count taken old new =
     d.honest disk → (text : List ℕ) → get (d.content disk) name ≡ Some text → length text ≡ header_len + count * 40
     → HandsOn taken 0 (entries_of (drop header_len text)) old new
 
+-- on any disk these bytes were read: what is kept is theirs, and so are the entries that are handed on
+pub record ReadsSome {T : Type 0} (taken : T → ℕ → List Ended → Type 0) (count : ℕ) (b : DynamicBody) (old new : T) : Type 0 where
+  pub body : List ℕ
+  pub len : length body ≡ count * 40
+  pub is : IsDynamicBody body count b
+  pub hands : HandsOn taken 0 (entries_of body) old new
+
 -- of a fixed one, in which no page tells a fault
 abbrev pub FixedBodyIs : List ℕ → ℕ → Result Body PageFault → Type 0
 FixedBodyIs body count (Ok b) = IsBody 32 count body b
@@ -103,3 +113,9 @@ abbrev pub HandsFixedBody : {D T : Type 0} → Ghosts D → D → List ℕ → �
 HandsFixedBody d disk name count cut taken old new =
     d.honest disk → (text : List ℕ) → get (d.content disk) name ≡ Some text → length text ≡ header_len + count * 32
     → HandsOn taken 0 (ends_in cut 0 (drop header_len text)) old new
+
+pub record ReadsSomeFixed {T : Type 0} (taken : T → ℕ → List Ended → Type 0) (count : ℕ) (cut : Cut) (b : Body) (old new : T) : Type 0 where
+  pub body : List ℕ
+  pub len : length body ≡ count * 32
+  pub is : IsBody 32 count body b
+  pub hands : HandsOn taken 0 (ends_in cut 0 body) old new

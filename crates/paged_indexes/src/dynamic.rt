@@ -4,7 +4,7 @@ ghost use Rattle.std.specs.Prelude.{◌≡◌, ◌<◌, ◌≤◌, [], length, I
 ghost use Rattle.disk_trait.specs.Disk.{TicksOnce};
 ghost use Rattle.disk_trait.specs.Effects.{OnlyReads};
 ghost use Rattle.index_pages.specs.declared.fault.PageFault.TheVariants.{Failed as ReadFailed, NoMemory as NoRoom};
-ghost use Rattle.index_pages.specs.Paged.{ReadsPage, is_kept, page_count};
+ghost use Rattle.index_pages.specs.Paged.{IsOfBytes, ReadsPage, is_kept, page_count};
 ghost use Rattle.paged_indexes.specs.Dynamic.{CallsOnceAtMost, FindsChunk, OpensDynamic, dynamic_entries, dynamic_told, size_by, start_in};
 ghost use Rattle.paged_indexes.specs.Handing.{HandsSome, HandsThose, HandsTold};
 ghost use Rattle.paged_indexes.specs.Steps.{page_with as page_of};
@@ -23,8 +23,8 @@ pub const ENTRY_SIZE: usize = 40;
 
 const MAGIC: [u8; 8] = [28, 145, 78, 165, 25, 186, 179, 205];
 
-/// A dynamic index as contracts see it: where it stands and how many entries it has; of each page the SHA-256 that its
-/// opening read, and where its last piece ends.
+/// A dynamic index as contracts see it: where it stands and how many entries it has; of each page what its opening kept,
+/// and where its last piece ends.
 #[derive(Drop)]
 pub struct DynamicPages {
     pages: Pages,
@@ -68,7 +68,7 @@ impl DynamicPages {
             dynamic_entries T.taken taker.old taker.new) }
         // on any disk
         ensures some { IfOk result
-            (λ pages. HandsSome T.taken pages.pages.count taker.old taker.new) }
+            (λ p. HandsSome T.taken p.pages (dynamic_told p) taker.old taker.new) }
     {
         let mut room = Page::new(alloc)?;
         let head = read_head(disk, name, &mut room)?;
@@ -112,8 +112,8 @@ impl DynamicPages {
         }
     }
 
-    /// Reads a page. Its bytes are the file's at this moment, and have the SHA-256 that the opening kept. It takes no
-    /// memory.
+    /// Reads a page. Its bytes are the file's at this moment, and behind the entries before them have the SHA-256 that the
+    /// opening kept. It takes no memory.
     pub fn page<D: Disk>(&self, disk: &mut D, i: u32, into: &mut Page) -> Result<(), PageFault>
         requires { i < page_count self.now.pages.count }
         ensures reads { OnlyReads D.Disk disk.old disk.new (IsErrOf result ReadFailed) }
@@ -121,6 +121,7 @@ impl DynamicPages {
         ensures exact { ReadsPage D.Disk disk.old self.now.pages i into.new result }
         // on any disk
         ensures kept { OnOk result (IsTrue (is_kept self.now.pages i into.new)) }
+        ensures bytes { IsOfBytes self.now.pages }
         ensures err { OnErr result (into.new ≡ []) }
         ensures memory { IsErrOf result NoRoom → ⊥ }
     {

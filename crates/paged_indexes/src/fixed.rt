@@ -4,10 +4,10 @@ ghost use Rattle.std.specs.Prelude.{◌≡◌, ◌<◌, ◌≤◌, [], length, I
 ghost use Rattle.disk_trait.specs.Disk.{TicksOnce};
 ghost use Rattle.disk_trait.specs.Effects.{OnlyReads};
 ghost use Rattle.index_pages.specs.declared.fault.PageFault.TheVariants.{Failed as ReadFailed, NoMemory as NoRoom};
-ghost use Rattle.index_pages.specs.Paged.{ReadsPage, is_kept, page_count, page_len};
+ghost use Rattle.index_pages.specs.Paged.{IsOfBytes, ReadsPage, is_kept, page_count, page_len};
 ghost use Rattle.paged_indexes.specs.Fixed.{Cuts, OpensFixed, chunk_in, fixed_entries, fixed_told, page_with as page_of, sizes_agree, start_in};
 ghost use Rattle.paged_indexes.specs.Handing.{HandsSome, HandsThose, HandsTold};
-ghost use Rattle.paged_indexes.specs.Reading.{HandsFixedBody, ReadsFixedBody};
+ghost use Rattle.paged_indexes.specs.Reading.{HandsFixedBody, ReadsFixedBody, ReadsSomeFixed};
 
 use crate::pieces::{Cut, hand_on};
 use crate::taking::{Nothing, TakesEntries};
@@ -24,7 +24,7 @@ const ENTRY_SIZE: usize = 32;
 const MAGIC: [u8; 8] = [47, 127, 65, 237, 145, 253, 15, 205];
 
 /// A fixed index as contracts see it: where it stands and how many entries it has, the archive's size and the length of
-/// each piece but the last; of each page the SHA-256 that its opening read.
+/// each piece but the last; of each page what its opening kept.
 #[derive(Drop)]
 pub struct FixedPages {
     pages: Pages,
@@ -69,7 +69,7 @@ impl FixedPages {
             fixed_entries T.taken taker.old taker.new) }
         // on any disk
         ensures some { IfOk result
-            (λ pages. HandsSome T.taken pages.pages.count taker.old taker.new) }
+            (λ p. HandsSome T.taken p.pages (fixed_told p) taker.old taker.new) }
     {
         let mut room = Page::new(alloc)?;
         let head = read_head(disk, name, &mut room)?;
@@ -126,8 +126,8 @@ impl FixedPages {
         self.chunk_size
     }
 
-    /// Reads a page. Its bytes are the file's at this moment, and have the SHA-256 that the opening kept. It takes no
-    /// memory.
+    /// Reads a page. Its bytes are the file's at this moment, and behind the entries before them have the SHA-256 that the
+    /// opening kept. It takes no memory.
     pub fn page<D: Disk>(&self, disk: &mut D, i: u32, into: &mut Page) -> Result<(), PageFault>
         requires { i < page_count self.now.pages.count }
         ensures reads { OnlyReads D.Disk disk.old disk.new (IsErrOf result ReadFailed) }
@@ -135,6 +135,7 @@ impl FixedPages {
         ensures exact { ReadsPage D.Disk disk.old self.now.pages i into.new result }
         // on any disk
         ensures kept { OnOk result (IsTrue (is_kept self.now.pages i into.new)) }
+        ensures bytes { IsOfBytes self.now.pages }
         ensures err { OnErr result (into.new ≡ []) }
         ensures memory { IsErrOf result NoRoom → ⊥ }
     {
@@ -214,7 +215,7 @@ fn read_body<D: Disk, T: TakesEntries>(
         cut T.taken taker.old taker.new) }
     // on any disk
     ensures sums { IfOk result (λ b. length b.sums.items ≡ page_count count) }
-    ensures some { IfOk result (λ _. HandsSome T.taken count taker.old taker.new) }
+    ensures some { IfOk result (λ b. ReadsSomeFixed T.taken count cut b taker.old taker.new) }
 {
     let pages = pages_in(count);
     let mut opening = Opening::begin(alloc, pages)?;

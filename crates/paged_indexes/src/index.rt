@@ -4,9 +4,9 @@ ghost use Rattle.std.specs.Prelude.{◌≡◌, ◌<◌, ◌≤◌, [], length, I
 ghost use Rattle.disk_trait.specs.Disk.{TicksOnce};
 ghost use Rattle.disk_trait.specs.Effects.{OnlyReads};
 ghost use Rattle.index_pages.specs.declared.fault.PageFault.TheVariants.{Failed as ReadFailed, NoMemory as NoRoom};
-ghost use Rattle.index_pages.specs.Paged.{ReadsPage, is_kept, page_count, page_len};
+ghost use Rattle.index_pages.specs.Paged.{IsOfBytes, ReadsPage, is_kept, page_count, page_len};
 ghost use Rattle.paged_indexes.specs.Handing.{HandsSome, HandsTold};
-ghost use Rattle.paged_indexes.specs.Index.{HandsEntries, HandsKept, HasWidth, OpensIndex, ReadsInto, page_behind, pages_by, size_by, start_by, told_by};
+ghost use Rattle.paged_indexes.specs.Index.{HandsEntries, HandsKept, HasWidth, OpensIndex, ReadsInto, page_with as page_of, pages_by, size_by, start_by, told_by};
 
 use crate::dynamic::DynamicPages;
 use crate::fixed::FixedPages;
@@ -39,7 +39,7 @@ impl IndexPages {
             T.taken taker.old taker.new) }
         // on any disk
         ensures some { IfOk result
-            (λ pages. HandsSome T.taken (pages_by pages).count taker.old taker.new) }
+            (λ p. HandsSome T.taken (pages_by p) (told_by p) taker.old taker.new) }
     {
         match kind {
             IndexKind::Fixed => {
@@ -85,8 +85,8 @@ impl IndexPages {
         }
     }
 
-    /// Reads a page. Its bytes are the file's at this moment, and have the SHA-256 that the opening kept. It takes no
-    /// memory.
+    /// Reads a page. Its bytes are the file's at this moment, and behind the entries before them have the SHA-256 that the
+    /// opening kept. It takes no memory.
     pub fn page<D: Disk>(&self, disk: &mut D, i: u32, into: &mut Page) -> Result<(), PageFault>
         requires { i < page_count (pages_by self.now).count }
         ensures reads { OnlyReads D.Disk disk.old disk.new (IsErrOf result ReadFailed) }
@@ -94,6 +94,7 @@ impl IndexPages {
         ensures exact { ReadsPage D.Disk disk.old (pages_by self.now) i into.new result }
         // on any disk
         ensures kept { OnOk result (IsTrue (is_kept (pages_by self.now) i into.new)) }
+        ensures bytes { IsOfBytes (pages_by self.now) }
         ensures err { OnErr result (into.new ≡ []) }
         ensures memory { IsErrOf result NoRoom → ⊥ }
     {
@@ -154,7 +155,7 @@ impl IndexPages {
 
     /// The first page of which the last piece ends behind an offset, or `None` where the archive ends there or before it.
     pub fn page_with(&self, offset: u64) -> Option<u32>
-        ensures { result ≡ page_behind self.now offset }
+        ensures { result ≡ page_of self.now offset }
     {
         match self {
             IndexPages::Fixed(pages) => pages.page_with(offset),

@@ -1,6 +1,6 @@
 //! What holds of indexes that are read page by page.
 
-ghost use Rattle.paged_indexes.specs.Laws.{DynamicChunksAreFound, DynamicPagesAreOfTheView, DynamicStays, FixedChunksAreFound, FixedPagesAreOfTheView, FixedStays, OpenedIsTheIndex};
+ghost use Rattle.paged_indexes.specs.Laws.{DynamicChunksAreFound, DynamicPagesAreOfTheView, DynamicStays, FixedChunksAreFound, FixedPagesAreOfTheView, FixedStays, KeptHasTheSum, OpenedIsTheIndex};
 
 /// There are as many entries as in the view, and a page's entries are the view's at its place.
 pub fn a_page_is_of_the_view()
@@ -12,6 +12,12 @@ pub fn a_page_is_of_the_view()
 pub fn what_stays_is_given()
     ensures dynamic { DynamicStays }
     ensures fixed { FixedStays }
+{}
+
+/// What is kept of an index is of bytes, and bytes of a page are kept exactly where they are as many as the page has, and
+/// behind those bytes before it have the SHA-256 of them to the page's end.
+pub fn what_is_kept_has_the_sha256()
+    ensures { KeptHasTheSum }
 {}
 
 /// The chunk at an offset is the one that has the byte there, and there is none exactly from the archive's size on.

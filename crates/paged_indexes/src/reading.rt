@@ -6,8 +6,7 @@ ghost use Rattle.disk_trait.specs.Effects.{OnlyReads};
 ghost use Rattle.index_pages.specs.declared.fault.PageFault.TheVariants.{Failed as ReadFailed};
 ghost use Rattle.index_pages.specs.Opening.{Begins};
 ghost use Rattle.index_pages.specs.Paged.{page_count};
-ghost use Rattle.paged_indexes.specs.Handing.{HandsSome};
-ghost use Rattle.paged_indexes.specs.Reading.{EndsRise, HandsBody, HandsPage, ReadsBody, TakesPage, sums_of};
+ghost use Rattle.paged_indexes.specs.Reading.{EndsRise, HandsBody, HandsPage, ReadsBody, ReadsSome, TakesPage, sums_of};
 
 use crate::dynamic::ENTRY_SIZE;
 use crate::steps::hand_on;
@@ -102,7 +101,7 @@ pub fn read_body<D: Disk, T: TakesEntries>(
     ensures sums { IfOk result (λ b. length b.body.sums.items ≡ page_count count) }
     ensures ends { IfOk result (λ b. length b.ends.items ≡ page_count count) }
     ensures rises { IfOk result (λ b. IsNonDecreasingBy (λ n. n) b.ends.items) }
-    ensures some { IfOk result (λ _. HandsSome T.taken count taker.old taker.new) }
+    ensures some { IfOk result (λ b. ReadsSome T.taken count b taker.old taker.new) }
     ensures those { IfOk result (λ _. HandsBody D.Disk disk.old name.now count
         T.taken taker.old taker.new) }
 {

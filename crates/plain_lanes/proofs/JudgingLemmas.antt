@@ -8,7 +8,7 @@ use Rattle.store_files.specs.DynamicIndex.{DynamicIndex, Ended}
 use Rattle.fixed_index.specs.Viewing.{start_of, stop_of}
 use Rattle.fixed_index.proofs.Reading.{fixed_of-fits}
 use Rattle.dynamic_index.specs.Pieces as pieces
-use Rattle.store_model.specs.declared.piece.Piece.{Piece}
+use Rattle.store_types.specs.declared.piece.Piece.{Piece}
 use Rattle.store_model.specs.VerifyJob.{dynamic_pieces, fixed_pieces, last_end}
 use Rattle.store_model.proofs.VerifyLemmas.{dynamic_pieces_more, end_behind, fixed_pieces_more, piece}
 use Rattle.plain_lanes.specs.Visits.{HasPieces}

@@ -11,7 +11,7 @@ use Rattle.wire_commands.specs.declared.rows.FileFault.TheVariants as faults
 use Rattle.wire_commands.specs.declared.reply.Reply.{Reply}
 use Rattle.wire_commands.specs.declared.reply.Reply.TheVariants.{Done, Part, Data, Files, Refused}
 use Rattle.wire_commands.specs.HasText.{FitsFileFault}
-use Rattle.store_model.specs.declared.piece.Piece.{Piece}
+use Rattle.store_types.specs.declared.piece.Piece.{Piece}
 use Rattle.store_model.specs.SizeLimits.{size_limit}
 use Rattle.store_model.specs.Job.{Visit, over, asking, listing, checking, closing, ended_by}
 use Rattle.store_model.specs.VerifyJob.{file_done, next_chunk, with_fault, opened, listed, read_part, chunk_fault, checked, too_long}

@@ -13,7 +13,7 @@ use Rattle.wire_commands.specs.declared.rows.FileFault.TheVariants as faults
 use Rattle.wire_commands.specs.declared.rows.FaultRow.{FaultRow}
 use Rattle.wire_commands.specs.declared.reply.Reply.{Reply}
 use Rattle.wire_commands.specs.declared.reply.Reply.TheVariants.{Done, Part, Data, Files, Refused}
-use Rattle.store_model.specs.declared.piece.Piece.{Piece}
+use Rattle.store_types.specs.declared.piece.Piece.{Piece}
 use Rattle.store_model.specs.SizeLimits.{size_limit}
 use Rattle.store_model.specs.Job.{ended_by}
 use Rattle.store_model.specs.Job as model

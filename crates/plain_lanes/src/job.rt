@@ -13,8 +13,8 @@ use crate::{prune, sync, verify};
 use std::alloc::{AllocError, Global};
 use std::collections::VecDeque;
 use std::marker::Model;
-use store_model::{Piece, Step};
-use store_types::{Bytes, Keep};
+use store_model::Step;
+use store_types::{Bytes, Keep, Piece};
 use wire_commands::{Command, FileFault, FileRow, PruneRow, Reply};
 
 /// Where a job is that asks for a step.

@@ -12,8 +12,8 @@ use fixed_index::FixedView;
 use sha2::{Digest, Sha256};
 use std::alloc::{AllocError, Global};
 use std::collections::VecDeque;
-use store_model::{Piece, size_limit};
-use store_types::FileName;
+use store_model::size_limit;
+use store_types::{FileName, Piece};
 use wire_commands::{FileFault, FileRow};
 
 /// A file's fault, and of an index how many bytes its entries have together, and each of them.

@@ -15,8 +15,7 @@ use crate::judging::{Judged, chunk_fault, judge, long_fault};
 use crate::visit::Visit;
 use std::alloc::{AllocError, Global};
 use std::collections::VecDeque;
-use store_model::Piece;
-use store_types::{Bytes, Digest32, Refusal, Rows};
+use store_types::{Bytes, Digest32, Piece, Refusal, Rows};
 use wire_commands::{FaultRow, FileFault, FileRow, Reply};
 
 // ---- from file to file

@@ -22,6 +22,7 @@ use Rattle.core_state.specs.Applies.{ActApplies, ActKeeps}
 use Rattle.core_state.specs.Begins.{AdmittedHasText, IsNotShort, IsShort, Refuses, short}
 use Rattle.core_state.specs.Closing.{closes, is_closing}
 use Rattle.core_state.specs.Commands.{is_remotes}
+use Rattle.core_state.specs.Stops.{ended_by}
 use Rattle.core_state.specs.Unreadables.{TellsUnreadable}
 use Rattle.core_state.specs.Wanted.{session_at}
 use Rattle.core_state.proofs.Applying.{closes_none, refused_applies, refused_keeps_all}
@@ -30,6 +31,7 @@ use Rattle.core_state.proofs.Texts.{no_memory_has_text}
 use Rattle.shared_store.specs.AnsweredBy.{CoreAnswersBy}
 use Rattle.shared_store.specs.Applied.{HasApplied}
 use Rattle.shared_store.specs.Asked.{asked}
+use Rattle.shared_store.specs.Notes.{Notes}
 use Rattle.shared_store.specs.Views.{is_listing}
 use Rattle.shared_store.proofs.Answering.{no_open}
 use Rattle.shared_store.proofs.Damages.{short_asks_none, tells_whole}
@@ -86,6 +88,12 @@ module _ {D E C : Type 0} (d : Ghosts D) (e : Ghosts E) (clock : clocks.Ghosts C
   answers (Plain (Forget snapshot)) listing = λ admin done. no_command (answer.entry).kind kind done
   answers act listing = off listing
 
+  -- and nothing is noted
+  none_noted : (act : Act) → is_listing act ≡ true → Notes d old.parts new.parts lane act (ended_by answer.reply)
+  none_noted (Plain Finish) listing = tt
+  none_noted (Plain (Forget snapshot)) listing = tt
+  none_noted act listing = off listing
+
   pub wanted : (act : Act) → lane < 64 → IsWellFormed act → is_listing act ≡ true → HasApplied d e clock old new lane act answer
   wanted act lt formed listing =
       let refuses : Refuses d clock.readings old new lane answer = short is in
@@ -103,6 +111,7 @@ module _ {D E C : Type 0} (d : Ghosts D) (e : Ghosts E) (clock : clocks.Ghosts C
         damaged = λ alone. tells_whole d old new lane act answer (no_reads act listing) alone applies.cause;
         from_state = answers act listing;
         by_remote = λ remotes. off (sym (at_home act listing) ∙ remotes);
+        notes = none_noted act listing;
         opened = no_open new lane act answer (no_reads act listing);
         short = no_short act listing;
       }

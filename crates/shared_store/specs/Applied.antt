@@ -14,6 +14,7 @@ use Rattle.core_state.specs.Applies.{ActApplies, ActKeeps, CoreApplies}
 use Rattle.core_state.specs.Commands.{is_remotes}
 use Rattle.core_state.specs.History.{event_of}
 use Rattle.core_state.specs.Remotes.{reads_remote}
+use Rattle.core_state.specs.Stops.{ended_by}
 use Rattle.core_state.specs.Unreadables.{CoreUnreadable}
 use Rattle.core_reader.specs.Damages.{CoreDamaged}
 use Rattle.core_reader.specs.ReaderActs.{CoreOpens}
@@ -21,6 +22,7 @@ use Rattle.core_remote.specs.RemoteActs.{RemoteGives}
 use Rattle.shared_store.specs.AnsweredBy.{CoreAnswersBy}
 use Rattle.shared_store.specs.Asked.{asked}
 use Rattle.shared_store.specs.Comes.{ComesTo}
+use Rattle.shared_store.specs.Notes.{Notes}
 
 pub record HasApplied {D E C : Type 0} (d : Ghosts D) (e : Ghosts E) (clock : clocks.Ghosts C) (old new : Core D E C) (lane : ℕ) (act : Act) (answer : Answer) : Type 0 where
   -- the core stands for each history that it stood for with this act's event more, beside a remote that stands for that of the
@@ -28,7 +30,8 @@ pub record HasApplied {D E C : Type 0} (d : Ghosts D) (e : Ghosts E) (clock : cl
   pub applies : CoreApplies d e clock old new lane act answer
   -- whatever the remote is, where the act doesn't read it
   pub alone : reads_remote act answer ≡ false → ActApplies d clock old new lane act answer
-  -- what it leaves of disk, catalogue, sessions and reserve, by the act and its reply; what a crash leaves
+  -- what it leaves of disk, catalogue, sessions, reserve, and of what each lane keeps of indexes, by the act and its reply; what a crash
+  -- leaves
   pub keeps : ActKeeps d old new lane act answer
   -- of the store's own files and chunks; those of the remote see below
   pub unreadable : is_remotes act ≡ false → CoreUnreadable d (asked (row_at old.parts lane) act lane old.collector) old lane answer
@@ -39,6 +42,9 @@ pub record HasApplied {D E C : Type 0} (d : Ghosts D) (e : Ghosts E) (clock : cl
   pub from_state : CoreAnswersBy d old new lane act answer
   -- of an honest remote, whatever it holds
   pub by_remote : is_remotes act ≡ true → RemoteGives e old act answer
+  -- what the lane keeps of indexes then: a PREVIOUS, a RANGE and a VERIFY's read of a chunk alone change it, beside a session's end; and
+  -- what its session notes of an index that was downloaded
+  pub notes : Notes d old.parts new.parts lane act (ended_by answer.reply)
   pub opened : CoreOpens new lane act answer
   pub short : act ≡ Short → (answer.entry).kind ≡ MEMORY_KIND
 

@@ -17,7 +17,6 @@ use Rattle.store_model.specs.Stands.{fills_size, FitsLayout, FitsContent, names_
 use Rattle.fixed_index.proofs.Spelling.{fixed_of-fixed_text}
 use Rattle.dynamic_index.proofs.Spelling.{dynamic_of-dynamic_text}
 use Rattle.dynamic_index.specs.Pieces.{last_end}
-use Rattle.dynamic_index.specs.Writing.{Known}
 use Rattle.snapshot_files.specs.Parts.{part_from}
 use Rattle.paged_indexes.specs.Fixed.{fixed_ends_from}
 use Rattle.paged_indexes.specs.declared.kinds.IndexKind.{IndexKind}
@@ -117,7 +116,7 @@ pub lengths_of_pieces : (start : ℕ) (ps : List (List ℕ)) → lengths_from st
 lengths_of_pieces start [] = refl
 lengths_of_pieces start (p ∷ ps) =
     let len : start + length p - start ≡ length p = omega arith in
-    ap₂ (λ n (ks : List Known). (sha256 p, n) ∷ ks) len (lengths_of_pieces (start + length p) ps)
+    ap₂ (λ n (ks : List (List ℕ × ℕ)). (sha256 p, n) ∷ ks) len (lengths_of_pieces (start + length p) ps)
 
 -- each is that of a piece
 pub lengths_fit : (start : ℕ) (es : List Ended) → IsTrue (steps_fit start es) → AllByRecursion (λ k. (1 ≤ k.1) × (k.1 ≤ 16_777_216)) (lengths_from start es)
@@ -136,4 +135,4 @@ length-lengths start (e ∷ es) = ap suc (length-lengths e.end es)
 -- one more
 pub lengths_push : (start : ℕ) (es : List Ended) (e : Ended) → lengths_from start (es ++ e ∷ []) ≡ lengths_from start es ++ (e.digest, e.end - last_end start es) ∷ []
 lengths_push start [] e = refl
-lengths_push start (x ∷ es) e = ap (λ (ks : List Known). (x.digest, x.end - start) ∷ ks) (lengths_push x.end es e)
+lengths_push start (x ∷ es) e = ap (λ (ks : List (List ℕ × ℕ)). (x.digest, x.end - start) ∷ ks) (lengths_push x.end es e)

@@ -14,7 +14,7 @@ use Rattle.std.specs.Prelude.{IsErrAnd, IsErrOf}
 use Rattle.paged_indexes.specs.declared.index.IndexPages.{IndexPages}
 use Rattle.paged_indexes.specs.declared.kinds.IndexKind.{IndexKind}
 use Rattle.paged_indexes.specs.Handing.{HandsOn}
-use Rattle.paged_indexes.specs.Index.{HandsPage, entries_at, entries_in, opened}
+use Rattle.paged_indexes.specs.Index.{HandsInto, entries_in, opened, told_at}
 use Rattle.paged_indexes.proofs.Indexing.{opened_entries, opened_nothing, unopened_entries}
 use Rattle.store_model.specs.WriterSteps.{part_of}
 use Rattle.store_stops.specs.declared.stop.Stop.{Stop}
@@ -217,23 +217,23 @@ module _ {T : Type 0} (content : Files) (path : List ℕ) (kind : IndexKind) (of
 -- ---- a page
 
 module _ {T : Type 0} (content : Files) (path : List ℕ) (p : IndexPages) (i : ℕ) (taken : T → ℕ → List Ended → Type 0) (old new : T) where
-  pub page_given : HandsPage content p i taken old new (Ok tt) → IsPage content path p i taken old new
+  pub page_given : HandsInto content p i taken old new (Ok tt) → IsPage content path p i taken old new
   unfolding page_entries
   page_given h = record { entries = h.entries; read = ap (entries_or path) h.told_is; hands = h.hands }
 
-  pub page_stops : (fault : PageFault) (stop : Stop) → StopsBy path fault stop → HandsPage content p i taken old new (Err fault) → GivesPage content path p i taken old new (Err stop)
+  pub page_stops : (fault : PageFault) (stop : Stop) → StopsBy path fault stop → HandsInto content p i taken old new (Err fault) → GivesPage content path p i taken old new (Err stop)
   unfolding page_entries
   page_stops fault stop by is = by_fault fault by is
     where
       no_memory : stop ≡ stops.NoMemory → GivesPage content path p i taken old new (Err stop)
       no_memory e = subst (λ s. GivesPage content path p i taken old new (Err s)) (sym e) tt
 
-      told : (fault : PageFault) → (stop ≡ stops.NoMemory) ⊎ (stop ≡ stops.Refused (Unreadable path)) → entries_at content p i ≡ Err fault
+      told : (fault : PageFault) → (stop ≡ stops.NoMemory) ⊎ (stop ≡ stops.Refused (Unreadable path)) → told_at content p i ≡ Err fault
           → GivesPage content path p i taken old new (Err stop)
       told fault (inl e) is = no_memory e
       told fault (inr e) is = subst (λ s. GivesPage content path p i taken old new (Err s)) (sym e) (ap (entries_or path) is)
 
-      by_fault : (fault : PageFault) → StopsBy path fault stop → HandsPage content p i taken old new (Err fault) → GivesPage content path p i taken old new (Err stop)
+      by_fault : (fault : PageFault) → StopsBy path fault stop → HandsInto content p i taken old new (Err fault) → GivesPage content path p i taken old new (Err stop)
       by_fault faults.Missing by is = told faults.Missing by is
       by_fault (faults.BadIndex cause) by is = told (faults.BadIndex cause) by is
       by_fault (faults.Changed page) by is = told (faults.Changed page) by is

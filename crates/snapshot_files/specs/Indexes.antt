@@ -10,14 +10,13 @@ use Rattle.store_types.specs.declared.refusal.Refusal.TheVariants.{Unreadable}
 use Rattle.wire_commands.specs.declared.reply.Reply.{Reply}
 use Rattle.store_files.specs.DynamicIndex.{Ended}
 use Rattle.store_files.specs.Archive.{Layout, dynamic, fixed}
-use Rattle.dynamic_index.specs.Writing.{Known}
 use Rattle.index_pages.specs.declared.fault.PageFault.{PageFault}
 use Rattle.index_pages.specs.declared.fault.PageFault.TheVariants as faults
 use Rattle.paged_indexes.specs.declared.kinds.IndexKind.{IndexKind}
 use Rattle.paged_indexes.specs.declared.kinds.IndexKind.TheVariants.{Fixed, Dynamic}
 use Rattle.paged_indexes.specs.declared.index.IndexPages.{IndexPages}
 use Rattle.paged_indexes.specs.Handing.{HandsOn}
-use Rattle.paged_indexes.specs.Index.{entries_at, entries_in, opened, start_by}
+use Rattle.paged_indexes.specs.Index.{entries_in, opened, start_by, told_at}
 use Rattle.snapshot_files.specs.declared.index.IndexPart.{IndexPart}
 use Rattle.store_stops.specs.declared.stop.Stop.{Stop}
 use Rattle.store_stops.specs.declared.stop.Stop.TheVariants as stops
@@ -67,7 +66,7 @@ entries_or path (Err fault) = Err (Unreadable path)
 
 -- the entries of a page, which is unreadable where it is not as it was opened
 unfoldable pub page_entries : Files → List ℕ → IndexPages → ℕ → Result (List Ended) Refusal
-page_entries content path pages i = entries_or path (entries_at content pages i)
+page_entries content path pages i = entries_or path (told_at content pages i)
 
 -- they are handed on behind those that were taken
 pub record IsPage {T : Type 0} (content : Files) (path : List ℕ) (pages : IndexPages) (i : ℕ) (taken : T → ℕ → List Ended → Type 0) (old new : T) : Type 0 where
@@ -121,6 +120,6 @@ ReadsIndex d disk path kind offset taken old new result = d.honest disk → Give
 -- ---- lengths
 
 -- of each piece the digest and the length, where the first begins at the start
-abbrev pub lengths_from : ℕ → List Ended → List Known
+abbrev pub lengths_from : ℕ → List Ended → List (List ℕ × ℕ)
 lengths_from start [] = []
 lengths_from start (e ∷ es) = (e.digest, e.end - start) ∷ lengths_from e.end es

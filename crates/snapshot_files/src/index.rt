@@ -6,7 +6,7 @@ ghost use Rattle.disk_trait.specs.Effects.{OnlyReads};
 ghost use Rattle.store_types.specs.declared.refusal.Refusal.TheVariants.{Unreadable as UnreadableAt};
 ghost use Rattle.paged_indexes.specs.Handing.{HandsSome};
 ghost use Rattle.index_pages.specs.Paged.{page_count};
-ghost use Rattle.paged_indexes.specs.Index.{HandsEntries, HandsKept, pages_by};
+ghost use Rattle.paged_indexes.specs.Index.{HandsEntries, HandsKept, pages_by, told_by};
 ghost use Rattle.snapshot_files.specs.Indexes.{OpensIndex, ReadsIndex, ReadsPage, StopsBy, kind_named, kind_of_index};
 ghost use Rattle.snapshot_files.specs.Parts.{PartHasText, RefusesPart};
 ghost use Rattle.snapshot_files.specs.Reads.{StopHasText};
@@ -76,7 +76,7 @@ pub fn open_index<D: Disk, T: TakesEntries>(
         (λ _. HandsEntries D.Disk disk.old path.now kind T.taken taker.old taker.new) }
     // on any disk
     ensures some { IfOk result
-        (λ pages. HandsSome T.taken (pages_by pages).count taker.old taker.new) }
+        (λ pages. HandsSome T.taken (pages_by pages) (told_by pages) taker.old taker.new) }
     ensures refusal { IfErr result (IfRefused (λ refusal. refusal ≡ UnreadableAt path.now)) }
     ensures text { IfErr result StopHasText }
 {
@@ -142,7 +142,7 @@ pub fn read_index<D: Disk, T: TakesEntries>(
         T.taken taker.old taker.new result }
     // on any disk
     ensures some { IfOk result
-        (λ index. HandsSome T.taken (pages_by index.pages).count taker.old taker.new) }
+        (λ x. HandsSome T.taken (pages_by x.pages) (told_by x.pages) taker.old taker.new) }
     ensures kind { IfErr result (IfRefused (RefusesPart path.now)) }
     ensures text { MatchResult result (λ index. PartHasText index.part) StopHasText }
 {

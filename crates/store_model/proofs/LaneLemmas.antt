@@ -12,7 +12,7 @@ use Rattle.wire_commands.specs.declared.reply.Reply.TheVariants.{Part, Refused}
 use Rattle.wire_commands.specs.Inputs.{InputFront}
 use Rattle.wire_commands.specs.Inputs as inputs
 use Rattle.wire_commands.specs.Inputs.{front}
-use Rattle.store_model.specs.declared.piece.Piece.{Piece}
+use Rattle.store_types.specs.declared.piece.Piece.{Piece}
 use Rattle.store_model.specs.SizeLimits.{size_limit}
 use Rattle.store_model.specs.Job.{Visit, Asking, reading, closing, aborting, Job, over, asking}
 use Rattle.store_model.specs.Jobs.{take, take_more}

@@ -14,7 +14,7 @@ use Rattle.wire_commands.specs.declared.reply.Reply.TheVariants.{Data, Part, Ver
 use Rattle.wire_commands.proofs.Hexadecimal.{hex}
 use Rattle.store_model.specs.declared.ending.Ending.{Ending}
 use Rattle.store_model.specs.declared.ending.Ending.TheVariants as endings
-use Rattle.store_model.specs.declared.piece.Piece.{Piece}
+use Rattle.store_types.specs.declared.piece.Piece.{Piece}
 use Rattle.store_model.specs.Job.{reading, checking, closing, over, asking, Job}
 use Rattle.store_model.specs.Jobs.{take}
 use Rattle.store_model.specs.VerifyJob.{begun, judged}

@@ -20,7 +20,7 @@ use Rattle.wire_commands.specs.declared.rows.FaultRow.{FaultRow}
 use Rattle.wire_commands.specs.declared.reply.Reply.TheVariants.{Verified}
 use Rattle.wire_commands.specs.ReplyText.{file_fault_text, fault_row_text, reply_text}
 use Rattle.wire_commands.specs.HasText.{FitsFileFault, FitsFaultRow, ReplyHasText}
-use Rattle.store_model.specs.declared.piece.Piece.{Piece}
+use Rattle.store_types.specs.declared.piece.Piece.{Piece}
 use Rattle.store_model.specs.SizeLimits.{size_limit}
 use Rattle.store_model.specs.Job.{Visit, asking, reading, closing}
 use Rattle.store_model.specs.FaultRows.{fault_fits, IsFitRow}

@@ -4,10 +4,8 @@
 
 mod ending;
 mod limits;
-mod piece;
 mod step;
 
 pub use ending::Ending;
 pub use limits::{BLOB_LIMIT, size_limit};
-pub use piece::Piece;
 pub use step::Step;

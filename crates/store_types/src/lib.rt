@@ -7,6 +7,7 @@ pub mod laws;
 mod limits;
 mod names;
 mod order;
+mod piece;
 mod refusal;
 mod rows;
 mod times;
@@ -21,6 +22,7 @@ pub use order::{
     COMMAND_KIND, END_KIND, Entry, FAULT_KIND, LAST_MOMENT, MEMORY_KIND, Moment, PART_KIND,
     REMOTE_FAULT_KIND, START_KIND, STOP_KIND,
 };
+pub use piece::Piece;
 pub use refusal::{BadBlob, ChunkFault, CloseFault, Refusal, SessionState};
 pub use rows::{Bytes, Rows};
 pub use times::date_of_day;

@@ -5,7 +5,7 @@ use crate::formats::fixtures::{ABC, ABC_BYTES, front, put, same_parts, zeros};
 use dynamic_index::{BadIndex, DynamicView, DynamicWriter, IndexFault};
 use std::alloc::Global;
 use std::process::Abort;
-use store_types::Digest32;
+use store_types::{Digest32, Piece};
 
 /// SHA-256 of `de`.
 const DE: [u8; 32] = [
@@ -29,7 +29,11 @@ const EMPTY_CSUM: [u8; 32] = [
 fn two_pieces(rt: &impl Abort, alloc: Global) -> Vec<u8> {
     let mut writer = DynamicWriter::new(alloc, [1; 16], 1_579_069_803);
     must(rt, writer.append(&ABC, 3));
-    must(rt, writer.append_all(alloc, &[(Digest32(DE), 2)]));
+    let de = Piece {
+        digest: Digest32(DE),
+        length: 2,
+    };
+    must(rt, writer.append_all(alloc, &[de]));
     let (entries, end, csum) = writer.facts();
     same(rt, (entries, end), (2, 5));
     same(rt, csum, Digest32(CSUM));

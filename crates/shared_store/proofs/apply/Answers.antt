@@ -8,12 +8,13 @@ use Rattle.store_history.proofs.Families.{by_end, by_want}
 use Rattle.core_state.specs.Indexed.{row_at}
 use Rattle.core_state.specs.Applies.{ActApplies, ActKeeps}
 use Rattle.core_state.specs.Commands.{is_remotes}
+use Rattle.core_state.specs.Stops.{ended_by}
 use Rattle.core_state.specs.Unreadables.{TellsUnreadable}
 use Rattle.core_state.specs.Wanted.{session_at}
 use Rattle.core_state.proofs.Applying.{short_applies, short_keeps_all}
 use Rattle.core_state.proofs.RemoteReads.{applies_beside}
 use Rattle.shared_store.specs.Asked.{asked}
-use Rattle.shared_store.proofs.Answering.{admins_answer, collectors_answer, end_answers, no_open, readers_answer, readers_open, remotes_answer, short_answers, writers_answer}
+use Rattle.shared_store.proofs.Answering.{admins_answer, collectors_answer, end_answers, no_notes, no_open, readers_answer, readers_note, readers_open, remotes_answer, short_answers, writers_answer, writers_note}
 use Rattle.shared_store.proofs.Asking.{admins_ask, collectors_ask, readers_ask, writers_ask}
 use Rattle.shared_store.proofs.Damages.{end_asks_none, short_asks_none, tells_whole}
 use Rattle.shared_store.proofs.apply.Goals as goal
@@ -32,6 +33,9 @@ module _ (act : Act) (f : Family) (is : family_of act ≡ f) where
 
   other : (f ≡ Reads → ⊥) → family_of act ≡ Reads → ⊥
   other unlike reads = unlike (sym is ∙ reads)
+
+  unwriting : (f ≡ Writes → ⊥) → family_of act ≡ Writes → ⊥
+  unwriting unlike writes = unlike (sym is ∙ writes)
 
   not_short : {P : Type 0} → (Wants ≡ f → ⊥) → act ≡ acts.Short → P
   not_short unlike short = absurd (unlike (sym (ap family_of short) ∙ is))
@@ -66,6 +70,7 @@ returns-in-Reads g c =
       damaged = λ alone. c.reader_act.ensures.damaged;
       from_state = readers_answer g.D.Disk old new c.args.lane answer act is c.reader_act.ensures.from_state;
       by_remote = unread act Reads is refl;
+      notes = readers_note g.D.Disk old.parts new.parts c.args.lane (ended_by answer.reply) act is c.reader_act.ensures.notes;
       opened = readers_open g.D.Disk old new c.args.lane answer act c.reader_act.ensures.from_state;
       short = not_short act Reads is (λ e. cc);
     }
@@ -88,6 +93,7 @@ returns-in-Writes g c =
       damaged = λ alone. tells_whole g.D.Disk old new c.args.lane act answer (other act Writes is (λ e. cc)) alone (c.writer_act.ensures.applies).cause;
       from_state = writers_answer g.D.Disk old new c.args.lane answer act is c.writer_act.ensures.from_state;
       by_remote = unread act Writes is refl;
+      notes = writers_note g.D.Disk old.parts new.parts c.args.lane (ended_by answer.reply) act is c.writer_act.ensures.notes;
       opened = no_open new c.args.lane act answer (other act Writes is (λ e. cc));
       short = not_short act Writes is (λ e. cc);
     }
@@ -110,6 +116,7 @@ returns-in-Manages g c =
       damaged = λ alone. tells_whole g.D.Disk old new c.args.lane act answer (other act Manages is (λ e. cc)) alone (c.admin_act.ensures.applies).cause;
       from_state = admins_answer g.D.Disk old new c.args.lane answer act is c.admin_act.ensures.from_state;
       by_remote = unread act Manages is refl;
+      notes = no_notes g.D.Disk old.parts new.parts c.args.lane (ended_by answer.reply) act (other act Manages is (λ e. cc)) (unwriting act Manages is (λ e. cc));
       opened = no_open new c.args.lane act answer (other act Manages is (λ e. cc));
       short = not_short act Manages is (λ e. cc);
     }
@@ -132,6 +139,7 @@ returns-in-Collects g c =
       damaged = λ alone. tells_whole g.D.Disk old new c.args.lane act answer (other act Collects is (λ e. cc)) alone (c.collect_act.ensures.applies).cause;
       from_state = collectors_answer g.D.Disk old new c.args.lane answer act is c.collect_act.ensures.from_state;
       by_remote = unread act Collects is refl;
+      notes = no_notes g.D.Disk old.parts new.parts c.args.lane (ended_by answer.reply) act (other act Collects is (λ e. cc)) (unwriting act Collects is (λ e. cc));
       opened = no_open new c.args.lane act answer (other act Collects is (λ e. cc));
       short = not_short act Collects is (λ e. cc);
     }
@@ -152,6 +160,7 @@ returns-in-Reaches g c =
       damaged = λ alone. reads act is alone;
       from_state = remotes_answer g.D.Disk old new c.args.lane answer act is c.remote_act.ensures.from_state;
       by_remote = λ remotes. c.remote_act.ensures.by_remote;
+      notes = no_notes g.D.Disk old.parts new.parts c.args.lane (ended_by answer.reply) act (other act Reaches is (λ e. cc)) (unwriting act Reaches is (λ e. cc));
       opened = no_open new c.args.lane act answer (other act Reaches is (λ e. cc));
       short = not_short act Reaches is (λ e. cc);
     }
@@ -179,6 +188,7 @@ returns-in-Wants g c =
       damaged = λ alone. tells_whole g.D.Disk old new c.args.lane act answer (other act Wants is (λ e. cc)) alone applies.cause;
       from_state = short_answers g.D.Disk old new c.args.lane answer act is;
       by_remote = unread act Wants is refl;
+      notes = no_notes g.D.Disk old.parts new.parts c.args.lane (ended_by answer.reply) act (other act Wants is (λ e. cc)) (unwriting act Wants is (λ e. cc));
       opened = no_open new c.args.lane act answer (other act Wants is (λ e. cc));
       short = λ _. ap (λ x. x.kind) (c.short.ensures.entered).entry;
     }
@@ -204,6 +214,7 @@ returns-in-Ends g c =
       damaged = λ alone. tells_whole g.D.Disk old new c.args.lane act answer (other act Ends is (λ e. cc)) alone applies.cause;
       from_state = end_answers g.D.Disk old new c.args.lane answer act is;
       by_remote = unread act Ends is refl;
+      notes = no_notes g.D.Disk old.parts new.parts c.args.lane (ended_by answer.reply) act (other act Ends is (λ e. cc)) (unwriting act Ends is (λ e. cc));
       opened = no_open new c.args.lane act answer (other act Ends is (λ e. cc));
       short = not_short act Ends is (λ e. cc);
     }

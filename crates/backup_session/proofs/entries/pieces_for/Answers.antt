@@ -1,11 +1,11 @@
-use Rattle.std.proofs.Common.{◌≡◌, List, Ok, Err, map, length, sym, ap, subst, ◌∙◌}
+use Rattle.std.proofs.Common.{◌≡◌, List, Ok, Err, length, sym, ap, subst, ◌∙◌}
 use Rattle.std.specs.Prelude.{Result, MatchResult}
 use Rattle.std.specs.FinMap.{entries}
 use Rattle.store_stops.specs.Outcomes.{IfAnswered}
+use Rattle.store_types.specs.declared.piece.Piece.{Piece}
 use Rattle.store_types.specs.declared.refusal.Refusal.{Refusal}
 use Rattle.store_stops.proofs.OutcomeLemmas.{refused}
 use Rattle.store_model.specs.Archives.{want_entries}
-use Rattle.dynamic_index.specs.Writing.{Known, known_of}
 use Rattle.backup_session.specs.Answers.{TellsPieces}
 use Rattle.backup_session.specs.Indexes.{layout_view}
 use Rattle.backup_session.specs.Steps.{pieces_for as pieces_of}
@@ -24,10 +24,10 @@ returns-clause-exact c =
     let passed : want_entries c.len.result (length c.args.entries.now) ≡ Ok tt = sym c.want_entries.ensures.value ∙ c.in_ok-want_entries.was in
     let told = for_passed (entries c.args.pool.now) c.args.index.now c.args.entries.now tt (layout_view c.layout.result) c.end.result
     (ap (λ n. want_entries n (length c.args.entries.now)) (sym c.len.ensures) ∙ passed) c.layout.ensures c.end.ensures.value in
-    subst (λ (r : Result (List Known) Refusal). IfAnswered c.pieces_named.result (λ t. MatchResult t (λ pieces. r ≡ Ok (map known_of pieces.items)) (λ refusal. r ≡ Err refusal))) told c.pieces_named.ensures.exact
+    subst (λ (r : Result (List Piece) Refusal). IfAnswered c.pieces_named.result (λ t. MatchResult t (λ pieces. r ≡ Ok pieces.items) (λ refusal. r ≡ Err refusal))) told c.pieces_named.ensures.exact
 
 pub returns-clause-fits : goal.returns-clause-fits
 returns-clause-fits c =
     let passed : want_entries c.len.result (length c.args.entries.now) ≡ Ok tt = sym c.want_entries.ensures.value ∙ c.in_ok-want_entries.was in
-    fits_told (λ pieces. map known_of pieces.items) (entries c.args.pool.now) c.args.index.now c.args.entries.now (layout_view c.layout.result) c.end.result c.requires
+    fits_told (λ pieces. pieces.items) (entries c.args.pool.now) c.args.index.now c.args.entries.now (layout_view c.layout.result) c.end.result c.requires
     (entries_room _ _ tt (ap (λ n. want_entries n (length c.args.entries.now)) (sym c.len.ensures) ∙ passed)) c.layout.ensures c.end.ensures.value c.pieces_named.result c.pieces_named.ensures.exact

@@ -21,9 +21,8 @@ loop-alloc-preserved g c =
 
 pub returns-in-Some-clause-reads : goal.returns-in-Some-clause-reads
 returns-in-Some-clause-reads g c =
-    let is : c.settle_next.result ≡ Ok (Some c.in-Some.digests) = search rules in
     search_found_reads g.D.Disk c.args.parts.now c.loop-alloc.parts c.settle_next.new.parts c.args.collector.now c.loop-alloc.collector c.settle_next.new.collector c.loop-alloc.invariant c.settle_next.result
-    c.settle_next.ensures.reads c.settle_next.ensures.kept c.settle_next.ensures.next c.in-Some.digests is
+    c.settle_next.ensures.reads c.settle_next.ensures.kept c.settle_next.ensures.next _
 
 pub returns-in-Some-clause-kept : goal.returns-in-Some-clause-kept
 returns-in-Some-clause-kept g c =

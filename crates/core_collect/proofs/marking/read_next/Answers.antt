@@ -1,32 +1,52 @@
-use Rattle.std.proofs.Common.{◌∙◌, ◌%◌, refl, arith}
+use Rattle.std.proofs.Common.{◌∙◌, ◌%◌, Ok, Err, refl, subst, arith}
 use Rattle.core_collect.specs.declared.marking.Batch.{Batch}
+use Rattle.core_collect.specs.Entries.{IsHad, TakesNext}
 use Rattle.core_collect.proofs.Counted.{next_many, same_many}
-use Rattle.core_collect.proofs.Reading.{next_kept, next_stands, unread_named, unread_reads, unread_stands}
+use Rattle.core_collect.proofs.Reading.{next_kept, next_stands, unread_stands}
 use Rattle.core_collect.proofs.marking.read_next.Goals as goal
 
-pub returns-in-Ok-clause-exact : goal.returns-in-Ok-clause-exact
-returns-in-Ok-clause-exact g c = λ honest.
+-- ---- its digests are not had
+
+pub returns-in_err-page-clause-exact : goal.returns-in_err-page-clause-exact
+returns-in_err-page-clause-exact g c = λ honest.
     let old : Batch = record { skip = c.args.first % 1024; digests = c.new.result } in
-    next_stands ((g.D.Disk).content c.args.disk.now) c.args.path.now c.args.pages.now c.args.first old c.read_pages.new.batch (omega arith) refl c.new.ensures.items (c.in-Ok.ensures.exact honest)
+    let m = (g.D.Disk).content c.args.disk.now in
+    let path = c.args.path.now in
+    let p = c.args.pages.now in
+    let unread = c.in_err-page.field-0.0 in
+    let new = c.read_pages.new.batch in
+    unread_stands m path p c.args.first old new unread _ c.from_residual.ensures.1 c.in_err-page.ensures.named
+    (subst (λ o. TakesNext m path p.kept o c.args.first old new (Err unread)) c.take-at_hand.ensures.value (c.in_err-page.ensures.exact honest))
 
-pub returns-in-Ok-clause-kept : goal.returns-in-Ok-clause-kept
-returns-in-Ok-clause-kept g c =
+-- ---- they are
+
+pub returns-clause-exact : goal.returns-clause-exact
+returns-clause-exact g c = λ honest.
     let old : Batch = record { skip = c.args.first % 1024; digests = c.new.result } in
-    next_kept c.args.pages.now c.args.first old c.read_pages.new.batch (omega arith) refl c.new.ensures.items c.in-Ok.ensures.kept
+    let m = (g.D.Disk).content c.args.disk.now in
+    let path = c.args.path.now in
+    let p = c.args.pages.now in
+    let page = c.in_ok-page.page in
+    let new = c.read_pages.new.batch in
+    next_stands m path p c.args.first old new (omega arith) refl c.new.ensures.items page
+    (subst (λ o. TakesNext m path p.kept o c.args.first old new (Ok page)) c.take-at_hand.ensures.value (c.in_ok-page.ensures.exact honest))
 
-pub returns-in-Ok-clause-many : goal.returns-in-Ok-clause-many
-returns-in-Ok-clause-many g c =
+pub returns-clause-pages : goal.returns-clause-pages
+returns-clause-pages g c = record {
+  kept = refl;
+  last = (c.in_ok-page.ensures.kept).last;
+  had = λ honest.
+      subst (λ o. IsHad ((g.D.Disk).content c.args.disk.now) c.args.pages.now.kept o c.in_ok-page.page) c.take-at_hand.ensures.value (c.in_ok-page.ensures.exact honest).1;
+}
+
+pub returns-clause-kept : goal.returns-clause-kept
+returns-clause-kept g c =
     let old : Batch = record { skip = c.args.first % 1024; digests = c.new.result } in
-    let next = next_kept c.args.pages.now c.args.first old c.read_pages.new.batch (omega arith) refl c.new.ensures.items c.in-Ok.ensures.kept in
-    same_many c.read_pages.new.batch.digests.items _ next.2 ∙ next_many c.args.pages.now c.args.first next.0 c.read_pages.ensures.width c.requires next.1
+    next_kept c.args.pages.now.kept c.args.first old c.read_pages.new.batch c.in_ok-page.page (omega arith) refl c.new.ensures.items c.in_ok-page.ensures.kept
 
-pub returns-in-Err-clause-reads : goal.returns-in-Err-clause-reads
-returns-in-Err-clause-reads g c = unread_reads g.D.Disk c.args.disk.now c.read_pages.new.disk c.args.path.now c.in-Err.stop c.why_unread.result c.why_unread.ensures c.in-Err.ensures.reads
-
-pub returns-in-Err-clause-exact : goal.returns-in-Err-clause-exact
-returns-in-Err-clause-exact g c = λ honest.
+pub returns-clause-many : goal.returns-clause-many
+returns-clause-many g c =
+    let p = c.args.pages.now.kept in
     let old : Batch = record { skip = c.args.first % 1024; digests = c.new.result } in
-    unread_stands ((g.D.Disk).content c.args.disk.now) c.args.path.now c.args.pages.now c.args.first old c.read_pages.new.batch c.in-Err.stop c.why_unread.result c.why_unread.ensures (c.in-Err.ensures.exact honest)
-
-pub returns-in-Err-clause-named : goal.returns-in-Err-clause-named
-returns-in-Err-clause-named g c = unread_named c.args.path.now c.in-Err.stop c.why_unread.result c.why_unread.ensures
+    let next = next_kept p c.args.first old c.read_pages.new.batch c.in_ok-page.page (omega arith) refl c.new.ensures.items c.in_ok-page.ensures.kept in
+    same_many c.read_pages.new.batch.digests.items _ next.2 ∙ next_many p c.args.first next.0 c.read_pages.ensures.width c.requires next.1

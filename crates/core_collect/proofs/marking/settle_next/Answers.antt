@@ -1,12 +1,12 @@
-use Rattle.std.proofs.Common.{◌≡◌, ◌<◌, ◌-◌, ◌∙◌, min, is_some, Some, None, Err, Vec, Global, refl, sym, ap, subst, rules}
+use Rattle.std.proofs.Common.{◌≡◌, ◌<◌, ◌-◌, ◌∙◌, min, is_some, Some, None, Ok, Err, Vec, Global, refl, sym, ap, subst, rules, arith}
 use Rattle.store_types.specs.declared.names.Digest32.{Digest32}
 use Rattle.gc_plan.specs.Plan.{mark_limit, next_index, next_mark}
 use Rattle.paged_indexes.specs.Index.{pages_by}
 use Rattle.snapshot_files.specs.Indexes.{index_opened, kind_of_index}
 use Rattle.core_state.specs.Entries.{count_at_hand, marked_in}
 use Rattle.core_collect.specs.Entries.{AreNext, bytes_of, next_read}
-use Rattle.core_collect.specs.Marking.{SettlesNext, TellsStanding, first_standing, marked_next, path_at, standing_as, standing_by}
-use Rattle.core_collect.proofs.MarkLemmas.{fits_opened, mark_is, mark_there}
+use Rattle.core_collect.specs.Marking.{KeepsLast, PassesOver, SettlesNext, TellsStanding, first_standing, marked_next, path_at, standing_as, standing_by}
+use Rattle.core_collect.proofs.MarkLemmas.{fits_kept, fits_opened, mark_is, mark_there, same_fits}
 use Rattle.core_collect.proofs.Settling.{empty_settles, gone_settles, handed_on, handed_reads, kept_settles, none_settles, read_settles, unkept_settles, unmarked_settles, unopened_settles}
 use Rattle.core_collect.proofs.marking.settle_next.Goals as goal
 
@@ -39,13 +39,19 @@ returns-in_default-path_of-clause-next g c =
 
 -- ---- its pages are at hand
 
+pub invariant_of-collector : goal.invariant_of-collector
+invariant_of-collector g c =
+    let old = c.args.collector.now in
+    let had : old.pages ≡ Some c.in-Some-pages.pages = search rules in
+    record { fits = fits_kept old.plan old.pages c.in-Some-pages.pages c.read_next.new.pages old.fits had c.read_next.ensures.pages.kept }
+
 pub read_next-requires : goal.read_next-requires
 read_next-requires g c =
     let old = c.args.collector.now in
     let p = c.in-Some-pages.pages in
     let at : next_mark old.plan ≡ Some (c.in-Some.field-0-0, c.in-Some.first) = search rules in
     let had : old.pages ≡ Some p = search rules in
-    subst (λ n. n < (pages_by p).count) (sym (mark_is old.plan.indexes old.plan.stage (c.in-Some.field-0-0, c.in-Some.first) at))
+    subst (λ n. n < (pages_by p.kept).count) (sym (mark_is old.plan.indexes old.plan.stage (c.in-Some.field-0-0, c.in-Some.first) at))
     (subst (λ o. marked_in old.plan.stage < count_at_hand o) had (old.fits.within (ap is_some had)))
 
 pub returns-in_err-digests-clause-reads : goal.returns-in_err-digests-clause-reads
@@ -65,10 +71,12 @@ returns-in_err-digests-clause-next g c =
     let at : next_index old.plan ≡ Some i = search rules in
     let found : path_at i parts.catalogue.listed ≡ Some path = search rules in
     let had : old.pages ≡ Some p = search rules in
-    handed_on (SettlesNext g.D.Disk parts old old) _ unread c.from_residual.ensures.1
-    (unkept_settles g.D.Disk parts old i path p unread at found had c.in_err-digests.ensures.named
+    let r = c.read_next.new.pages in
+    handed_on (SettlesNext g.D.Disk parts old _) _ unread c.from_residual.ensures.1
+    (unkept_settles g.D.Disk parts old _ i path p r unread at found refl refl refl had refl
+    (subst (λ n. KeepsLast g.D.Disk parts.disk p r n (Err unread)) begins c.in_err-digests.ensures.pages)
     (λ honest.
-    subst (λ n. TellsStanding {A = Vec Digest32 Global} (λ digests. marked_next p (bytes_of digests.items)) (standing_by path p (next_read ((g.D.Disk).content parts.disk) path p n)) (Err unread)) begins
+    subst (λ n. TellsStanding {A = Vec Digest32 Global} (λ digests. marked_next p.kept (bytes_of digests.items)) (standing_by path p.kept (next_read ((g.D.Disk).content parts.disk) path p.kept p.last n)) (Err unread)) begins
     (c.in_err-digests.ensures.exact honest)))
 
 pub returns-in-Some-pages-clause-next : goal.returns-in-Some-pages-clause-next
@@ -84,12 +92,14 @@ returns-in-Some-pages-clause-next g c =
     let at : next_index old.plan ≡ Some i = search rules in
     let found : path_at i parts.catalogue.listed ≡ Some path = search rules in
     let had : old.pages ≡ Some p = search rules in
-    kept_settles g.D.Disk parts old i path p digests at found had
+    let r = c.read_next.new.pages in
+    kept_settles g.D.Disk parts old _ i path p r digests at found refl refl refl had refl
+    (subst (λ n. KeepsLast g.D.Disk parts.disk p r n (Ok digests)) begins c.in_ok-digests.ensures.pages)
     (λ honest.
-    subst (λ n. standing_by path p (next_read ((g.D.Disk).content parts.disk) path p n) ≡ marked_next p (bytes_of digests.items)) begins
+    subst (λ n. standing_by path p.kept (next_read ((g.D.Disk).content parts.disk) path p.kept p.last n) ≡ marked_next p.kept (bytes_of digests.items)) begins
     (c.in_ok-digests.ensures.exact honest))
-    (c.in_ok-digests.ensures.many ∙ ap (λ n. min mark_limit ((pages_by p).count - n)) begins)
-    (subst (λ n. AreNext p n digests.items) begins c.in_ok-digests.ensures.kept)
+    (c.in_ok-digests.ensures.many ∙ ap (λ n. min mark_limit ((pages_by p.kept).count - n)) begins)
+    (subst (λ n. AreNext p.kept n digests.items) begins c.in_ok-digests.ensures.kept)
 
 -- ---- it is not opened
 
@@ -109,17 +119,18 @@ returns-in_err-opened-clause-next g c =
     let none : old.pages ≡ None = search rules in
     let kind : c.index_kind-kind.result ≡ kind_of_index i.name = search rules in
     let m = (g.D.Disk).content parts.disk in
-    handed_on (SettlesNext g.D.Disk parts old old) _ unread c.from_residual-in_err-opened.ensures.1
-    (unopened_settles g.D.Disk parts old i path unread at found none c.in_err-opened.ensures.named
-    (λ honest. subst (λ b. TellsStanding first_standing (standing_as m path (index_opened m path b)) (Err unread)) kind (c.in_err-opened.ensures.exact honest)))
+    subst (λ x. SettlesNext g.D.Disk parts old x c.from_residual-in_err-opened.result) (sym (same_fits old _))
+    (handed_on (SettlesNext g.D.Disk parts old old) _ unread c.from_residual-in_err-opened.ensures.1
+    (unopened_settles g.D.Disk parts old i path unread at found none
+    (λ honest. subst (λ b. TellsStanding first_standing (standing_as m path (index_opened m path b)) (Err unread)) kind (c.in_err-opened.ensures.exact honest))))
 
 -- ---- it is opened
 
-pub invariant_of-collector : goal.invariant_of-collector
-invariant_of-collector g c =
+pub invariant_of-collector-2 : goal.invariant_of-collector-2
+invariant_of-collector-2 g c =
     let old = c.args.collector.now in
     let none : old.pages ≡ None = search rules in
-    record { fits = fits_opened old.plan old.pages c.in_ok-opened.opened.pages old.fits none (λ empty. absurd (c.if-len-eq0.false (c.len.ensures.value ∙ empty))) }
+    record { fits = fits_opened old.plan old.pages _ old.fits none (λ empty. absurd (c.if-len-eq0.false (c.len.ensures.value ∙ empty))) }
 
 pub returns-then-len-eq0-clause-next : goal.returns-then-len-eq0-clause-next
 returns-then-len-eq0-clause-next g c =
@@ -134,7 +145,8 @@ returns-then-len-eq0-clause-next g c =
     let kind : c.index_kind-kind.result ≡ kind_of_index i.name = search rules in
     let m = (g.D.Disk).content parts.disk in
     empty_settles g.D.Disk parts old i path at found none c.pass_over-then-len-eq0.new.collector x (sym c.len.ensures.value ∙ c.if-len-eq0.true)
-    (λ honest. subst (λ b. standing_as m path (index_opened m path b) ≡ first_standing x) kind (c.in_ok-opened.ensures.exact honest)) c.pass_over-then-len-eq0.ensures
+    (λ honest. subst (λ b. standing_as m path (index_opened m path b) ≡ first_standing x) kind (c.in_ok-opened.ensures.exact honest))
+    (subst (λ y. PassesOver y c.pass_over-then-len-eq0.new.collector) (same_fits old _) c.pass_over-then-len-eq0.ensures)
 
 pub returns-clause-next : goal.returns-clause-next
 returns-clause-next g c =
@@ -148,5 +160,6 @@ returns-clause-next g c =
     let none : old.pages ≡ None = search rules in
     let kind : c.index_kind-kind.result ≡ kind_of_index i.name = search rules in
     let m = (g.D.Disk).content parts.disk in
-    read_settles g.D.Disk parts old _ i path x at found refl refl refl none refl (λ empty. absurd (c.if-len-eq0.false (c.len.ensures.value ∙ empty)))
+    read_settles g.D.Disk parts old _ i path x _ at found refl refl refl none refl (λ empty. absurd (c.if-len-eq0.false (c.len.ensures.value ∙ empty)))
     (λ honest. subst (λ b. standing_as m path (index_opened m path b) ≡ first_standing x) kind (c.in_ok-opened.ensures.exact honest)) c.in_ok-opened.ensures.many
+    (c.in_ok-opened.ensures.kept (omega (arith, c.if-len-eq0.false, c.len.ensures.value)))

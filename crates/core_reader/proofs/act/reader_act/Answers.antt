@@ -14,6 +14,7 @@ use Rattle.core_reader.specs.Asked.{asked_file}
 use Rattle.core_reader.specs.Damages.{MayName, TellsDamaged, damage_by}
 use Rattle.core_reader.proofs.Damaging.{damages_refused, damages_done}
 use Rattle.core_reader.proofs.ActLemmas.{readers_done, readers_refused}
+use Rattle.core_reader.proofs.ActNotes.{readers_note, readers_note_none}
 use Rattle.core_reader.proofs.act.reader_act.Goals as goal
 
 pub returns-in-Answered-clause-applies : goal.returns-in-Answered-clause-applies
@@ -85,7 +86,15 @@ returns-in-At-clause-damaged g c =
     let at = c.in-At.at in
     let begun = c.in-At.ensures.begun in
     let ready = subst (λ l. IsReady g.C.Clock.readings c.args.core.now c.begin.new.core l at.moment) (sym begun.lane_is) begun.ready in
-    subst (λ l. TellsDamaged d old.disk (MayName c.args.act (session_at old l) old.catalogue.listed) (damage_by (row_at old l) c.args.act (session_at old l) old.catalogue.listed) c.settle.result.entry.kind c.settle.result.reply) begun.lane_is
-    (damages_done d g.C.Clock.readings c.args.core.now c.begin.new.core _ _ at.lane at.moment (λ p. MayName c.args.act (session_at p at.lane) p.catalogue.listed)
+    subst (λ l. TellsDamaged d old.disk (MayName (row_at old l) c.args.act (session_at old l) old.catalogue.listed) (damage_by (row_at old l) c.args.act (session_at old l) old.catalogue.listed) c.settle.result.entry.kind c.settle.result.reply) begun.lane_is
+    (damages_done d g.C.Clock.readings c.args.core.now c.begin.new.core _ _ at.lane at.moment (λ p. MayName (row_at p at.lane) c.args.act (session_at p at.lane) p.catalogue.listed)
     (λ p. damage_by (row_at p at.lane) c.args.act (session_at p at.lane) p.catalogue.listed) _ _ ready
     c.perform-ended.ensures.damaged c.settle.ensures)
+
+pub returns-in-Answered-clause-notes : goal.returns-in-Answered-clause-notes
+returns-in-Answered-clause-notes g c = readers_note_none g.D.Disk g.C.Clock.readings _ _ c.args.lane c.args.act _ c.in-Answered.ensures.begun
+
+pub returns-in-At-clause-notes : goal.returns-in-At-clause-notes
+returns-in-At-clause-notes g c =
+    readers_note g.D.Disk g.C.Clock.readings c.args.core.now c.begin.new.core _ _ c.args.lane c.in-At.at c.args.act c.perform-ended.result c.settle.result
+    c.in-At.ensures.begun c.perform-ended.ensures.does.plain c.perform-ended.ensures.notes c.settle.ensures

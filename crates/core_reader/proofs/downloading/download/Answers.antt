@@ -1,4 +1,4 @@
-use Rattle.std.proofs.Common.{◌≡◌, ap, refl, subst, Some, None, List, Result, string_bytes, length, arith, ◌<◌, rules}
+use Rattle.std.proofs.Common.{◌≡◌, ◌∙◌, ap, ap₂, get_or-set_same, refl, subst, Some, None, Ok, List, Result, string_bytes, length, arith, ◌<◌, rules}
 use Rattle.std.specs.Result.{result_ok}
 use Rattle.store_types.specs.declared.refusal.Refusal.{Refusal}
 use Rattle.wire_commands.specs.declared.command.Command.TheVariants.{Download}
@@ -9,13 +9,18 @@ use Rattle.restore_reader.specs.Kept.{IsTable}
 use Rattle.snapshot_files.specs.Indexes.{Indexed}
 use Rattle.snapshot_files.specs.Parts.{part_reply}
 use Rattle.core_reader.specs.declared.downloading.Given.{Given}
+use Rattle.core_reader.specs.Asked.{IsGiven, noting}
+use Rattle.core_reader.specs.NotesIndex.{part_of}
 use Rattle.core_state.specs.Named.{is_named}
+use Rattle.core_state.specs.declared.kept.Session.TheVariants.{Idle}
+use Rattle.std.proofs.lemmas.List.{get_or_default}
 use Rattle.core_state.specs.Unreadables.{Asked, from_offset}
 use Rattle.core_state.specs.Wanted.{session_at}
 use Rattle.core_state.proofs.Commanding.{read_does, read_leaves, reads_none, same_kept, stopped_does, writes_does}
 use Rattle.core_state.proofs.NamedLemmas.{list_all-set, list_all-at}
 use Rattle.core_reader.proofs.Downloads.{asked_index_given, asked_index_refused, asked_part_given, asked_part_refused, file_answers, file_is, file_refuses, file_stops, file_text_of, file_untold, sessions_stay}
 use Rattle.core_reader.proofs.Noted.{named_after}
+use Rattle.core_reader.proofs.NotedIndex.{notes_none, notes_part, notes_whole}
 use Rattle.core_reader.proofs.Telling.{index_got, index_stop, noted_leaves, part_answers, part_got, part_plain, part_stop, read_answers, read_at, read_stops, short_does, short_leaves, stops_does, stops_leaves, table_stops, tells_given, tells_stopped, tells_unread}
 use Rattle.core_reader.proofs.downloading.download.Goals as goal
 
@@ -188,6 +193,48 @@ returns-clause-unreadable g c =
     (λ h.
     let x = c.in_ok-index.ensures.exact h in
     index_got (g.D.Disk.content old.disk) (string_bytes a.path) c.as_str-2.result.now c.args.offset c.in-Some.kind a.whole (given_as index x.entries) path some x.read)
+
+-- ---- what is noted of the index
+
+pub returns-in_err-asked-clause-notes : goal.returns-in_err-asked-clause-notes
+returns-in_err-asked-clause-notes g c = notes_none g.D.Disk c.args.parts.now _ c.args.at c.args.file.now c.args.offset _ _ c.from_residual.ensures.1
+
+pub returns-in_err-part-clause-notes : goal.returns-in_err-part-clause-notes
+returns-in_err-part-clause-notes g c = notes_none g.D.Disk c.args.parts.now _ c.args.at c.args.file.now c.args.offset _ _ c.from_residual-in_err-part.ensures.1
+
+pub returns-in_err-index-clause-notes : goal.returns-in_err-index-clause-notes
+returns-in_err-index-clause-notes g c = notes_none g.D.Disk c.args.parts.now _ c.args.at c.args.file.now c.args.offset _ _ c.from_residual-in_err-index.ensures.1
+
+pub returns-in_err-note-clause-notes : goal.returns-in_err-note-clause-notes
+returns-in_err-note-clause-notes g c = notes_none g.D.Disk c.args.parts.now _ c.args.at c.args.file.now c.args.offset _ _ c.from_residual-in_err-note.ensures.1
+
+pub returns-in_default-clause-notes : goal.returns-in_default-clause-notes
+returns-in_default-clause-notes g c =
+    let old = c.args.parts.now in
+    let a = c.in_ok-asked.asked in
+    let none : a.whole ≡ None = search rules in
+    notes_part g.D.Disk old _ c.args.at c.args.file.now c.args.offset (string_bytes a.path) (part_reply c.in_ok-part.part)
+    (c.in_ok-asked.ensures.value c.args.offset ∙ ap (λ w. Ok (part_of (string_bytes a.path) w c.args.offset)) none) refl
+
+pub returns-clause-notes : goal.returns-clause-notes
+returns-clause-notes g c =
+    let old = c.args.parts.now in
+    let lane = c.args.at.lane in
+    let a = c.in_ok-asked.asked in
+    let index = c.in_ok-index.index in
+    let content = g.D.Disk.content old.disk in
+    let some : a.whole ≡ Some c.in-Some.kind = search rules in
+    let within : lane < length old.sessions.items = omega (arith, old.lanes, old.sessions.ok.0, c.requires) in
+    let here = c.index_mut.ensures.value ∙ get_or_default old.sessions.items lane c.index_mut.result.now Idle within in
+    let noted = get_or-set_same old.sessions.items lane c.note.new.session Idle within ∙ c.in_ok-note.ensures.ok ∙ ap₂ (λ n s. noting n index.table index.pages s) c.in_ok-asked.ensures.name here in
+    notes_whole g.D.Disk old _ c.args.at c.args.file.now c.args.offset (string_bytes a.path) c.in-Some.kind (part_reply index.part)
+    (c.in_ok-asked.ensures.value c.args.offset ∙ ap (λ w. Ok (part_of (string_bytes a.path) w c.args.offset)) some)
+    (λ h. (
+      index,
+      subst (λ p. IsGiven content p c.in-Some.kind c.args.offset index) c.as_str-2.ensures.value (c.in_ok-index.ensures.exact h),
+      noted,
+    ))
+    (index.table, index.pages, noted)
 
 -- ---- the session
 

@@ -1,4 +1,4 @@
-use Rattle.std.proofs.Common.{◌≡◌, ◌<◌, ◌≤◌, ◌%◌, ◌∙◌, length, get_or, Some, None, Err, slice_get, ap, sym, rules, arith}
+use Rattle.std.proofs.Common.{◌≡◌, ◌<◌, ◌≤◌, ◌%◌, ◌∙◌, length, get_or, Some, Err, ap, sym, rules, arith}
 use Rattle.std.proofs.lemmas.Option.{slice_get-get_or, slice_get_past}
 use Rattle.core_reader.proofs.EntryFound.{digest_none, digest_there}
 use Rattle.core_reader.proofs.entries.digest_on.Goals as goal

@@ -1,122 +1,114 @@
-use Rattle.std.proofs.Common.{◌≡◌, ◌∙◌, ◌+◌, ◌-◌, ◌<◌, ◌≤◌, [], ℕ, Ok, Err, Some, None, Vec, true, false, nat_le, cond, length, sym, ap, subst, inl, inr, rules, arith}
-use Rattle.std.specs.declared.alloc.Global.{Global}
-use Rattle.std.proofs.lemmas.Bool.{le-leb, lt-leb}
-use Rattle.disk_trait.proofs.OnlyReading.{reads_none, reads_then}
-use Rattle.paged_indexes.specs.Index.{page_behind, start_by}
+use Rattle.std.proofs.Common.{◌≡◌, ◌+◌, ◌∙◌, Err, Option, length, sym, ap, subst, rules, arith}
+use Rattle.std.specs.Option.{option_map}
+use Rattle.disk_trait.proofs.OnlyReading.{reads_by}
 use Rattle.store_stops.specs.Stops.{Gives}
+use Rattle.core_state.specs.declared.pages.ReadPage.{ReadPage}
+use Rattle.core_reader.specs.declared.paging.RangeRead.{RangeRead}
 use Rattle.core_reader.specs.Chunks.{behind}
-use Rattle.core_reader.specs.Ranges.{StandsWhole, page_range, range_at, range_by, range_from, ranged}
+use Rattle.core_reader.specs.Ranges.{ReadsLast, RefusesAsked, StandsWhole, asking, front_at, range_at, range_with, ranged}
+use Rattle.core_reader.proofs.FrontRange.{front_holds, front_read, front_refused, front_refuses, front_stops, rest_is, rest_refuses}
 use Rattle.core_reader.proofs.Loads.{handed_unrefused, short_unrefused}
-use Rattle.core_reader.proofs.PageReads.{behind_none, fits_more, page_given, page_stops, range_done, range_more, range_past}
-use Rattle.core_reader.proofs.Pieces.{none_behind}
+use Rattle.core_reader.proofs.PageReads.{refused_on, stops_as}
 use Rattle.core_reader.proofs.paging.read_range.Goals as goal
 
-pub loop-i-init : goal.loop-i-init
-loop-i-init g c =
-    let m = g.D.Disk.content c.args.disk.now in
-    let a = ranged c.args.path.now c.args.pages.now in
-    let found : page_behind c.args.pages.now c.args.from ≡ Some c.in-Some.first = sym c.page_with.ensures ∙ c.in-Some.is in
-    let empty = c.in_ok-bytes.ensures.items in
-    record {
-      reads = reads_none g.D.Disk c.args.disk.now ⊥ (λ n. n);
-      count = c.page_count-count.ensures;
-      value = λ h.
-          ap (λ b. cond b (Ok []) (range_by m a c.args.from c.args.to (page_behind c.args.pages.now c.args.from))) (lt-leb c.args.to c.args.from (omega (arith, c.requires.order)))
-          ∙ ap (range_by m a c.args.from c.args.to) found
-          ∙ ap (λ n. range_from m a c.args.from c.args.to (n - c.in-Some.first) c.in-Some.first) (sym c.page_count-count.ensures)
-          ∙ none_behind _
-          ∙ ap (λ f. behind f (range_from m a c.args.from c.args.to (c.page_count-count.result - c.in-Some.first) c.in-Some.first)) (sym empty);
-      size = omega (arith, ap length empty);
-    }
-
 pub returns-in_err-bytes-clause-whole : goal.returns-in_err-bytes-clause-whole
-returns-in_err-bytes-clause-whole g c = λ h whole. short_unrefused _ c.from_residual.ensures.1
+returns-in_err-bytes-clause-whole g c = λ h stands. short_unrefused _ c.from_residual.ensures.1
 
-pub returns-then-from-to-clause-exact : goal.returns-then-from-to-clause-exact
-returns-then-from-to-clause-exact g c = λ h.
+-- ---- a chunk of the page at hand is not read
+
+pub returns-in_err-read_front-clause-exact : goal.returns-in_err-read_front-clause-exact
+returns-in_err-read_front-clause-exact g c = λ h.
     let m = g.D.Disk.content c.args.disk.now in
-    let a = ranged c.args.path.now c.args.pages.now in
-    ap (λ b. cond b (Ok []) (range_by m a c.args.from c.args.to (page_behind c.args.pages.now c.args.from))) (le-leb c.args.to c.args.from (omega arith))
-    ∙ ap Ok (sym c.in_ok-bytes.ensures.items)
+    let page = option_map (λ p. p.now) c.args.at_hand in
+    let q = asking c.args.path.now c.args.pages.now page in
+    front_stops m q c.args.from c.args.to {A = Unit {0}} {B = RangeRead} (λ _. c.read_front.new.bytes.items) (λ r. r.bytes.items) _ _ c.from_residual-in_err-read_front.ensures.1
+    (front_refused {A = Unit {0}} {B = Unit {0}} (λ _. c.read_front.new.bytes.items) (λ _. c.read_front.new.bytes.items) c.in_ok-bytes.bytes.items (front_at m page c.args.from c.args.to) _ c.in_ok-bytes.ensures.items (c.in_err-read_front.ensures.exact h))
 
-pub returns-in_default-clause-exact : goal.returns-in_default-clause-exact
-returns-in_default-clause-exact g c = λ h.
-    let none : c.page_with.result ≡ None = search rules in
+pub returns-in_err-read_front-clause-whole : goal.returns-in_err-read_front-clause-whole
+returns-in_err-read_front-clause-whole g c = λ h stands.
     let m = g.D.Disk.content c.args.disk.now in
-    let a = ranged c.args.path.now c.args.pages.now in
-    ap (λ b. cond b (Ok []) (range_by m a c.args.from c.args.to (page_behind c.args.pages.now c.args.from))) (lt-leb c.args.to c.args.from (omega (arith, c.requires.order)))
-    ∙ ap (range_by (g.D.Disk.content c.args.disk.now) (ranged c.args.path.now c.args.pages.now) c.args.from c.args.to) (sym c.page_with.ensures ∙ none) ∙ ap Ok (sym c.in_ok-bytes.ensures.items)
+    let q = asking c.args.path.now c.args.pages.now (option_map (λ p. p.now) c.args.at_hand) in
+    handed_unrefused _ _ c.from_residual-in_err-read_front.ensures.1 (c.in_err-read_front.ensures.held h (front_holds m q c.args.from c.args.to stands))
 
-pub returns-in_err-room-clause-whole : goal.returns-in_err-room-clause-whole
-returns-in_err-room-clause-whole g c = λ h whole. short_unrefused _ c.from_residual-in_err-room.ensures.1
+pub returns-in_err-read_front-clause-refusal : goal.returns-in_err-read_front-clause-refusal
+returns-in_err-read_front-clause-refusal g c =
+    let q = asking c.args.path.now c.args.pages.now (option_map (λ p. p.now) c.args.at_hand) in
+    refused_on (RefusesAsked q c.args.from c.args.to) _ _ c.from_residual-in_err-read_front.ensures.1 (front_refuses q c.args.from c.args.to _ c.in_err-read_front.ensures.refusal)
 
-pub returns-in_err-read_page_range-clause-reads : goal.returns-in_err-read_page_range-clause-reads
-returns-in_err-read_page_range-clause-reads g c = reads_then g.D.Disk _ _ _ ⊥ _ _ c.loop-i.invariant.reads c.read_page_range.ensures.reads (λ f. inr (search rules))
+-- ---- what is behind it is not
 
-pub returns-in_err-read_page_range-clause-whole : goal.returns-in_err-read_page_range-clause-whole
-returns-in_err-read_page_range-clause-whole g c = let d = g.D.Disk in λ h whole.
-    let reads = c.loop-i.invariant.reads in
-    handed_unrefused _ _ c.from_residual-in_err-read_page_range.ensures.1
-    (c.in_err-read_page_range.ensures.whole (reads.serves.kept.0 h) (subst (λ m. StandsWhole m c.args.pages.now) (sym (reads.same h)) whole))
+pub read_pages-requires-clause-order : goal.read_pages-requires-clause-order
+read_pages-requires-clause-order g c = omega (arith, c.requires.order, c.in_ok-read_front.ensures.size, ap length c.in_ok-bytes.ensures.items, c.len.ensures, c.read_front.new.bytes.ok.0)
 
-pub returns-in_err-read_page_range-clause-exact : goal.returns-in_err-read_page_range-clause-exact
-returns-in_err-read_page_range-clause-exact g c = let d = g.D.Disk in λ h.
+pub returns-in_err-last-clause-reads : goal.returns-in_err-last-clause-reads
+returns-in_err-last-clause-reads g c = reads_by g.D.Disk c.args.disk.now c.read_front.new.disk c.read_pages.new.disk _ _ _ c.read_front.ensures.reads c.read_pages.ensures.reads (search rules)
+
+pub returns-in_err-last-clause-exact : goal.returns-in_err-last-clause-exact
+returns-in_err-last-clause-exact g c = let d = g.D.Disk in λ h.
     let m = d.content c.args.disk.now in
-    let a = ranged c.args.path.now c.args.pages.now in
-    let i = c.loop-i.i in
-    let count = c.page_count-count.result in
     let from = c.args.from in
     let to = c.args.to in
-    let old = c.loop-i.bytes.items in
-    let reads = c.loop-i.invariant.reads in
-    let below : i < count = omega arith in
-    let early : nat_le to (start_by c.args.pages.now i) ≡ false = lt-leb to (start_by c.args.pages.now i) (omega (arith, c.start.ensures)) in
-    page_stops {A = Vec ℕ Global} (λ bytes. bytes.items) old c.read_page_range.new.bytes.items (range_at m a from to) (range_from m a from to (count - (i + 1)) (i + 1)) (page_range m a i from to)
-    _ _ c.from_residual-in_err-read_page_range.ensures.1
-    (c.loop-i.invariant.value h ∙ ap (behind old) (range_more m a from to count i below early))
-    (subst (λ f. Gives {A = Unit {0}} (λ _. c.read_page_range.new.bytes.items) (Err c.in_err-read_page_range.field-0.0) (behind old (page_range f a i from to))) (reads.same h)
-    (c.in_err-read_page_range.ensures.exact (reads.serves.kept.0 h)))
+    let page = option_map (λ p. p.now) c.args.at_hand in
+    let q = asking c.args.path.now c.args.pages.now page in
+    let reads = c.read_front.ensures.reads in
+    let front = c.read_front.new.bytes.items in
+    let given = front_read c.in_ok-bytes.bytes.items front (front_at m page from to) c.in_ok-bytes.ensures.items (c.in_ok-read_front.ensures.exact h) in
+    let at : (c.args.from + c.len.result) ≡ from + length front = omega (arith, c.len.ensures, c.read_front.new.bytes.ok.0) in
+    let stop = c.in_err-last.field-0.0 in
+    stops_as {A = Option ReadPage} {B = RangeRead} (λ _. c.read_pages.new.bytes.items) (λ r. r.bytes.items) (range_with m q from to) stop _ c.from_residual-in_err-last.ensures.1
+    (subst (λ r. Gives {A = Option ReadPage} (λ _. c.read_pages.new.bytes.items) (Err stop) r)
+    (ap (λ f. behind front (range_at f q.index (c.args.from + c.len.result) to)) (reads.same h) ∙ ap (λ n. behind front (range_at m q.index n to)) at ∙ sym (rest_is m q from to front given))
+    (c.in_err-last.ensures.exact (reads.serves.kept.0 h)))
 
-pub loop-i-preserved : goal.loop-i-preserved
-loop-i-preserved g c = let d = g.D.Disk in
-    let m = d.content c.args.disk.now in
-    let a = ranged c.args.path.now c.args.pages.now in
-    let i = c.loop-i.i in
-    let count = c.page_count-count.result in
-    let from = c.args.from in
-    let to = c.args.to in
-    let old = c.loop-i.bytes.items in
-    let reads = c.loop-i.invariant.reads in
-    let below : i < count = omega arith in
-    let low : start_by c.args.pages.now i < to = omega (arith, c.start.ensures) in
-    let early : nat_le to (start_by c.args.pages.now i) ≡ false = lt-leb to (start_by c.args.pages.now i) low in
-    record {
-      reads = reads_then d _ _ _ ⊥ _ ⊥ reads c.read_page_range.ensures.reads inl;
-      count = c.loop-i.invariant.count;
-      value = λ h.
-          page_given old c.read_page_range.new.bytes.items (range_at m a from to) (range_from m a from to (count - (i + 1)) (i + 1)) (page_range m a i from to)
-          (c.loop-i.invariant.value h ∙ ap (behind old) (range_more m a from to count i below early))
-          (ap (λ f. behind old (page_range f a i from to)) (sym (reads.same h)) ∙ c.in_ok-read_page_range.ensures.exact (reads.serves.kept.0 h));
-      size = fits_more c.args.pages.now i from to old c.read_page_range.new.bytes.items c.requires.order low c.in_ok-read_page_range.ensures.size c.loop-i.invariant.size;
-    }
+pub returns-in_err-last-clause-whole : goal.returns-in_err-last-clause-whole
+returns-in_err-last-clause-whole g c = let d = g.D.Disk in λ h stands.
+    let reads = c.read_front.ensures.reads in
+    handed_unrefused _ _ c.from_residual-in_err-last.ensures.1
+    (c.in_err-last.ensures.whole (reads.serves.kept.0 h) (subst (λ m. StandsWhole m c.args.pages.now) (sym (reads.same h)) stands.whole))
 
-pub returns-then-start-to-clause-exact : goal.returns-then-start-to-clause-exact
-returns-then-start-to-clause-exact g c = λ h.
-    let i = c.loop-i.i in
-    let below : i < c.page_count-count.result = omega arith in
-    let past : nat_le c.args.to (start_by c.args.pages.now i) ≡ true = le-leb c.args.to (start_by c.args.pages.now i) (omega (arith, c.start.ensures)) in
-    c.loop-i.invariant.value h
-    ∙ behind_none c.loop-i.bytes.items _ (range_past (g.D.Disk.content c.args.disk.now) (ranged c.args.path.now c.args.pages.now) c.args.from c.args.to c.page_count-count.result i below past)
+pub returns-in_err-last-clause-refusal : goal.returns-in_err-last-clause-refusal
+returns-in_err-last-clause-refusal g c =
+    let q = asking c.args.path.now c.args.pages.now (option_map (λ p. p.now) c.args.at_hand) in
+    refused_on (RefusesAsked q c.args.from c.args.to) _ _ c.from_residual-in_err-last.ensures.1 (rest_refuses q c.args.from (c.args.from + c.len.result) c.args.to _ (omega arith) c.in_err-last.ensures.refusal)
 
-pub returns-then-start-to-clause-size : goal.returns-then-start-to-clause-size
-returns-then-start-to-clause-size g c = omega (arith, c.loop-i.invariant.size)
+-- ---- both are
+
+pub returns-clause-reads : goal.returns-clause-reads
+returns-clause-reads g c = reads_by g.D.Disk c.args.disk.now c.read_front.new.disk c.read_pages.new.disk _ _ _ c.read_front.ensures.reads c.read_pages.ensures.reads (search rules)
 
 pub returns-clause-exact : goal.returns-clause-exact
-returns-clause-exact g c = λ h.
-    let i = c.loop-i.i in
-    let past : c.page_count-count.result ≤ i = omega arith in
-    c.loop-i.invariant.value h
-    ∙ behind_none c.loop-i.bytes.items _ (range_done (g.D.Disk.content c.args.disk.now) (ranged c.args.path.now c.args.pages.now) c.args.from c.args.to c.page_count-count.result i past)
+returns-clause-exact g c = let d = g.D.Disk in λ h.
+    let m = d.content c.args.disk.now in
+    let from = c.args.from in
+    let to = c.args.to in
+    let page = option_map (λ p. p.now) c.args.at_hand in
+    let q = asking c.args.path.now c.args.pages.now page in
+    let reads = c.read_front.ensures.reads in
+    let front = c.read_front.new.bytes.items in
+    let given = front_read c.in_ok-bytes.bytes.items front (front_at m page from to) c.in_ok-bytes.ensures.items (c.in_ok-read_front.ensures.exact h) in
+    let at : (c.args.from + c.len.result) ≡ from + length front = omega (arith, c.len.ensures, c.read_front.new.bytes.ok.0) in
+    rest_is m q from to front given ∙ ap (λ n. behind front (range_at m q.index n to)) (sym at)
+    ∙ ap (λ f. behind front (range_at f q.index (c.args.from + c.len.result) to)) (sym (reads.same h)) ∙ c.in_ok-last.ensures.exact (reads.serves.kept.0 h)
+
+pub returns-clause-last : goal.returns-clause-last
+returns-clause-last g c = let d = g.D.Disk in
+    let m = d.content c.args.disk.now in
+    let from = c.args.from in
+    let to = c.args.to in
+    let page = option_map (λ p. p.now) c.args.at_hand in
+    let a = ranged c.args.path.now c.args.pages.now in
+    let reads = c.read_front.ensures.reads in
+    let front = c.read_front.new.bytes.items in
+    let at : (c.args.from + c.len.result) ≡ from + length front = omega (arith, c.len.ensures, c.read_front.new.bytes.ok.0) in
+    record {
+      reached = (c.args.from + c.len.result);
+      low = omega (arith, at);
+      high = omega (arith, at, c.requires.order, c.in_ok-read_front.ensures.size, ap length c.in_ok-bytes.ensures.items);
+      front = λ h. (front, front_read c.in_ok-bytes.bytes.items front (front_at m page from to) c.in_ok-bytes.ensures.items (c.in_ok-read_front.ensures.exact h), at);
+      only = c.in_ok-last.ensures.last;
+      reads = λ h. subst (λ f. ReadsLast f a c.in_ok-last.last) (reads.same h) (c.in_ok-last.ensures.given (reads.serves.kept.0 h));
+    }
 
 pub returns-clause-size : goal.returns-clause-size
-returns-clause-size g c = omega (arith, c.loop-i.invariant.size)
+returns-clause-size g c =
+    omega (arith, c.requires.order, c.in_ok-last.ensures.size, c.in_ok-read_front.ensures.size, ap length c.in_ok-bytes.ensures.items, c.len.ensures, c.read_front.new.bytes.ok.0)

@@ -1,4 +1,4 @@
-use Rattle.std.proofs.Common.{◌≡◌, ◌≤◌, ◌∙◌, ℕ, List, length, Some, None, Ok, refl, sym, ap, subst, inr, true, false, string_bytes, rules}
+use Rattle.std.proofs.Common.{◌≡◌, ◌≤◌, ◌∙◌, ℕ, List, length, Some, None, Err, Ok, refl, sym, ap, subst, inr, true, false, string_bytes, rules}
 use Rattle.store_types.specs.FileNames.{is_index_name}
 use Rattle.store_types.specs.declared.names.Digest32.{Digest32}
 use Rattle.store_types.specs.declared.refusal.Refusal.TheVariants.{NoFile}
@@ -23,7 +23,7 @@ use Rattle.core_reader.proofs.Loads.{at_called, at_text}
 use Rattle.core_reader.proofs.ReadEntry.{bytes_given, bytes_short, chunk_answers, chunk_refuses, chunk_unnamed, damage_none, damage_told, damage_unread, entry_asked, entry_error_answers, entry_given, entry_got, entry_refused, entry_refused_by, entry_stop, entry_undamaged, entry_unnamed, entry_unplaced, gives_so, none_stops, part_no_damage, place_no_damage, tells_readable, tells_unloaded, unread_undamaged}
 use Rattle.core_reader.proofs.ReadPart.{place_is, place_stops, place_text}
 use Rattle.core_reader.proofs.ReadTold.{chunk_given, chunk_missing, chunk_stops, chunk_unindexed, entry_unread}
-use Rattle.core_reader.proofs.Rowed.{err_at, err_rowed, found_by, notes_kept, notes_none, ok_at, ok_rowed, row_fits, row_found, row_leaves, row_put_back}
+use Rattle.core_reader.proofs.Rowed.{err_at, err_rowed, found_by, notes_kept, notes_none, ok_at, ok_rowed, row_fits, row_found, row_leaves, row_put_back, row_stopped}
 use Rattle.core_reader.proofs.Telling.{read_at, read_stops, short_does, short_leaves, stops_does, stops_leaves, tells_stopped, tells_unread}
 use Rattle.core_reader.proofs.reading.read_chunk.Goals as goal
 
@@ -318,9 +318,9 @@ returns-in_err-bytes-clause-leaves g c =
     let digest = c.in_ok-found.found.digest in
     let stop = c.in_err-bytes.field-0.0 in
     let damage = err_at (StopsAt digest) c.read_bytes-read.result stop c.in_err-bytes.was c.read_bytes-read.ensures.damage in
-    stopped_leave_on d old _ c.args.at (ReadChunk name entry) _ _ _ c.from_residual-in_err-bytes.ensures.1 (reads_then d old.disk c.find_entry.new.disk c.read_bytes-read.new.disk _ _ _ c.find_entry.ensures.reads c.read_bytes-read.ensures.reads inr) (record { catalogue = refl; sessions = refl; locks = refl })
-    (row_leaves d old _ c.args.at name entry c.requires path placed good q here at c.index_mut.result.now c.keep_found.new.row c.in_ok-found.found.turn (is_found c.read_bytes-read.result) row (row_found old lane c.requires c.index_mut.result.now c.index_mut.ensures.value)
-    c.in_ok-keep_found.ensures.ok refl c.in_ok-found.ensures.turn c.in_ok-found.ensures.exact.reads) refl
+    stopped_leave_on d old _ c.args.at (ReadChunk name entry) stop _ _ c.from_residual-in_err-bytes.ensures.1 (reads_then d old.disk c.find_entry.new.disk c.read_bytes-read.new.disk _ _ _ c.find_entry.ensures.reads c.read_bytes-read.ensures.reads inr) (record { catalogue = refl; sessions = refl; locks = refl })
+    (row_stopped d old _ c.args.at name entry c.requires path placed good q here at c.index_mut.result.now c.keep_found.new.row c.in_ok-found.found.turn (is_found c.read_bytes-read.result) row (row_found old lane c.requires c.index_mut.result.now c.index_mut.ensures.value)
+    c.in_ok-keep_found.ensures.ok refl c.in_ok-found.ensures.turn c.in_ok-found.ensures.exact.reads stop (found_by stop c.read_bytes-read.result (Err stop) c.in_err-bytes.was refl)) refl
     (at_called digest _ _ damage) (λ e. cc)
 
 pub returns-in_err-bytes-clause-by_disk : goal.returns-in_err-bytes-clause-by_disk

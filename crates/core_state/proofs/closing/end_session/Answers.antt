@@ -1,4 +1,4 @@
-use Rattle.std.proofs.Common.{◌<◌, length, refl, arith}
+use Rattle.std.proofs.Common.{◌<◌, length, get_or-set_same, refl, arith}
 use Rattle.store_model.specs.Store.{none}
 use Rattle.core_state.specs.Named.{is_named}
 use Rattle.core_state.specs.declared.indexes.Indexes.TheVariants.{Unread}
@@ -19,3 +19,12 @@ returns-clause-shows g c = λ s h.
     let there : c.args.lane < length c.args.parts.now.indexes.items = omega (arith, c.args.parts.now.rows, c.args.parts.now.indexes.ok.0, c.requires) in
     shows_changed c.args.parts.now _ s c.args.lane none Idle refl refl refl (locked_ended _ _ s c.args.lane within h.sound sound c.release.ensures h.locks)
     (rows_set s c.args.lane none c.args.parts.now.indexes.items within h.indexes Unread there tt) sound h
+
+pub returns-clause-ended : goal.returns-clause-ended
+returns-clause-ended g c =
+    let parts = c.args.parts.now in
+    let sessions : c.args.lane < length parts.sessions.items = omega (arith, parts.lanes, parts.sessions.ok.0, c.requires) in
+    let rows : c.args.lane < length parts.indexes.items = omega (arith, parts.rows, parts.indexes.ok.0, c.requires) in record {
+      session = get_or-set_same parts.sessions.items c.args.lane Idle Idle sessions;
+      row = get_or-set_same parts.indexes.items c.args.lane Unread Unread rows;
+    }

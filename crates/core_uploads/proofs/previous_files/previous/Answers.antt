@@ -159,7 +159,7 @@ returns-in_err-note_whole-clause-notes g c =
     let old = c.args.parts.now in
     let at = c.args.at in
     let rows = ap (set old.indexes.items at.lane) c.in_err-note_whole.ensures.unkept ∙ found_stays old.indexes.items at.lane c.index_mut-row.result.now c.index_mut-row.ensures.value in
-    notes_none old _ at c.args.name.now _ _ c.from_residual-in_err-note_whole.ensures.1 rows
+    notes_none g.D.Disk old _ at c.args.name.now c.args.offset _ _ c.from_residual-in_err-note_whole.ensures.1 rows
 
 -- ---- it is given
 
@@ -222,6 +222,7 @@ returns-clause-unreadable g c =
 
 pub returns-clause-notes : goal.returns-clause-notes
 returns-clause-notes g c =
+    let d = g.D.Disk in
     let old = c.args.parts.now in
     let at = c.args.at in
     let name = c.args.name.now in
@@ -233,18 +234,25 @@ returns-clause-notes g c =
     let kept : c.note_whole.new.row ≡ kept_by_whole (whole_for (row_at old at.lane) name) name (row_at old at.lane) =
     c.in_ok-note_whole.ensures.kept ∙ ap₂ (λ (n : List ℕ) (r : Indexes). kept_by_whole c.whole_index-whole.result n r) named again_row ∙ ap (λ o. kept_by_whole o name (row_at old at.lane)) whole in
     let rows = ap (set old.indexes.items at.lane) kept in
-    notes_done old _ at name c.requires _ rows
+    let within : at.lane < length old.sessions.items = omega (arith, old.lanes, old.sessions.ok.0, c.requires) in
+    let found : base_file ((c.in-Writer.w).session).writer.base name old.catalogue.listed ≡ Ok c.in_ok-path.path.now = search rules in
+    let writes = found_at old.sessions.items at.lane c.index.result.now c.in-Writer.w within c.index.ensures c.in-Writer.is in
+    let again = found_again old.sessions.items at.lane c.index.result.now c.index_mut-session.result.now within c.index.ensures c.index_mut-session.ensures.value in
+    notes_done d old _ at name c.args.offset c.requires c.in-Writer.w c.in_ok-path.path.now c.in_ok-given.given c.note_whole.new.session writes c.in_ok-name.ensures.name.1 found c.in_ok-given.ensures.pieces
+    (λ honest. subst (λ o. previous_by o (d.content old.disk) c.in_ok-path.path.now c.args.offset ≡ Ok (shown_given c.in_ok-given.given)) whole (c.in_ok-given.ensures.exact honest)) refl
+    (c.in_ok-note_whole.ensures.noted ∙ ap (λ o. known_by_whole o c.in_ok-given.given.pieces c.index_mut-session.result.now) whole
+    ∙ ap (known_by_whole (whole_for (row_at old at.lane) name) c.in_ok-given.given.pieces) (again ∙ c.in-Writer.is ∙ sym writes)) rows
 
 -- ---- what the lane keeps where it stopped before
 
 pub returns-in_err-writer-clause-notes : goal.returns-in_err-writer-clause-notes
-returns-in_err-writer-clause-notes g c = notes_none c.args.parts.now _ c.args.at c.args.name.now _ _ c.from_residual.ensures.1 refl
+returns-in_err-writer-clause-notes g c = notes_none g.D.Disk c.args.parts.now _ c.args.at c.args.name.now c.args.offset _ _ c.from_residual.ensures.1 refl
 
 pub returns-in_err-name-clause-notes : goal.returns-in_err-name-clause-notes
-returns-in_err-name-clause-notes g c = notes_none c.args.parts.now _ c.args.at c.args.name.now _ _ c.from_residual-in_err-name.ensures.1 refl
+returns-in_err-name-clause-notes g c = notes_none g.D.Disk c.args.parts.now _ c.args.at c.args.name.now c.args.offset _ _ c.from_residual-in_err-name.ensures.1 refl
 
 pub returns-in_err-path-clause-notes : goal.returns-in_err-path-clause-notes
-returns-in_err-path-clause-notes g c = notes_none c.args.parts.now _ c.args.at c.args.name.now _ _ c.from_residual-in_err-path.ensures.1 refl
+returns-in_err-path-clause-notes g c = notes_none g.D.Disk c.args.parts.now _ c.args.at c.args.name.now c.args.offset _ _ c.from_residual-in_err-path.ensures.1 refl
 
 pub returns-in_err-given-clause-notes : goal.returns-in_err-given-clause-notes
-returns-in_err-given-clause-notes g c = notes_none c.args.parts.now _ c.args.at c.args.name.now _ _ c.from_residual-in_err-given.ensures.1 refl
+returns-in_err-given-clause-notes g c = notes_none g.D.Disk c.args.parts.now _ c.args.at c.args.name.now c.args.offset _ _ c.from_residual-in_err-given.ensures.1 refl

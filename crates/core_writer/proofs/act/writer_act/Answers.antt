@@ -8,6 +8,7 @@ use Rattle.core_state.proofs.Applying.{refused_applies, refused_keeps_all, done_
 use Rattle.core_state.proofs.Unreadables.{tells_refused, tells_done}
 use Rattle.core_writer.specs.WriterActs.{asked_of_writer}
 use Rattle.core_writer.proofs.ActLemmas.{writers_done, writers_refused}
+use Rattle.core_writer.proofs.ActNotes.{writers_note, writers_note_none}
 use Rattle.core_writer.proofs.act.writer_act.Goals as goal
 
 pub returns-in-Answered-clause-applies : goal.returns-in-Answered-clause-applies
@@ -53,3 +54,11 @@ returns-in-At-clause-unreadable g c = let d = g.D.Disk in
     (tells_done d g.C.Clock.readings c.args.core.now c.begin.new.core _ _ at.lane at.moment
     (λ p. asked_of_writer (row_at p at.lane) c.args.act (session_at p at.lane) p.catalogue.listed) _ _ (subst (λ l. IsReady g.C.Clock.readings c.args.core.now c.begin.new.core l at.moment) (sym admitted.lane_is) admitted.ready)
     c.perform-ended.ensures.unreadable c.settle.ensures)
+
+pub returns-in-Answered-clause-notes : goal.returns-in-Answered-clause-notes
+returns-in-Answered-clause-notes g c = writers_note_none g.D.Disk g.C.Clock.readings _ _ c.args.lane c.args.act _ c.in-Answered.ensures.begun
+
+pub returns-in-At-clause-notes : goal.returns-in-At-clause-notes
+returns-in-At-clause-notes g c =
+    writers_note g.D.Disk g.C.Clock.readings c.args.core.now c.begin.new.core _ _ c.args.lane c.in-At.at c.args.act c.perform-ended.result c.settle.result
+    c.in-At.ensures.begun c.perform-ended.ensures.does.plain c.perform-ended.ensures.notes c.settle.ensures

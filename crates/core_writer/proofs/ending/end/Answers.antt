@@ -1,13 +1,11 @@
-use Rattle.std.specs.Prelude.{slice_index_or}
 use Rattle.std.proofs.Common.{◌∙◌, ap, refl, sym, subst, inr}
 use Rattle.disk_trait.specs.Effects.{LeavesBy}
 use Rattle.snapshot_files.specs.Forgotten.{MayLose, without}
 use Rattle.core_state.specs.Changes.{put_paths}
 use Rattle.core_state.proofs.Acting.{shows_same}
-use Rattle.core_state.specs.declared.kept.Session.TheVariants.{Idle}
 use Rattle.core_writer.specs.Ended.{files_in}
 use Rattle.core_writer.proofs.AbortLemmas.{end_does, end_leaves, end_fails, end_failed_leaves, never_failed}
-use Rattle.core_writer.proofs.Stopping.{idle_set, session_found}
+use Rattle.core_writer.proofs.Stopping.{session_found}
 use Rattle.core_writer.proofs.ending.end.Goals as goal
 
 pub returns-in_err-remove_files-clause-does : goal.returns-in_err-remove_files-clause-does
@@ -43,5 +41,5 @@ returns-clause-leaves g c = let d = g.D.Disk in
     (subst (λ fs. LeavesBy d old.disk c.remove_files.new.disk (MayLose (put_paths fs))) files (inr c.remove_files.ensures.crash))
     (λ h. c.in_ok-remove_files.ensures.removed h ∙ ap (λ fs. without (put_paths fs) (d.content old.disk)) files)
     c.end_session.ensures.catalogue
-    (ap (λ xs. slice_index_or xs c.args.at.lane Idle) c.end_session.ensures.sessions ∙ idle_set old c.args.at.lane Idle c.requires refl)
+    c.end_session.ensures.ended
     c.end_session.ensures.indexes

@@ -1,4 +1,4 @@
-use Rattle.std.proofs.Common.{◌<◌, ◌∙◌, ap, refl, sym, set, length, subst, arith, inr}
+use Rattle.std.proofs.Common.{◌<◌, ◌∙◌, ap, refl, sym, get_or-set_same, set, length, subst, arith, inr}
 use Rattle.std.specs.List.{list_all}
 use Rattle.store_types.specs.declared.refusal.Refusal.TheVariants.{NoFile}
 use Rattle.wire_commands.specs.declared.command.Command.TheVariants.{Finish}
@@ -76,13 +76,18 @@ returns-clause-leaves g c = let d = g.D.Disk in
     let told = sym c.in_ok-path.ensures.value in
     let session = session_found old c.args.at.lane c.index_mut-session.result.now c.requires c.index_mut-session.ensures.value in
     let change = finish_change (session_at old c.args.at.lane) _ _ (ap manifest_in here ∙ told) in
+    let there : c.args.at.lane < length old.indexes.items = omega (arith, old.rows, old.indexes.ok.0, c.requires) in
     writes_leaves d old _ c.args.at (Plain Finish) _ tt refl
     (λ h. c.in_ok-finish.ensures.installed h ∙ ap (λ x. after x (d.content old.disk)) (sym change))
     (subst (LeavesChange d old.disk _) (sym change) (inr c.finish.ensures.crash)) (subst (IsFirm d old.disk _) (sym change) c.in_ok-finish.ensures.firm)
     (c.close.ensures.catalogue ∙ ap (closed c.args.at.number c.index_mut-session.result.now) c.reserve.ensures.same ∙ ap (λ x. closed c.args.at.number x old.catalogue.listed) (sym session))
     (not_still (Plain Finish) refl)
     (finish_adds d old _ c.args.at.lane _ _ c.requires (ap manifest_in here ∙ told) c.in_ok-finish.ensures.installed)
-    (λ _. idle_set old c.args.at.lane _ c.requires c.close.ensures.session) (λ writes. absurd (false_true writes))
+    (λ _. record {
+      session = idle_set old c.args.at.lane _ c.requires c.close.ensures.session;
+      row = get_or-set_same old.indexes.items c.args.at.lane Unread Unread there;
+    })
+    (λ writes. absurd (false_true writes))
     (rows_but old _ c.args.at.lane (Plain Finish) Unread refl refl)
 
 pub close-requires-clause-named : goal.close-requires-clause-named

@@ -20,5 +20,5 @@ put-requires c =
     let sent = subst (λ t. HasText (commands.Chunk (digest_of p) t)) (sym blob_is) (has_text _ (chunk_fits p (piece_fits c.args.seed))) in
     subst (λ d. HasText (commands.Chunk (record { 0 = d }) c.in_ok-blob.blob)) (sym digest_is) sent
 
-pub overflow_cast-result : goal.overflow_cast-result
-overflow_cast-result c = omega (arith, c.len.ensures, c.in_ok-bytes.bytes.ok.0, ap length c.in_ok-bytes.ensures, (piece_fits c.args.seed).most)
+pub overflow_cast-length : goal.overflow_cast-length
+overflow_cast-length c = omega (arith, c.len-length.ensures, c.in_ok-bytes.bytes.ok.0, ap length c.in_ok-bytes.ensures, (piece_fits c.args.seed).most)

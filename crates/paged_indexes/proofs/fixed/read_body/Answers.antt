@@ -1,4 +1,4 @@
-use Rattle.std.proofs.Common.{◌≡◌, ◌+◌, ◌-◌, ◌*◌, ◌<◌, ◌≤◌, Some, length, drop, min, inl, inr, refl, sym, ap, subst, ◌∙◌, rules, arith}
+use Rattle.std.proofs.Common.{◌≡◌, ◌+◌, ◌-◌, ◌*◌, ◌<◌, ◌≤◌, Some, length, drop, inl, inr, refl, sym, ap, subst, ◌∙◌, rules, arith}
 use Rattle.std.proofs.lemmas.List.{length-drop}
 use Rattle.std.specs.FinMap.{get}
 use Rattle.store_files.specs.Cells.{cells}
@@ -9,8 +9,9 @@ use Rattle.disk_trait.proofs.OnlyReading.{reads_none, reads_then}
 use Rattle.paged_indexes.specs.Reading.{FixedBodyIs}
 use Rattle.paged_indexes.specs.Fixed.{Cuts, ends_in, fixed_ends_from}
 use Rattle.paged_indexes.proofs.Cells.{page_cells}
-use Rattle.paged_indexes.proofs.Cutting.{cells_count, next_page, page_cuts, page_facts}
-use Rattle.paged_indexes.proofs.Handed.{no_rest, rest_less, rest_none, rest_whole, some_all, some_more, some_none}
+use Rattle.paged_indexes.proofs.Cutting.{cells_count, next_page, page_cuts, cuts_behind}
+use Rattle.paged_indexes.proofs.AnyDisk.{fixed_all, fixed_more, fixed_none}
+use Rattle.paged_indexes.proofs.Handed.{no_rest, rest_less, rest_none, rest_whole}
 use Rattle.paged_indexes.proofs.Opened.{fixed_stopped}
 use Rattle.paged_indexes.proofs.fixed.read_body.Goals as goal
 
@@ -21,7 +22,7 @@ loop-i-init g c = record {
   pages = c.pages_in-pages.ensures;
   progress = λ h text there len. none_read 32 (drop 4096 text) c.in_ok-opening.opening c.in_ok-opening.ensures.begins;
   cuts = let all : c.args.count ≡ c.args.count - 0 = omega arith in subst (Cuts c.args.cut 0) all c.requires.cuts;
-  some = some_none g.T.TakesEntries.taken (min c.args.count 0) c.args.taker.now (omega arith);
+  some = fixed_none g.T.TakesEntries.taken c.args.cut c.args.count c.in_ok-opening.opening c.args.taker.now c.in_ok-opening.ensures.begins;
   those = λ h text there len. rest_whole g.T.TakesEntries.taken 0 (ends_in c.args.cut 0 (drop 4096 text)) c.args.taker.now;
 }
 
@@ -50,14 +51,13 @@ loop-i-preserved g c = let d = g.D.Disk in
           let now : get (d.content c.loop-i.disk) c.args.name.now ≡ Some text = ap (λ m. get m c.args.name.now) (reads.same h) ∙ there in
           (c.in_ok-take.ensures.takes (reads.serves.kept.0 h) text now len).noted (c.loop-i.invariant.progress h text there len);
       cuts =
-          let p = page_facts c.args.cut c.loop-i.start c.in_ok-start.start c.args.count c.loop-i.i c.as_slice.result.now c.take.new.room below c.as_slice.ensures.value
-          c.in_ok-take.ensures.size c.loop-i.invariant.cuts c.in_ok-start.ensures.end in
-          p.next;
+          cuts_behind c.args.cut c.loop-i.start c.in_ok-start.start c.args.count c.loop-i.i c.as_slice.result.now c.take.new.room below c.as_slice.ensures.value
+          c.in_ok-take.ensures.size c.loop-i.invariant.cuts c.in_ok-start.ensures.end;
       some =
-          let p = page_facts c.args.cut c.loop-i.start c.in_ok-start.start c.args.count c.loop-i.i c.as_slice.result.now c.take.new.room below c.as_slice.ensures.value
-          c.in_ok-take.ensures.size c.loop-i.invariant.cuts c.in_ok-start.ensures.end in
-          some_more g.T.TakesEntries.taken c.args.count c.loop-i.i c.loop-i.start c.in_ok-start.start (ends_in c.args.cut c.loop-i.start c.as_slice.result.now)
-          c.args.taker.now c.loop-i.taker c.hand_on.new.taker below p.few p.steps c.in_ok-start.ensures.hands c.loop-i.invariant.some;
+          let taken = c.in_ok-take.ensures in
+          fixed_more g.T.TakesEntries.taken c.args.cut c.args.count c.loop-i.i c.loop-i.start c.in_ok-start.start c.loop-i.opening c.take.new.self c.take.new.room c.as_slice.result.now
+          c.args.taker.now c.loop-i.taker c.hand_on.new.taker below c.as_slice.ensures.value taken.size taken.bytes taken.notes c.in_ok-start.ensures.end c.in_ok-start.ensures.hands
+          c.loop-i.invariant.some;
       those = λ h text there len.
           let cut = c.args.cut in
           let count = c.args.count in
@@ -85,8 +85,8 @@ returns-in_err-start-clause-reads g c =
 
 pub returns-clause-some : goal.returns-clause-some
 returns-clause-some g c =
-    let past : page_count c.args.count ≤ c.loop-i.i = omega (arith, c.loop-i-test.false, c.loop-i.auto.i-end, c.loop-i.invariant.pages) in
-    some_all g.T.TakesEntries.taken c.args.count (min c.args.count (c.loop-i.i * 1024)) c.loop-i.start c.args.taker.now c.loop-i.taker c.requires.limit (omega (arith, past)) c.loop-i.invariant.some
+    let past : c.loop-i.i ≡ page_count c.args.count = omega (arith, c.loop-i-test.false, c.loop-i.auto.i-end, c.loop-i.invariant.pages) in
+    fixed_all g.T.TakesEntries.taken c.args.cut c.args.count c.loop-i.i c.loop-i.start c.loop-i.opening c.close.result c.args.taker.now c.loop-i.taker past c.close.ensures.closes c.loop-i.invariant.some
 
 pub returns-clause-those : goal.returns-clause-those
 returns-clause-those g c = λ h text there len.

@@ -1,14 +1,15 @@
-use Rattle.std.proofs.Common.{◌≡◌, ◌+◌, ◌*◌, ◌<◌, ◌≤◌, ◌++◌, Some, length, take, drop, min, inl, inr, refl, sym, ap, subst, ◌∙◌, rules, arith}
+use Rattle.std.proofs.Common.{◌≡◌, ◌+◌, ◌*◌, ◌<◌, ◌≤◌, ◌++◌, Some, length, take, drop, inl, inr, refl, sym, ap, subst, ◌∙◌, rules, arith}
 use Rattle.std.proofs.lemmas.List.{length-drop}
 use Rattle.std.specs.FinMap.{get}
-use Rattle.index_pages.specs.Paged.{entries_at, page_count}
+use Rattle.index_pages.specs.Paged.{page_count}
 use Rattle.index_pages.proofs.Carried.{by_err}
 use Rattle.disk_trait.proofs.OnlyReading.{reads_none, reads_then}
 use Rattle.paged_indexes.specs.declared.reading.DynamicBody.{DynamicBody}
 use Rattle.paged_indexes.specs.Reading.{BodyIs}
 use Rattle.paged_indexes.specs.Steps.{entries_of}
 use Rattle.paged_indexes.proofs.Entries.{entries_count, page_entries_are}
-use Rattle.paged_indexes.proofs.Handed.{HandsRest, SomeTaken, no_rest, page_and_rest, rest_less, rest_none, rest_whole, some_all, some_more, some_none}
+use Rattle.paged_indexes.proofs.AnyDisk.{some_all, some_more, some_none}
+use Rattle.paged_indexes.proofs.Handed.{HandsRest, no_rest, page_and_rest, rest_less, rest_none, rest_whole}
 use Rattle.paged_indexes.proofs.Stepping.{begins, body_stopped, none_rise, progress_ends, progress_fails, progress_more, stepped_last}
 use Rattle.paged_indexes.proofs.reading.read_body.Goals as goal
 
@@ -24,7 +25,7 @@ loop-i-init g c =
       rises = none_rise c.in_ok-reading.reading made.ends;
       pages = c.pages_in-pages.ensures;
       progress = λ h text there len. begins (drop 4096 text) c.in_ok-reading.reading made.begins made.ends made.start;
-      some = subst (λ n. SomeTaken taken (min c.args.count 0) n taker taker) (sym made.start) (some_none taken (min c.args.count 0) taker (omega arith));
+      some = some_none taken c.args.count c.in_ok-reading.reading taker made.begins made.ends made.start;
       those = λ h text there len.
           subst (λ n. HandsRest taken 0 (entries_of (drop 4096 text)) taker n (entries_of (drop 4096 text)) taker) (sym made.start)
           (rest_whole taken 0 (entries_of (drop 4096 text)) taker);
@@ -66,10 +67,9 @@ loop-i-preserved g c = let d = g.D.Disk in
           progress_more body count i c.loop-i.reading c.take.new.self c.take.new.room size below
           (c.loop-i.invariant.progress h text there len) (c.in_ok-take.ensures.takes (reads.serves.kept.0 h) text now len);
       some =
-          let hands = c.in_ok-take.ensures.hands in
           let below : c.loop-i.i < page_count c.args.count = omega (arith, c.loop-i-test.true, c.loop-i.invariant.pages) in
-          some_more g.T.TakesEntries.taken c.args.count c.loop-i.i c.loop-i.reading.end c.take.new.self.end (entries_of c.take.new.room) c.args.taker.now c.loop-i.taker c.take.new.taker below
-          (entries_count (entries_at c.args.count c.loop-i.i) c.take.new.room hands.len) hands.steps hands.hands c.loop-i.invariant.some;
+          some_more g.T.TakesEntries.taken c.args.count c.loop-i.i c.loop-i.reading c.take.new.self c.take.new.room c.args.taker.now c.loop-i.taker c.take.new.taker below
+          c.in_ok-take.ensures.hands c.loop-i.invariant.some;
       those = λ h text there len.
           let count = c.args.count in
           let i = c.loop-i.i in
@@ -88,8 +88,9 @@ loop-i-preserved g c = let d = g.D.Disk in
 
 pub returns-clause-some : goal.returns-clause-some
 returns-clause-some g c =
-    let past : page_count c.args.count ≤ c.loop-i.i = omega (arith, c.loop-i-test.false, c.loop-i.auto.i-end, c.loop-i.invariant.pages) in
-    some_all g.T.TakesEntries.taken c.args.count (min c.args.count (c.loop-i.i * 1024)) c.loop-i.reading.end c.args.taker.now c.loop-i.taker c.requires (omega (arith, past)) c.loop-i.invariant.some
+    let past : c.loop-i.i ≡ page_count c.args.count = omega (arith, c.loop-i-test.false, c.loop-i.auto.i-end, c.loop-i.invariant.pages) in
+    let b : DynamicBody = record { body = c.close.result; ends = c.loop-i.reading.ends } in
+    some_all g.T.TakesEntries.taken c.args.count c.loop-i.i c.loop-i.reading b c.args.taker.now c.loop-i.taker past c.close.ensures.closes refl c.loop-i.invariant.some
 
 pub returns-clause-those : goal.returns-clause-those
 returns-clause-those g c = λ h text there len.

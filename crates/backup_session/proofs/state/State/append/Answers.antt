@@ -1,8 +1,7 @@
-use Rattle.std.proofs.Common.{◌≡◌, None, Ok, Err, map, get_or, set, rules, refl, sym, ap, subst, ◌∙◌}
+use Rattle.std.proofs.Common.{◌≡◌, None, Ok, Err, get_or, set, rules, refl, sym, ap, subst, ◌∙◌}
 use Rattle.std.specs.Prelude.{◌==◌, Bool, position}
 use Rattle.std.specs.FinMap.{entries}
 use Rattle.store_types.specs.declared.refusal.Refusal.TheVariants.{NoFile}
-use Rattle.dynamic_index.specs.Writing.{known_of}
 use Rattle.backup_session.specs.Indexes.{with_pieces}
 use Rattle.backup_session.specs.declared.state.Begun.{Begun}
 use Rattle.backup_session.specs.Session.{Open, Writing}
@@ -54,7 +53,7 @@ returns-clause-does c =
     let b = c.index.result.now in
     let there = number_at number items c.in-Some.place b first (sym c.index.ensures) in
     let es = c.args.entries.now in
-    let known = map known_of c.in_ok-pieces.pieces.items in
+    let known = c.in_ok-pieces.pieces.items in
     let told = c.in_ok-pieces.ensures.exact in
     let m = c.index_mut.result.now in
     let new : Begun = record { number = m.number; name = m.name; index = c.append_all.new.self } in
@@ -62,7 +61,7 @@ returns-clause-does c =
     let named : Open → Open = steps.grown known in
     let grows : open_of new ≡ named (open_of (get_or items c.in-Some.place b)) =
     ap (λ x. record { number = m.number; name = m.name; index = x })
-    (c.in_ok-append_all.ensures.ok ∙ ap (λ ps. with_pieces (map known_of ps) m.index) c.deref-2.ensures.value)
+    (c.in_ok-append_all.ensures.ok ∙ ap (λ ps. with_pieces ps m.index) c.deref-2.ensures.value)
     ∙ ap (λ (x : Begun). named (open_of x)) same in
     let after : Writing = record v { begun = opens_of (set items c.in-Some.place new) } in
     record {

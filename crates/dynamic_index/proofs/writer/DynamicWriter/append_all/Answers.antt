@@ -1,16 +1,16 @@
-use Rattle.std.proofs.Common.{◌≡◌, ◌++◌, length, map, All, ap, subst, sym, ◌∙◌}
+use Rattle.std.proofs.Common.{◌≡◌, ◌++◌, length, All, ap, subst, sym, ◌∙◌}
 use Rattle.std.proofs.lemmas.List.{map-append}
 use Rattle.store_files.specs.DynamicIndex.{DynamicIndex}
 use Rattle.dynamic_index.specs.Pieces.{size_of}
 use Rattle.dynamic_index.specs.Entries.{ended_of, ends_of}
-use Rattle.dynamic_index.specs.Writing.{IsBegun, FitsPieces, known_of}
-use Rattle.dynamic_index.proofs.KnownPieces.{begun_all}
+use Rattle.dynamic_index.specs.Writing.{IsBegun, FitsPieces}
+use Rattle.dynamic_index.proofs.MorePieces.{begun_all}
 use Rattle.dynamic_index.proofs.writer.DynamicWriter.append_all.Goals as goal
 
 pub invariant_of-self-2 : goal.invariant_of-self-2
 invariant_of-self-2 c =
     let w = c.self.inside in
-    let pieces = map known_of c.args.pieces.now in
+    let pieces = c.args.pieces.now in
     let P : DynamicIndex → Type 0 = λ x. FitsPieces x pieces in
     let appended = ap ends_of c.in_ok-append.ensures.items ∙ map-append ended_of w.entries.items _ ∙ ap (λ es. ends_of w.entries.items ++ es) c.in_ok-more.ensures.ends in
     let end = c.end.ensures.value ∙ sym (ap size_of c.self.view_is) in

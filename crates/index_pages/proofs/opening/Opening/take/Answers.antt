@@ -22,3 +22,9 @@ returns-clause-takes g c = λ honest text there len.
       noted = pages_more width count i body c.args.self.now c.note.new.self page c.requires.width size refl (subst AreBytes bytes c.note.ensures.bytes)
           (subst (NotesPage c.args.self.now c.note.new.self) bytes c.in_ok-note.ensures.notes);
     }
+
+pub returns-clause-bytes : goal.returns-clause-bytes
+returns-clause-bytes g c = subst AreBytes c.as_slice.ensures.value c.note.ensures.bytes
+
+pub returns-clause-notes : goal.returns-clause-notes
+returns-clause-notes g c = subst (NotesPage c.args.self.now c.note.new.self) c.as_slice.ensures.value c.in_ok-note.ensures.notes

@@ -2,7 +2,7 @@ use Rattle.std.proofs.Common.{drop, ◌+◌, Some, ap, ◌∙◌}
 use Rattle.std.specs.Option.{option_or}
 use Rattle.wire_commands.specs.declared.rows.FileFault.TheVariants as faults
 use Rattle.job_steps.specs.Checks.{fault_of}
-use Rattle.store_model.specs.declared.piece.Piece.{Piece}
+use Rattle.store_types.specs.declared.piece.Piece.{Piece}
 use Rattle.job_steps.specs.Visits.{next_piece}
 use Rattle.job_steps.proofs.BatchLemmas.{fault_settled, left_more, left_stays}
 use Rattle.job_steps.proofs.VerifyLemmas.{found_so}

@@ -13,9 +13,10 @@ use Rattle.index_pages.proofs.Filled.{gives_err, gives_told}
 use Rattle.disk_trait.proofs.OnlyReading.{reads_then}
 use Rattle.index_pages.proofs.Opened.{has_count, has_front, no_count, no_front}
 use Rattle.paged_indexes.specs.Dynamic.{DynamicPaged, HasEnds, dynamic_entries, dynamic_paged, opened}
-use Rattle.paged_indexes.specs.Handing.{HandsOn, HandsSome}
+use Rattle.paged_indexes.specs.Handing.{HandsOn}
 use Rattle.paged_indexes.proofs.Handed.{same_some}
 use Rattle.paged_indexes.proofs.Opened.{dynamic_by, dynamic_rest, no_body, paged_is, summed}
+use Rattle.paged_indexes.proofs.Spelled.{dynamic_some}
 use Rattle.paged_indexes.proofs.dynamic.DynamicPages.open_into.Goals as goal
 
 abbrev itself : DynamicPaged → DynamicPaged
@@ -109,9 +110,15 @@ returns-clause-those g c = let d = g.D.Disk in λ h text at.
 
 pub returns-clause-some : goal.returns-clause-some
 returns-clause-some g c =
-    subst (λ (p : Paged). HandsSome g.T.TakesEntries.taken p.count c.args.taker.now c.read_body.new.taker) (sym c.in_ok-pages.ensures) c.in_ok-read.ensures.some
+    dynamic_some g.T.TakesEntries.taken c.args.name.now c.args.taker.now c.read_body.new.taker c.in_ok-count.count c.in_ok-read.read c.in_ok-pages.pages c.in_ok-pages.ensures
+    c.in_ok-count.ensures.limit c.in_ok-read.ensures.some
 
 pub invariant_of-result : goal.invariant_of-result
 invariant_of-result g c =
     subst (λ (p : Paged). HasEnds p c.in_ok-read.read.ends.items) (sym c.in_ok-pages.ensures)
     (record { width = refl; limit = c.in_ok-count.ensures.limit; len = c.in_ok-read.ensures.ends; rises = c.in_ok-read.ensures.rises })
+
+pub of-requires-clause-bytes : goal.of-requires-clause-bytes
+of-requires-clause-bytes g c =
+    let some = c.in_ok-read.ensures.some in
+    record { body = some.body; whole = some.len; sums = ((some.is).read).sums }

@@ -17,9 +17,10 @@ use Rattle.std.specs.Prelude.{◌==◌}
 use Rattle.std.proofs.lemmas.Bool.{and_parts, eqb-true}
 use Rattle.index_pages.specs.Paged.{Paged}
 use Rattle.paged_indexes.specs.Fixed.{FixedPaged, HasSizes, fixed_ends_from, fixed_entries, fixed_paged, opened}
-use Rattle.paged_indexes.specs.Handing.{HandsOn, HandsSome}
+use Rattle.paged_indexes.specs.Handing.{HandsOn}
 use Rattle.paged_indexes.proofs.Handed.{same_some}
 use Rattle.paged_indexes.proofs.Opened.{bad_sizes, chunk_size_is, fixed_by, fixed_paged_is, fixed_rest, fixed_summed, no_fixed_body, size_is, sizes_are}
+use Rattle.paged_indexes.proofs.Spelled.{fixed_some}
 use Rattle.paged_indexes.proofs.fixed.FixedPages.open_into.Goals as goal
 
 abbrev itself : FixedPaged → FixedPaged
@@ -142,4 +143,10 @@ invariant_of-result g c =
 
 pub returns-clause-some : goal.returns-clause-some
 returns-clause-some g c =
-    subst (λ (p : Paged). HandsSome g.T.TakesEntries.taken p.count c.args.taker.now c.read_body.new.taker) (sym c.in_ok-pages.ensures) c.in_ok-body.ensures.some
+    fixed_some g.T.TakesEntries.taken c.args.name.now c.args.taker.now c.read_body.new.taker c.number_at-size.result c.number_at-chunk_size.result c.in_ok-count.count c.in_ok-body.body
+    c.in_ok-pages.pages c.in_ok-pages.ensures c.in_ok-count.ensures.limit (sym c.if-not-has_sizes.ensures) c.in_ok-body.ensures.some
+
+pub of-requires-clause-bytes : goal.of-requires-clause-bytes
+of-requires-clause-bytes g c =
+    let some = c.in_ok-body.ensures.some in
+    record { body = some.body; whole = some.len; sums = (some.is).sums }

@@ -22,6 +22,9 @@ returns-clause-hands g c =
     let page = c.as_slice.ensures.value in
     record {
       len = c.in_ok-take.ensures.size;
+      small = c.in_ok-take.ensures.bytes;
+      notes = c.in_ok-take.ensures.notes;
+      ends = c.in_ok-push.ensures.items;
       steps = subst (λ b. stepped start (entries_of b) ≡ Some c.in-Some.end) page (sym c.in_ok-end.ensures.value ∙ c.in-Some.is);
       hands = subst (λ b. HandsOn taken start (entries_of b) c.args.taker.now c.hand_on.new.taker) page
           (if_some c.in_ok-end.field-0 c.in-Some.end (λ _. HandsOn taken start (entries_of c.as_slice.result.now) c.args.taker.now c.hand_on.new.taker) c.in-Some.is c.in_ok-end.ensures.hands);
