@@ -13,3 +13,5 @@ mod fixed;
 mod fixtures;
 #[cfg(test)]
 mod reader;
+#[cfg(test)]
+mod states;
