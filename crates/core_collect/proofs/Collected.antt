@@ -37,6 +37,8 @@ use Rattle.core_state.specs.Unchanged.{SameKept}
 use Rattle.core_state.specs.Upkeeps.{TouchesEach, touches_kept}
 use Rattle.core_state.proofs.Commanding.{leaves_by, same_leaves}
 use Rattle.core_state.proofs.Touching.{same_touches}
+use Rattle.core_collect.specs.Calls.{SearchCalls}
+use Rattle.core_collect.proofs.Calls.{open_search, open_unpassed}
 use Rattle.core_collect.specs.declared.marking.Unread.{Unread}
 use Rattle.core_collect.specs.declared.marking.Unread.TheVariants as unread
 use Rattle.core_collect.specs.Beside.{IsPresent, IsSweepable, StandsBeside}
@@ -151,9 +153,9 @@ module _ {D : Type 0} (d : Ghosts D) (old new : Parts D) (u v : Upkeep) (c e f :
   unended f still passes = subst (PassesOrEnds d old.disk old.catalogue.listed u.book v.book c f at.moment stays) (sym still) passes
 
   pub marked_does : (digests : Vec Digest32 Global) → OnlyReads d old.disk new.disk (IsErrOf {T = Option (Vec Digest32 Global)} (Ok (Some digests)) unread.DiskFailed) → SameKept old new
-      → FindsNext d old c e (Ok (Some digests)) → MarksSome u.book v.book e f digests.items at.moment → v.undated ≡ u.undated
+      → FindsNext d old c e (Ok (Some digests)) → SearchCalls d old new c → MarksSome u.book v.book e f digests.items at.moment → v.undated ≡ u.undated
       → is_over c.plan ≡ false → c.ended ≡ None → CollectDoes d old new u v c f at (Ok None)
-  marked_does digests reads kept finds marks undated going goes =
+  marked_does digests reads kept finds most marks undated going goes =
       let still : f.ended ≡ None = marks.ended ∙ (finds.further).ended ∙ goes in record {
         serves = record { kept = (reads.serves).kept; count = (reads.serves).count; cause = λ failed. cc };
         kept = kept;
@@ -171,6 +173,7 @@ module _ {D : Type 0} (d : Ghosts D) (old new : Parts D) (u v : Upkeep) (c e f :
         further = goes_down c f goes still (let less = marks.less in let most = (finds.further).not_more in omega (arith, less, most));
         same = fixed_then c e f.plan finds.further (ap (λ (p : Plan). p.start) marks.plan) (ap (λ (p : Plan). p.cutoff) marks.plan) (ap (λ (p : Plan). p.indexes) marks.plan);
         unread = λ _ honest. ap path_of_early still ∙ sym (finds.unread honest);
+        calls = λ _. open_search d old new c most;
         tells = λ acts s w beside able.
             (marked_tells d old new u v c e f (IsErrOf {T = Option (Vec Digest32 Global)} (Ok (Some digests)) unread.DiskFailed) at.moment reads kept digests finds marks (ap (λ us. record v { undated = us }) undated) going goes acts s w beside, spares_same s);
       }
@@ -195,9 +198,9 @@ module _ {D : Type 0} (d : Ghosts D) (old new : Parts D) (u : Upkeep) (c e : Col
       by_sweep (Some sweep) shows = (finds.shows acts s sweep beside.holds shows).1
 
   pub unread_does : (f : Collector) (path : List ℕ) → OnlyReads d old.disk new.disk (IsErrOf {T = Option (Vec Digest32 Global)} (Err (unread.Unreadable path)) unread.DiskFailed) → SameKept old new
-      → FindsNext d old c e (Err (unread.Unreadable path)) → f.lane ≡ e.lane → f.plan ≡ e.plan → f.ended ≡ Some (earlies.Unreadable path) → is_over c.plan ≡ false → c.ended ≡ None
+      → FindsNext d old c e (Err (unread.Unreadable path)) → SearchCalls d old new c → f.lane ≡ e.lane → f.plan ≡ e.plan → f.ended ≡ Some (earlies.Unreadable path) → is_over c.plan ≡ false → c.ended ≡ None
       → CollectDoes d old new u u c f at (Ok None)
-  unread_does f path reads kept finds lane plan ended going goes = record {
+  unread_does f path reads kept finds most lane plan ended going goes = record {
     serves = record { kept = (reads.serves).kept; count = (reads.serves).count; cause = λ failed. cc };
     kept = kept;
     unrefused = λ refusal is. cc;
@@ -214,6 +217,7 @@ module _ {D : Type 0} (d : Ghosts D) (old new : Parts D) (u : Upkeep) (c e : Col
     further = ends_down c f path goes ended;
     same = fixed_then c e f.plan finds.further (ap (λ (p : Plan). p.start) plan) (ap (λ (p : Plan). p.cutoff) plan) (ap (λ (p : Plan). p.indexes) plan);
     unread = λ _ honest. ap path_of_early ended ∙ sym (finds.unread honest);
+    calls = λ _. open_search d old new c most;
     tells = λ acts s w beside able. absurd (never_unread path finds acts s w beside);
   }
 
@@ -236,6 +240,7 @@ module _ {D : Type 0} (d : Ghosts D) (old new : Parts D) (u : Upkeep) (c e : Col
     further = tt;
     same = fixed_then c e e.plan finds.further refl refl refl;
     unread = λ is. cc;
+    calls = λ is. cc;
     tells = λ acts s w beside able. (
       record {
         holds = holds_same d old new s kept beside.holds ((reads.serves).kept.0 (beside.holds).honest) (reads.same (beside.holds).honest);
@@ -266,6 +271,7 @@ module _ {D : Type 0} (d : Ghosts D) (old new : Parts D) (u : Upkeep) (c e : Col
     further = tt;
     same = tt;
     unread = λ is. cc;
+    calls = λ is. cc;
     tells = λ acts s w beside able. ((reads.serves).kept.0 (beside.holds).honest, spares_same s);
   }
 
@@ -352,6 +358,7 @@ module _ {D : Type 0} (d : Ghosts D) (old new : Parts D) (mid : D) (u v : Upkeep
         further = goes_down c f goes_on still (let less = x.less ((finds.further).over going) in let most = (finds.further).not_more in omega (arith, less, most));
         same = fixed_then c e f.plan finds.further keeps.start keeps.cutoff keeps.indexes;
         unread = λ _ honest. ap path_of_early still ∙ sym (finds.unread honest);
+        calls = λ _. open_unpassed d old new c e (finds.found).0 ((finds.found).1).plan ((finds.found).1).let_go (finds.all_marked refl);
         tells = tells (Ok done) serves x;
       }
 
@@ -376,6 +383,7 @@ module _ {D : Type 0} (d : Ghosts D) (old new : Parts D) (mid : D) (u v : Upkeep
         further = tt;
         same = fixed_then c e f.plan finds.further (ap (λ (p : Plan). p.start) plan) (ap (λ (p : Plan). p.cutoff) plan) (ap (λ (p : Plan). p.indexes) plan);
         unread = λ is. cc;
+        calls = λ is. cc;
         tells = tells (Err disks.NoMemory) serves x;
       }
   unvisited_does disks.Failed serves x = record {
@@ -396,6 +404,7 @@ module _ {D : Type 0} (d : Ghosts D) (old new : Parts D) (mid : D) (u v : Upkeep
     further = tt;
     same = tt;
     unread = λ is. cc;
+    calls = λ is. cc;
     tells = tells (Err disks.Failed) serves x;
   }
 
@@ -427,6 +436,7 @@ module _ {D : Type 0} (d : Ghosts D) (old new : Parts D) (u : Upkeep) (c : Colle
     further = tt;
     same = record { start = refl; cutoff = refl; indexes = refl };
     unread = λ is. cc;
+    calls = λ is. cc;
     tells = λ acts s w beside able. (ended_tells d old new u c at.moment (Ok report) kept serves ends keeps over acts s w beside able, spares_install s book_name text);
   }
 
@@ -450,6 +460,7 @@ module _ {D : Type 0} (d : Ghosts D) (old new : Parts D) (u : Upkeep) (c : Colle
         further = tt;
         same = record { start = refl; cutoff = refl; indexes = refl };
         unread = λ is. cc;
+        calls = λ is. cc;
         tells = λ acts s w beside able. (ended_tells d old new u c at.moment (Err disks.NoMemory) kept serves ends keeps over acts s w beside able, spares_same s);
       }
   unended_does disks.Failed serves ends keeps = record {
@@ -469,5 +480,6 @@ module _ {D : Type 0} (d : Ghosts D) (old new : Parts D) (u : Upkeep) (c : Colle
     further = tt;
     same = tt;
     unread = λ is. cc;
+    calls = λ is. cc;
     tells = λ acts s w beside able. (ended_tells d old new u c at.moment (Err disks.Failed) kept serves ends keeps over acts s w beside able, spares_install s book_name text);
   }

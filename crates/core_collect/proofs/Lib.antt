@@ -11,6 +11,7 @@ pub mod LastPages
 pub mod ReadLemmas
 pub mod Reading
 pub mod MarkLemmas
+pub mod Calls
 pub mod Settling
 pub mod Marked
 pub mod VisitLemmas

@@ -22,7 +22,7 @@ use Rattle.core_state.specs.Sweeps.{ArePages, FitsRemoved, HasNumber, HasPages, 
 use Rattle.core_state.specs.Upkeeps.{TouchesEach}
 use Rattle.core_state.proofs.Finding.{some_same}
 use Rattle.core_collect.specs.Entries.{bytes_of, marked_from}
-use Rattle.core_collect.specs.Marking.{AtHand, BeginsWith, HasAll, MarksSome, PassesOver, all_of, behind_next, entries_left, left_then, marked_now}
+use Rattle.core_collect.specs.Marking.{AtHand, BeginsWith, HasAll, MarksSome, PassesOver, all_of, behind_next, entries_left, indexes_left, left_then, marked_now}
 use Rattle.core_collect.proofs.StartLemmas.{left_all}
 
 -- ---- lists
@@ -136,6 +136,11 @@ fits_pass p pages fits some = by_mark (next_mark p) refl some
 pub over_zero : (stage : Stage) → marked_in (marked_at stage 0 0) ≡ 0
 over_zero (marking place first) = refl
 over_zero (sweeping names) = refl
+
+-- the index that is next is the first of those that are left
+pub left_from : (is : List IndexAt) (stage : Stage) (i : IndexAt) → index_in is stage ≡ Some i → indexes_left is stage ≡ i ∷ indexes_left is (marked_at stage 0 0)
+left_from is (marking place first) i e = drop_from is place i e
+left_from is (sweeping names) i e = absurd (none_some i e)
 
 -- ---- what fits the pages at hand
 

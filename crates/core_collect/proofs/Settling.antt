@@ -1,6 +1,6 @@
 -- The index that is next is passed over, read or unreadable, and the search for the one that is marked.
 use Rattle.disk_trait.specs.declared.disk.Disk.{Ghosts}
-use Rattle.std.proofs.Common.{◌≡◌, ◌⊎◌, ⊎_elim, ◌<◌, ◌-◌, ◌==◌, ℕ, zero, suc, min, Bool, true, false, cond, nat_lt, le_refl, le_of_eq, List, [], ◌∷◌, drop, length, Option, Some, None, option_map, Result, Ok, Err, IfSome, IsSome, IsSomeAnd, is_some, IsErrAnd, IsErrOf, Vec, Global, inl, inr, refl, sym, ap, ap₂, subst, ◌∙◌, arith}
+use Rattle.std.proofs.Common.{◌≡◌, ◌⊎◌, ⊎_elim, ◌<◌, ◌-◌, ◌==◌, ℕ, zero, suc, min, Bool, true, false, cond, nat_lt, ◌≤◌, ◌+◌, le_refl, le_of_eq, List, [], ◌∷◌, drop, length, Option, Some, None, option_map, Result, Ok, Err, IfSome, IsSome, IsSomeAnd, is_some, IsErrAnd, IsErrOf, Vec, Global, inl, inr, refl, sym, ap, ap₂, subst, ◌∙◌, arith}
 use Rattle.std.specs.Prelude.{slice_get}
 use Rattle.std.specs.List.{All}
 use Rattle.std.proofs.lemmas.Bool.{eq-eqb, eqb-true, ltb-false, ne_eqb}
@@ -34,14 +34,16 @@ use Rattle.core_state.specs.Sweeps.{ArePages, FitsRemoved, HasNumber, HasPages, 
 use Rattle.core_state.specs.Unchanged.{SameKept}
 use Rattle.core_state.proofs.Acting.{holds_same}
 use Rattle.core_state.proofs.Finding.{some_same}
+use Rattle.core_collect.specs.Calls.{SearchCalls, SettleCalls, calls_next, search_calls}
 use Rattle.core_collect.specs.Entries.{AreNext, IsHad, IsThePage, bytes_at, bytes_of, last_page, marked_from, next_read}
 use Rattle.core_collect.specs.Marking.{FindsAfter, FindsNext, GoesFurther, IsSettled, KeepsLast, MayPass, PassesNext, PassesOver, SettlesNext, ShowsStill, Standing, StandsAt, TellsStanding, all_of, at_hand_after, first_standing, indexes_left, marked_next, marked_now, next_unreadable, opening_of, page_at_hand, page_then, passed_by, passed_over, path_at, standing, standing_as, standing_at, standing_by, unless_passed, unreadable, unreadable_in}
 use Rattle.core_collect.specs.declared.marking.Opened.{Opened}
 use Rattle.core_collect.specs.declared.marking.Unread.{Unread}
 use Rattle.core_collect.specs.declared.marking.Unread.TheVariants.{DiskFailed, NoMemory, Unreadable}
+use Rattle.core_collect.proofs.Calls.{next_within, search_on}
 use Rattle.core_collect.proofs.LastPages.{hand_is}
 use Rattle.core_collect.proofs.ReadLemmas.{IsOfFile, IsPlain, file_of, first_pages, index_plain, no_digests, plain_bytes, plain_count, plain_next, plain_opens, plain_pages}
-use Rattle.core_collect.proofs.MarkLemmas.{all_marked, at_place, begins_with, drop_from, mark_there, no_index, over_zero, passed_shows}
+use Rattle.core_collect.proofs.MarkLemmas.{all_marked, at_place, begins_with, left_from, mark_there, no_index, over_zero, passed_shows}
 
 none_some : {A : Type 0} (x : A) → None ≡ Some x → ⊥
 none_some x e = cc
@@ -87,10 +89,6 @@ at_index P (j ∷ js) (suc place) i all e = at_index P js place i (All-tail P j 
 at_next : (P : IndexAt → Type 0) (is : List IndexAt) (stage : Stage) (i : IndexAt) → All P is → index_in is stage ≡ Some i → P i
 at_next P is (marking place first) i all e = at_index P is place i all e
 at_next P is (sweeping names) i all e = absurd (none_some i e)
-
-left_from : (is : List IndexAt) (stage : Stage) (i : IndexAt) → index_in is stage ≡ Some i → indexes_left is stage ≡ i ∷ indexes_left is (marked_at stage 0 0)
-left_from is (marking place first) i e = drop_from is place i e
-left_from is (sweeping names) i e = absurd (none_some i e)
 
 none_left : (is : List IndexAt) (stage : Stage) → index_in is stage ≡ None → indexes_left is stage ≡ []
 none_left is (marking place first) e = drop_all place is (at_place is place e)
@@ -555,6 +553,7 @@ pub record HasPassed {D : Type 0} (d : Ghosts D) (parts now : Parts D) (old c : 
   pub skipped : d.honest parts.disk → (n : ℕ) → n < passed → StandsAt (d.content parts.disk) parts.catalogue.listed old n passed_over
   pub let_go : 0 < passed → MayPass parts.catalogue.listed old
   pub unread : d.honest parts.disk → next_unreadable (d.content parts.disk) parts.catalogue.listed old ≡ next_unreadable (d.content parts.disk) parts.catalogue.listed c
+  pub calls : d.honest parts.disk → d.calls now.disk + search_calls (d.content parts.disk) parts.catalogue.listed c ≤ d.calls parts.disk + search_calls (d.content parts.disk) parts.catalogue.listed old
 
 module _ {D : Type 0} (d : Ghosts D) (parts now : Parts D) (old c : Collector) (h : HasPassed d parts now old c) where
   holds_now : (s : Store) → Holds d parts s → Holds d now s
@@ -584,6 +583,21 @@ module _ {D : Type 0} (d : Ghosts D) (parts now : Parts D) (old c : Collector) (
 
   honest_now : d.honest parts.disk → d.honest now.disk
   honest_now honest = ((h.reads).serves).kept.0 honest
+
+  -- the calls for the index that is next are no more than those that are left
+  calls_as : (later : Parts D) → SettleCalls d now later c → d.honest parts.disk → d.calls later.disk ≤ d.calls now.disk + calls_next (d.content parts.disk) parts.catalogue.listed c (next_index c.plan)
+  calls_as later most honest =
+      subst (λ n. d.calls later.disk ≤ d.calls now.disk + n) (ap₂ (λ f q. calls_next f q c (next_index c.plan)) ((h.reads).same honest) (h.kept).catalogue) (most (honest_now honest))
+
+  pub search_most : (later : Parts D) → SettleCalls d now later c → SearchCalls d parts later old
+  search_most later most = λ honest.
+      let few = calls_as later most honest in
+      let so_far = h.calls honest in
+      let within = next_within (d.content parts.disk) parts.catalogue.listed c in
+      omega (arith, few, so_far, within)
+
+  pub search_over_most : SearchCalls d parts now old
+  search_over_most = λ honest. let so_far = h.calls honest in omega (arith, so_far)
 
   -- how the index that is next stands, by what it stood at first
   stands_as : (how : Standing) → d.honest parts.disk → StandsAt (d.content now.disk) now.catalogue.listed c 0 how → StandsAt (d.content parts.disk) parts.catalogue.listed old h.passed how
@@ -622,8 +636,9 @@ module _ {D : Type 0} (d : Ghosts D) (parts now : Parts D) (old c : Collector) (
   let_go_then (suc n) some may i at = h.let_go (omega (arith, some)) i at
 
   -- one more
-  pub passed_then : (later : Parts D) (e : Collector) (failed : Type 0) → (failed → ⊥) → OnlyReads d now.disk later.disk failed → SameKept now later → SettlesNext d now c e (Ok None) → PassesNext d now c e → HasPassed d parts later old e
-  passed_then later e failed never reads kept settles (over, stands, may) = record {
+  pub passed_then : (later : Parts D) (e : Collector) (failed : Type 0) → (failed → ⊥) → OnlyReads d now.disk later.disk failed → SameKept now later → SettlesNext d now c e (Ok None) → IsSome (next_mark c.plan) → PassesNext d now c e
+      → SettleCalls d now later c → HasPassed d parts later old e
+  passed_then later e failed never reads kept settles some (over, stands, may) most = record {
     reads = reads_then d parts.disk now.disk later.disk ⊥ failed ⊥ h.reads reads (λ no. absurd no);
     kept = record {
       catalogue = kept.catalogue ∙ (h.kept).catalogue;
@@ -639,6 +654,12 @@ module _ {D : Type 0} (d : Ghosts D) (parts now : Parts D) (old c : Collector) (
     skipped = λ honest. skipped_then honest (stands (honest_now honest));
     let_go = λ _. let_go_then h.passed refl may;
     unread = λ honest. h.unread honest ∙ sym (unread_as c honest) ∙ settles.unread (honest_now honest) ∙ unread_as e honest;
+    calls = λ honest.
+        let few = calls_as later most honest in
+        let so_far = h.calls honest in
+        let on = search_on (d.content parts.disk) parts.catalogue.listed c e some over
+        (λ i at. ap₂ (λ f q. standing f q c.pages (marked_in (c.plan).stage) i) (sym ((h.reads).same honest)) (sym (h.kept).catalogue) ∙ stands (honest_now honest) i at) in
+        omega (arith, few, so_far, on);
   }
 
   -- all are passed
@@ -738,6 +759,7 @@ passed_none d parts c = record {
   skipped = λ honest n below. absurd (omega (arith, below));
   let_go = λ more. absurd (omega (arith, more));
   unread = λ honest. refl;
+  calls = λ honest. le_refl (d.calls parts.disk + search_calls (d.content parts.disk) parts.catalogue.listed c);
 }
 
 -- ---- by what was returned
@@ -774,11 +796,11 @@ module _ {D : Type 0} (d : Ghosts D) (parts now later : Parts D) (old c e : Coll
   }
 
   -- one was passed over
-  pub search_passed : r ≡ Ok None → IsSome (next_mark c.plan) → HasPassed d parts later old e
-  search_passed is some =
+  pub search_passed : r ≡ Ok None → IsSome (next_mark c.plan) → SettleCalls d now later c → HasPassed d parts later old e
+  search_passed is some most =
       let one : SettlesNext d now c e (Ok None) = subst (SettlesNext d now c e) is settles in
       let why : IsErrOf r DiskFailed → ⊥ = λ failed. err_ok DiskFailed None (sym failed ∙ is) in
-      passed_then d parts now old c h later e (IsErrOf r DiskFailed) why reads kept one (one.passes refl some)
+      passed_then d parts now old c h later e (IsErrOf r DiskFailed) why reads kept one some (one.passes refl some) most
 
   -- one is found
   pub search_found : (digests : Vec Digest32 Global) → r ≡ Ok (Some digests) → FindsNext d parts old e (Ok (Some digests))

@@ -67,6 +67,7 @@ use Rattle.core_state.proofs.Texts.{no_memory_has_text}
 use Rattle.core_state.proofs.Touching.{same_touches}
 use Rattle.core_state.proofs.Unchanging.{same_unchanged}
 use Rattle.core_collect.specs.Beside.{StandsBeside, passed_touches}
+use Rattle.core_collect.specs.Calls.{OpenCalls}
 use Rattle.core_collect.specs.Ending.{Reports, TellsEarly, early_in, halts_early, replies_early, report_reply}
 use Rattle.core_collect.specs.Marking.{next_unreadable}
 use Rattle.core_collect.specs.Passing.{CoreFails, CorePasses, EndsWhole, FailsByPlan, PassesOrEnds}
@@ -111,6 +112,7 @@ tells_none d old new lane n answer is none = record {
   reports = λ _ four. absurd (other 4 (λ e. omega (arith, e)) (λ e. omega (arith, e)) (sym is ∙ four));
   fits = λ _ four. absurd (other 4 (λ e. omega (arith, e)) (λ e. omega (arith, e)) (sym is ∙ four));
   unread = λ _ one. absurd (other 1 (λ e. omega (arith, e)) (λ e. omega (arith, e)) (sym is ∙ one));
+  calls = λ _ one. absurd (other 1 (λ e. omega (arith, e)) (λ e. omega (arith, e)) (sym is ∙ one));
 }
   where
     other : (k : ℕ) → (2 ≡ k → ⊥) → (5 ≡ k → ⊥) → n ≡ k → ⊥
@@ -292,6 +294,7 @@ module _ {D E C : Type 0} (d : Ghosts D) (clock : clocks.Ghosts C) (old between 
         reports = λ uncut. absurd (true_false (sym cut ∙ uncut));
         fits = λ uncut. absurd (true_false (sym cut ∙ uncut));
         unread = λ uncut. absurd (true_false (sym cut ∙ uncut));
+        calls = λ uncut. absurd (true_false (sym cut ∙ uncut));
       })
 
   ended_early : is_cut lane old.collector ≡ true → TellsEarly d clock.readings old between lane answer → IfSome answer.reply ReplyHasText → IsRightStep d clock old new lane answer
@@ -412,6 +415,7 @@ module _ {D E C : Type 0} (d : Ghosts D) (clock : clocks.Ghosts C) (old mid acte
         reports = λ _ four. absurd (omega (arith, kind, four));
         fits = λ _ four. absurd (omega (arith, kind, four));
         unread = λ _ one. absurd (omega (arith, kind, one));
+        calls = λ _ one. absurd (omega (arith, kind, one));
       })
 
   -- ---- the lane's collector goes on
@@ -556,6 +560,8 @@ module _ {D E C : Type 0} (d : Ghosts D) (clock : clocks.Ghosts C) (old mid acte
           fits = λ _ four. absurd (omega (arith, kind, four));
           unread = λ _ _ honest. subst (λ o. IsSomeAnd o (λ c. path_ended new.collector ≡ next_unreadable (d.content (old.parts).disk) (old.parts).catalogue.listed c)) (sym was)
               (ap path_ended now ∙ subst (λ p. d.honest p.disk → path_ended (Some y) ≡ next_unreadable (d.content p.disk) p.catalogue.listed x) b.parts (does.unread refl) honest);
+          calls = λ _ _. subst (λ o. IsSomeAnd o (OpenCalls d old.parts new.parts)) (sym was)
+              (subst (λ p. OpenCalls d old.parts p x) (sym entered.parts) (subst (λ p. OpenCalls d p acted.parts x) b.parts (does.calls refl)));
         })
       where
         its_pass : Does (Ok None) → (h : History) → StandsFor d clock.readings old h → KeepsTouches d old h
@@ -609,6 +615,7 @@ module _ {D E C : Type 0} (d : Ghosts D) (clock : clocks.Ghosts C) (old mid acte
               (does.by_plan.0, (report, subst (λ u. Reports u.book x.plan report) b.upkeep does.by_plan.1, entered.reply_is));
           fits = λ _ _ early. subst (λ n. FitsBook (as_of n (old.upkeep).book)) (sym (ap (λ x. x.moment) entered.entry)) (fits_so (subst (λ u. NoneAfter u.book old.last) (sym b.upkeep) early));
           unread = λ _ one. absurd (omega (arith, kind, one));
+          calls = λ _ one. absurd (omega (arith, kind, one));
         })
       where
         fits_so : NoneAfter (mid.upkeep).book old.last → FitsBook (as_of m (old.upkeep).book)
@@ -707,6 +714,7 @@ module _ {D E C : Type 0} (d : Ghosts D) (clock : clocks.Ghosts C) (old mid acte
           reports = λ _ four. absurd (omega (arith, kind, four));
           fits = λ _ four. absurd (omega (arith, kind, four));
           unread = λ _ one. absurd (omega (arith, kind, one));
+          calls = λ _ one. absurd (omega (arith, kind, one));
         })
       where
         core_fails : Does (Err stops.DiskFailed) → new.parts ≡ acted.parts → CoreFails d old new x m

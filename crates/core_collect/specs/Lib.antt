@@ -1,6 +1,7 @@
 pub mod Starting
 pub mod Entries
 pub mod Marking
+pub mod Calls
 pub mod Visiting
 pub mod Ending
 pub mod Beside

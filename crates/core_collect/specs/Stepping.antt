@@ -43,6 +43,7 @@ use Rattle.core_state.specs.Unchanged.{SameKept}
 use Rattle.core_state.specs.Upkeeps.{touches_kept}
 use Rattle.core_state.specs.Wanted.{session_at}
 use Rattle.core_collect.specs.Beside.{IsSweepable, StandsBeside, passed_touches}
+use Rattle.core_collect.specs.Calls.{OpenCalls}
 use Rattle.core_collect.specs.Ending.{Reports, TellsEarly, early_in, report_reply}
 use Rattle.core_collect.specs.Marking.{next_unreadable}
 use Rattle.core_collect.specs.Passing.{CoreFails, CorePasses, EndsWhole, FailsByPlan, PassesOrEnds}
@@ -147,6 +148,7 @@ pub record CollectDoes {D : Type 0} (d : Ghosts D) (old new : Parts D) (u v : Up
   pub same : KeepsFixed c e result
   -- an honest disk's index that is next does not decode or is not as it was opened, or there is none such
   pub unread : result ≡ Ok None → d.honest old.disk → path_of_early e.ended ≡ next_unreadable (d.content old.disk) old.catalogue.listed c
+  pub calls : result ≡ Ok None → OpenCalls d old new c
   pub tells : (acts : ℕ) (s : Store) (w : Swept) → StandsBeside d old u acts (Some c) s w.touches w.sweep → IsSweepable s w
       → IsTheSweeps d new v acts e s w at.moment result × Spares s change
 
@@ -229,3 +231,5 @@ pub record StepTells {D E C : Type 0} (d : Ghosts D) (old new : Core D E C) (lan
   -- opened, and nothing else does so in a mark or a visit.
   pub unread : is_cut lane old.collector ≡ false → (answer.entry).kind ≡ PART_KIND → d.honest (old.parts).disk
       → IsSomeAnd old.collector (λ c. path_ended new.collector ≡ next_unreadable (d.content (old.parts).disk) (old.parts).catalogue.listed c)
+  -- a mark of an index whose pages are at hand reads two pages at most
+  pub calls : is_cut lane old.collector ≡ false → (answer.entry).kind ≡ PART_KIND → IsSomeAnd old.collector (OpenCalls d old.parts new.parts)

@@ -8,6 +8,9 @@ ghost use Rattle.gc_plan.specs.Plan.{mark_limit, next_mark};
 ghost use Rattle.paged_indexes.specs.Index.{HasWidth, pages_by};
 ghost use Rattle.core_state.specs.MarkedPage.{FitsLast};
 ghost use Rattle.core_state.specs.Unchanged.{SameKept};
+ghost use Rattle.index_pages.specs.Calls.{CallsAtMost};
+ghost use Rattle.paged_indexes.specs.Calls.{CallsToOpen};
+ghost use Rattle.core_collect.specs.Calls.{SearchCalls, SettleCalls, page_calls, pages_calls};
 ghost use Rattle.core_collect.specs.declared.marking.Unread.TheVariants.{DiskFailed, NoMemory, Unreadable};
 ghost use Rattle.core_collect.specs.Entries.{AreNext, HandsPage, HasPage, IsBatch, IsThePage, ReadsPage, ReadsPages, TakesKept, TakesPage, entry_digests};
 ghost use Rattle.core_collect.specs.Marking.{AreFirst, AtHand, FindsNext, IfUnreadable, KeepsLast, MarksSome, OpensFirst, PassesOver, ReadsNext, SettlesNext, UnreadBy, path_at};
@@ -111,6 +114,7 @@ fn open_first<D: Disk>(
     kind: IndexKind,
 ) -> Result<Opened, Unread>
     ensures reads { OnlyReads D.Disk disk.old disk.new (IsErrOf result DiskFailed) }
+    ensures calls { CallsToOpen D.Disk disk.old disk.new path.now kind }
     ensures exact { OpensFirst D.Disk disk.old path.now kind result }
     // on any disk
     ensures many { IfOk result (λ opened. length opened.digests.items
@@ -142,6 +146,7 @@ fn page_of<D: Disk>(
     requires place { i < page_count (pages_by pages.now).count }
     requires at_hand { FitsLast pages.now at_hand }
     ensures reads { OnlyReads D.Disk disk.old disk.new (IsErrOf result ReadFailed) }
+    ensures calls { CallsAtMost D.Disk disk.old disk.new (page_calls at_hand i) }
     ensures exact { HasPage D.Disk disk.old pages.now at_hand i result }
     // on any disk
     ensures page { IfOk result (IsThePage pages.now i) }
@@ -168,6 +173,7 @@ fn hand_on<D: Disk>(
     requires place { i < page_count (pages_by pages.now).count }
     requires at_hand { FitsLast pages.now at_hand }
     ensures reads { OnlyReads D.Disk disk.old disk.new (IsErrOf result ReadFailed) }
+    ensures calls { CallsAtMost D.Disk disk.old disk.new (page_calls at_hand i) }
     ensures exact { HandsPage D.Disk disk.old pages.now at_hand i result }
     // on any disk
     ensures taken { IfOk result (TakesPage pages.now i batch.old batch.new) }
@@ -190,6 +196,7 @@ fn take_page<D: Disk>(
     requires place { i < page_count (pages_by pages.now).count }
     requires at_hand { FitsLast pages.now at_hand }
     ensures reads { OnlyReads D.Disk disk.old disk.new (IsErrOf result DiskFailed) }
+    ensures calls { CallsAtMost D.Disk disk.old disk.new (page_calls at_hand i) }
     ensures exact { ReadsPage D.Disk disk.old path.now pages.now at_hand i result }
     // on any disk
     ensures taken { IfOk result (TakesPage pages.now i batch.old batch.new) }
@@ -215,6 +222,7 @@ fn read_pages<D: Disk>(
     requires place { first < (pages_by pages.now).count }
     requires at_hand { FitsLast pages.now at_hand }
     ensures reads { OnlyReads D.Disk disk.old disk.new (IsErrOf result DiskFailed) }
+    ensures calls { CallsAtMost D.Disk disk.old disk.new (pages_calls pages.now at_hand first) }
     ensures exact { ReadsPages D.Disk disk.old path.now pages.now at_hand first
         batch.old batch.new result }
     // on any disk
@@ -242,6 +250,8 @@ fn read_next<D: Disk>(
 ) -> Result<Vec<Digest32>, Unread>
     requires { first < (pages_by pages.old.kept).count }
     ensures reads { OnlyReads D.Disk disk.old disk.new (IsErrOf result DiskFailed) }
+    ensures calls { CallsAtMost D.Disk disk.old disk.new
+        (pages_calls pages.old.kept pages.old.last first) }
     ensures exact { ReadsNext D.Disk disk.old path.now pages.old first result }
     ensures pages { KeepsLast D.Disk disk.old pages.old pages.new first result }
     // on any disk
@@ -277,6 +287,7 @@ fn settle_next<D: Disk>(
     collector: &mut Collector,
 ) -> Result<Option<Vec<Digest32>>, Unread>
     ensures reads { OnlyReads D.Disk parts.old.disk parts.new.disk (IsErrOf result DiskFailed) }
+    ensures calls { SettleCalls D.Disk parts.old parts.new collector.old }
     ensures kept { SameKept parts.old parts.new }
     ensures next { SettlesNext D.Disk parts.old collector.old collector.new result }
 {
@@ -315,6 +326,7 @@ pub fn find_next<D: Disk>(
     collector: &mut Collector,
 ) -> Result<Option<Vec<Digest32>>, Unread>
     ensures reads { OnlyReads D.Disk parts.old.disk parts.new.disk (IsErrOf result DiskFailed) }
+    ensures calls { SearchCalls D.Disk parts.old parts.new collector.old }
     ensures kept { SameKept parts.old parts.new }
     ensures next { FindsNext D.Disk parts.old collector.old collector.new result }
 {

@@ -25,3 +25,4 @@ pub mod Rowed
 pub mod Ranging
 pub mod RangeKept
 pub mod RangeTold
+pub mod Called

@@ -2,6 +2,8 @@
 
 ghost use Rattle.std.specs.Prelude.{◌≡◌, ◌<◌, ◌≤◌, IfErr, IfOk, IsErrOf, MatchResult, OnOk, OnErr, Some, length, string_bytes};
 ghost use Rattle.wire_commands.specs.declared.command.Command.TheVariants.{Download};
+ghost use Rattle.snapshot_files.specs.Calls.{CallsForPart};
+ghost use Rattle.core_state.specs.Calls.{ActCalls};
 ghost use Rattle.core_state.specs.Commands.{PlainDoes, PlainLeaves};
 ghost use Rattle.core_state.specs.Unreadables.{ActUnreadable};
 ghost use Rattle.store_stops.specs.declared.stop.Stop.TheVariants.{DiskFailed};
@@ -98,6 +100,7 @@ fn read_table<D: Disk>(
 ) -> Result<Given, Stop>
     requires { length path.now ≤ 255 }
     ensures reads { OnlyReads D.Disk disk.old disk.new (IsErrOf result DiskFailed) }
+    ensures calls { CallsForPart D.Disk disk.old disk.new path.now (Some kind) }
     ensures exact { ReadsTable D.Disk disk.old path.now kind offset result }
     ensures kind { IfErr result (IfRefused (RefusesPart path.now)) }
     ensures text { MatchResult result (λ g. PartHasText g.part) StopHasText }
@@ -127,6 +130,8 @@ pub fn download<D: Disk>(
     requires { at.lane < 64 }
     ensures does { PlainDoes D.Disk parts.old parts.new at (Download file.now offset) result }
     ensures leaves { PlainLeaves D.Disk parts.old parts.new at (Download file.now offset) result }
+    // no file is read that is not asked for, and none twice
+    ensures calls { ActCalls D.Disk (asked_download file.now offset) parts.old parts.new at }
     // it is unreadable exactly where nothing stands there, or where what is read whole is no index, as far as the disk tells
     ensures unreadable { ActUnreadable D.Disk (asked_download file.now offset) parts.old at result }
     // what is noted of an index that was read whole is what was opened and read

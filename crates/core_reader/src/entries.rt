@@ -9,9 +9,12 @@ ghost use Rattle.snapshot_files.specs.Parts.{RefusesPart};
 ghost use Rattle.snapshot_files.specs.Reads.{StopHasText};
 ghost use Rattle.store_stops.specs.Stops.{IfRefused};
 ghost use Rattle.store_stops.specs.declared.stop.Stop.TheVariants.{DiskFailed};
+ghost use Rattle.index_pages.specs.Calls.{CallsAtMost};
+ghost use Rattle.paged_indexes.specs.Calls.{CallsToOpen};
+ghost use Rattle.snapshot_files.specs.Indexes.{kind_of_index};
 ghost use Rattle.core_state.specs.Indexed.{open_of};
 ghost use Rattle.core_reader.specs.Entries.{IsFirst, IsNext, IsPageFor, IsTurn, at_hand, count_of, turned, want_entry};
-ghost use Rattle.core_reader.specs.EntryReads.{FindsBy, FindsFirst, FindsNext, GivesDigest, GivesPage, IsTaken};
+ghost use Rattle.core_reader.specs.EntryReads.{CallsForEntry, FindsBy, FindsFirst, FindsNext, GivesDigest, GivesPage, IsTaken, calls_beside};
 ghost use Rattle.core_reader.specs.declared.entries.Turn.TheVariants.{ToIndex};
 
 use crate::paging::page_entries;
@@ -90,6 +93,7 @@ fn read_page<D: Disk>(
     requires path { length path.now ≤ 255 }
     requires place { place < count_of pages.now }
     ensures reads { OnlyReads D.Disk disk.old disk.new (IsErrOf result DiskFailed) }
+    ensures calls { CallsAtMost D.Disk disk.old disk.new 1 }
     ensures exact { GivesPage D.Disk disk.old path.now pages.now place result }
     // on any disk
     ensures page { IfOk result (IsPageFor pages.now name.now place) }
@@ -141,6 +145,7 @@ fn find_first<D: Disk>(
 ) -> Result<Found, Stop>
     requires { length path.now ≤ 255 }
     ensures reads { OnlyReads D.Disk disk.old disk.new (IsErrOf result DiskFailed) }
+    ensures calls { CallsToOpen D.Disk disk.old disk.new path.now (kind_of_index name.now) }
     ensures exact { FindsFirst D.Disk disk.old path.now name.now place result }
     // on any disk
     ensures turn { IfOk result (λ found. IsFirst name.now place found.turn) }
@@ -179,6 +184,8 @@ fn find_next<D: Disk>(
 ) -> Result<Found, Stop>
     requires { length path.now ≤ 255 }
     ensures reads { OnlyReads D.Disk disk.old disk.new (IsErrOf result DiskFailed) }
+    ensures calls { CallsAtMost D.Disk disk.old disk.new
+        (calls_beside (option_map (λ p. p.now) at_hand.entry)) }
     ensures exact { FindsNext D.Disk disk.old path.now
         pages.now (option_map (λ p. p.now) at_hand.entry) place result }
     // on any disk
@@ -245,6 +252,7 @@ pub fn find_entry<D: Disk>(
 ) -> Result<Found, Stop>
     requires { length path.now ≤ 255 }
     ensures reads { OnlyReads D.Disk disk.old disk.new (IsErrOf result DiskFailed) }
+    ensures calls { CallsForEntry D.Disk disk.old disk.new path.now row.now name.now place }
     ensures exact { FindsBy D.Disk disk.old path.now row.now name.now place result }
     // on any disk
     ensures turn { IfOk result (λ found. IsTurn row.now name.now place found.turn) }

@@ -1,6 +1,7 @@
 //! A range of an archive: its front by the page at hand, the rest page by page of its index.
 
 ghost use Rattle.std.specs.Prelude.{◌≡◌, ◌<◌, ◌≤◌, ◌+◌, ◌-◌, IfOk, IfErr, IsErrOf, OnOk, length, option_map};
+ghost use Rattle.disk_trait.specs.Disk.{TicksOnce};
 ghost use Rattle.disk_trait.specs.Effects.{OnlyReads};
 ghost use Rattle.index_pages.specs.Paged.{page_count};
 ghost use Rattle.paged_indexes.specs.Index.{pages_by};
@@ -49,6 +50,7 @@ pub fn page_entries<D: Disk>(
     requires path { length path.now ≤ 255 }
     requires place { i < page_count (pages_by pages.now).count }
     ensures reads { OnlyReads D.Disk disk.old disk.new (IsErrOf result DiskFailed) }
+    ensures calls { TicksOnce D.honest D.calls disk.old disk.new }
     ensures exact { GivesEntries D.Disk disk.old path.now pages.now i result }
     // a page of an index that stands there is read
     ensures whole { ReadsWhole D.Disk disk.old pages.now result }
@@ -76,6 +78,7 @@ fn read_next<D: Disk>(
     requires path { length path.now ≤ 255 }
     requires place { i < page_count (pages_by pages.now).count }
     ensures reads { OnlyReads D.Disk disk.old disk.new (IsErrOf result DiskFailed) }
+    ensures calls { TicksOnce D.honest D.calls disk.old disk.new }
     ensures exact { GivesReadPage D.Disk disk.old (ranged path.now pages.now) i result }
     ensures whole { ReadsWhole D.Disk disk.old pages.now result }
     // on any disk

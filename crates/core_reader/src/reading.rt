@@ -3,6 +3,7 @@
 ghost use Rattle.std.specs.Prelude.{◌≡◌, ◌<◌, ◌≤◌, IfOk, IsErrOf, OnErr, OnOk, IsTrue, length, string_bytes};
 ghost use Rattle.store_types.specs.FileNames.{is_file_name};
 ghost use Rattle.store_history.specs.declared.act.Act.TheVariants.{ReadChunk, ReadFile};
+ghost use Rattle.core_state.specs.Calls.{ActCalls};
 ghost use Rattle.core_state.specs.Commands.{ActDoes, ActLeaves};
 ghost use Rattle.core_state.specs.Indexed.{row_at};
 ghost use Rattle.core_state.specs.Unreadables.{ActUnreadable};
@@ -56,6 +57,8 @@ pub fn read_file<D: Disk>(
     ensures leaves { ActLeaves D.Disk parts.old parts.new at (ReadFile name.now offset) result }
     // on an honest disk, whatever it holds, it is the part that stands there, or the refusal
     ensures by_disk { ActReads D.Disk (part_told name.now offset) parts.old at result }
+    // no file is read that is not asked for, and none twice
+    ensures calls { ActCalls D.Disk (asked_part name.now offset) parts.old parts.new at }
     // it is unreadable exactly where nothing stands there, as far as the disk tells
     ensures unreadable { ActUnreadable D.Disk (asked_part name.now offset) parts.old at result }
 {
@@ -85,8 +88,8 @@ fn keep_found(
 
 /// The bytes of the chunk at an entry of an index of the reader's snapshot, as they stand on the disk: whether they are
 /// the blob of a piece with its digest is tested outside of the act. The index is opened where the lane does not have it
-/// open, and the page that has the entry is read where it is not at hand. The lane keeps both where the chunk is read, or
-/// damaged: all indexes that were opened so, and the page that was read last.
+/// open, and its page is taken from the opening; else that page is read where it is not at hand. The lane keeps both where
+/// the chunk is read, or damaged: all indexes that were opened so, and the page that was read last.
 ///
 /// The refusals, in the order in which they are tested: the lane has no reader; the name is no index's, or the snapshot
 /// has no such file; the index, as it is opened, isn't there or is none, which is unreadable; it has no such entry; the

@@ -29,6 +29,7 @@ pub mod Found
 pub mod KeptPages
 pub mod Naming
 pub mod Unreadables
+pub mod Asking
 pub mod Readers
 pub mod Commanding
 pub mod Calls

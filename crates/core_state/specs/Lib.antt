@@ -29,6 +29,7 @@ pub mod Catalogued
 pub mod Changes
 pub mod Listing
 pub mod Unreadables
+pub mod Calls
 pub mod Stops
 pub mod Remotes
 pub mod Wanted

@@ -31,6 +31,7 @@ use Rattle.store_model.specs.ReaderSteps.{content_at}
 use Rattle.store_model.specs.WriterSteps.{previous, base_of, goes_on, with_pool, part_of}
 use Rattle.store_files.specs.DynamicIndex.{Ended}
 use Rattle.known_chunks.specs.Lengths.{Lengths}
+use Rattle.snapshot_files.specs.Calls.{CallsForPart}
 use Rattle.snapshot_files.specs.Reads.{StopHasText}
 use Rattle.snapshot_files.specs.Parts.{part_at, part_from, part_reply, IsPart, RefusesPart}
 use Rattle.store_stops.specs.declared.stop.Stop.{Stop}
@@ -65,6 +66,7 @@ use Rattle.core_state.specs.Named.{has_text, is_named}
 use Rattle.core_state.specs.Shown.{files_named, shown_snapshot, shown_writer, shown_files}
 use Rattle.core_state.specs.Replies.{answers_previous, refuses_previous}
 use Rattle.core_state.specs.Unchanged.{SameKept, is_uncalled}
+use Rattle.core_state.specs.Calls.{CallsForAsked}
 use Rattle.core_state.specs.Unreadables.{Asked, TellsUnreadable, from_offset, read_by}
 use Rattle.wire_commands.specs.HasText.{ReplyHasText}
 use Rattle.store_history.specs.declared.act.Act.{Act}
@@ -76,6 +78,7 @@ use Rattle.core_state.proofs.Texts.{bad_name_has_text}
 use Rattle.core_uploads.proofs.SteppedLemmas.{false_true}
 use Rattle.core_state.proofs.Chunks.{adds_same}
 use Rattle.core_state.proofs.Commanding.{refused_does, refused_leaves, same_kept, short_does, short_leaves, stopped_does, stopped_leaves, unwritten_by_state, writer_shown, writes_does, writes_leaves}
+use Rattle.core_state.proofs.Asking.{called}
 use Rattle.core_state.proofs.Unreadables.{refusal_called, tells_failed, tells_other, tells_read}
 use Rattle.core_state.proofs.Finding.{mapped, found_in}
 use Rattle.core_state.proofs.Found.{IsThere, kept_is, not_kept, is_there, not_there, there_named, there_text, there_kind, there_fits}
@@ -641,6 +644,10 @@ module _ {D : Type 0} (d : Ghosts D) (disk : D) (row : Indexes) (name : List ℕ
 
     pub tells_given : (g : Given) → IsPart (part_reply g.part) → (d.honest disk → previous_by (whole_for row name) (d.content disk) path offset ≡ Ok (shown_given g)) → TellsSo d disk asks (Ok (part_reply g.part))
     tells_given g kind exact = tells_read d disk asks a (Ok (part_reply g.part)) asked_is kind (λ honest. part_is (d.content disk) path (whole_for row name) offset (shown_given g) (exact honest))
+
+    -- and its part was asked for
+    pub reads_asked : (new : D) → CallsForPart d disk new path (whole_for row name) → CallsForAsked d disk new asks
+    reads_asked new calls = called d disk new asks path (whole_for row name) offset asked_is calls
 
 pub base_of_shown : (v : Writer) (w : Writing) → shown_writer v ≡ w → v.base ≡ ((w.session).writer).base
 unfolding shown

@@ -5,6 +5,8 @@ ghost use Rattle.disk_trait.specs.Effects.{OnlyReads};
 ghost use Rattle.wire_commands.specs.HasText.{ReplyHasText};
 ghost use Rattle.wire_commands.specs.declared.command.Command.TheVariants.{Previous};
 ghost use Rattle.wire_commands.specs.declared.reply.Reply.TheVariants.{Refused};
+ghost use Rattle.snapshot_files.specs.Calls.{CallsForPart};
+ghost use Rattle.core_state.specs.Calls.{ActCalls};
 ghost use Rattle.snapshot_files.specs.Indexes.{lengths_from};
 ghost use Rattle.snapshot_files.specs.Parts.{PartHasText, RefusesPart};
 ghost use Rattle.snapshot_files.specs.Reads.{StopHasText};
@@ -74,6 +76,7 @@ fn read_whole<D: Disk>(
     offset: u64,
 ) -> Result<Given, Stop>
     ensures reads { OnlyReads D.Disk disk.old disk.new (IsErrOf result Stop.DiskFailed) }
+    ensures calls { CallsForPart D.Disk disk.old disk.new path.now (Some kind) }
     ensures exact { GivesPrevious D.Disk disk.old path.now (Some kind) offset result }
     ensures kind { IfErr result (IfRefused (RefusesPart path.now)) }
     ensures text { MatchResult result (λ g. PartHasText g.part) StopHasText }
@@ -108,6 +111,7 @@ fn read_file<D: Disk>(
     offset: u64,
 ) -> Result<Given, Stop>
     ensures reads { OnlyReads D.Disk disk.old disk.new (IsErrOf result Stop.DiskFailed) }
+    ensures calls { CallsForPart D.Disk disk.old disk.new path.now whole }
     ensures exact { GivesPrevious D.Disk disk.old path.now whole offset result }
     ensures kind { IfErr result (IfRefused (RefusesPart path.now)) }
     ensures text { MatchResult result (λ g. PartHasText g.part) StopHasText }
@@ -180,6 +184,9 @@ pub fn previous<D: Disk>(
     requires { at.lane < 64 }
     ensures does { PlainDoes D.Disk parts.old parts.new at (Previous name.now offset) result }
     ensures leaves { PlainLeaves D.Disk parts.old parts.new at (Previous name.now offset) result }
+    // no file is read that is not asked for, and none twice
+    ensures calls { ActCalls D.Disk
+        (asked_of_base (row_at parts.old at.lane) name.now offset) parts.old parts.new at }
     // it is unreadable exactly where it is, as far as the disk tells
     ensures unreadable { ActUnreadable D.Disk
         (asked_of_base (row_at parts.old at.lane) name.now offset) parts.old at result }

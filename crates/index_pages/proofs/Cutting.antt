@@ -10,7 +10,7 @@ use Rattle.index_pages.specs.declared.opening.Opening.{Opening}
 use Rattle.index_pages.specs.declared.opening.Body.{Body}
 use Rattle.index_pages.specs.Opening.{AreBytes, Begins, ClosesAt, HasPages, HasRead, IsBody, NotesPage, noted_sum, page_of}
 use Rattle.index_pages.specs.Paged.{IsWidth, entries_at, first_sums, front_of, page_count, page_size, page_sum}
-use Rattle.index_pages.specs.States.{state_after}
+use Rattle.hash_states.specs.States.{state_after}
 
 -- by both widths
 pub by_width : (P : ℕ → Type 0) (width : ℕ) → IsWidth width → P 32 → P 40 → P width

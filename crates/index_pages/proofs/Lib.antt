@@ -1,4 +1,5 @@
-pub mod States
+pub mod Noting
+pub mod Calling
 pub mod Carried
 pub mod Cutting
 pub mod Filled

@@ -13,10 +13,10 @@ use Rattle.index_pages.specs.declared.fault.PageFault.TheVariants.{Changed}
 use Rattle.index_pages.specs.declared.state.PageSum.{PageSum}
 use Rattle.index_pages.specs.Opening.{page_of}
 use Rattle.index_pages.specs.Paged.{IsOfBytes, IsPageOf, IsWidth, Paged, count_of, entries_at, first_sums, front_of, has_sum, is_kept, no_sum, page_at, page_count, page_in, page_len, page_size, page_sum, page_text, paged, sum_at}
-use Rattle.index_pages.specs.States.{absorb, digest_of, state_after}
+use Rattle.hash_states.specs.States.{absorb, digest_of, state_after}
 use Rattle.index_pages.proofs.Cutting.{front_more, inside}
 use Rattle.index_pages.proofs.Filled.{kept_is}
-use Rattle.index_pages.proofs.States.{absorb_is, digest_is}
+use Rattle.hash_states.proofs.States.{absorb_is, digest_is}
 
 -- a page by its bytes behind the header
 pub page_text_is : (width : ℕ) (name text : List ℕ) (i : ℕ) → page_text (paged width name text) i text ≡ page_of width (count_of width text) i (drop 4096 text)

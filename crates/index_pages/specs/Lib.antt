@@ -1,4 +1,4 @@
 pub mod Paged
 pub mod Gives
-pub mod States
+pub mod Calls
 pub mod Opening

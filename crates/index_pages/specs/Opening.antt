@@ -15,7 +15,7 @@ use Rattle.index_pages.specs.declared.head.Head.{Head}
 use Rattle.index_pages.specs.Gives.{Gives}
 use Rattle.index_pages.specs.declared.state.PageSum.{PageSum}
 use Rattle.index_pages.specs.Paged.{entries_at, first_sums, front_of, page_count, page_size}
-use Rattle.index_pages.specs.States.{state_after}
+use Rattle.hash_states.specs.States.{state_after}
 
 -- ---- what an opening tells
 

@@ -11,7 +11,7 @@ use Rattle.index_pages.specs.declared.fault.PageFault.{PageFault}
 use Rattle.index_pages.specs.declared.fault.PageFault.TheVariants.{Missing, Changed}
 use Rattle.index_pages.specs.declared.state.PageSum.{PageSum}
 use Rattle.index_pages.specs.Gives.{Gives}
-use Rattle.index_pages.specs.States.{absorb, digest_of, state_after}
+use Rattle.hash_states.specs.States.{absorb, digest_of, state_after}
 
 -- where it stands, how wide its entries are and how many there are; of each page the state of the SHA-256 of all entries
 -- before it, and that SHA-256 at its end

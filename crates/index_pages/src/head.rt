@@ -1,10 +1,12 @@
 //! The front of an index's file.
 
 ghost use Rattle.std.specs.Prelude.{◌≡◌, ◌+◌, ◌≤◌, IfOk, IsErrOf, slice_range};
+ghost use Rattle.std.specs.FinMap.{get};
 ghost use Rattle.std.specs.Int.{w64, from_le_bytes};
 ghost use Rattle.std.specs.Str.{bytes_eq};
 ghost use Rattle.disk_trait.specs.Effects.{OnlyReads};
 ghost use Rattle.index_pages.specs.declared.fault.PageFault.TheVariants.{Failed as ReadFailed};
+ghost use Rattle.index_pages.specs.Calls.{CallsAtMost, head_calls};
 ghost use Rattle.index_pages.specs.Opening.{ReadsHead, count_told};
 ghost use Rattle.index_pages.specs.Paged.{IsWidth};
 
@@ -42,6 +44,8 @@ impl Head {
 /// The front of the file at the name. It is none of an index where the file is shorter than a header.
 pub fn read_head<D: Disk>(disk: &mut D, name: &str, room: &mut Page) -> Result<Head, PageFault>
     ensures reads { OnlyReads D.Disk disk.old disk.new (IsErrOf result ReadFailed) }
+    ensures calls { CallsAtMost D.Disk disk.old disk.new
+        (head_calls (get (D.content disk.old) name.now)) }
     ensures exact { ReadsHead D.Disk disk.old name.now result }
     // on any disk
     ensures long { IfOk result (λ head. 4096 ≤ head.size) }

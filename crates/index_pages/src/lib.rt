@@ -15,7 +15,7 @@ pub use head::{Head, count_in, read_head};
 pub use opening::{Body, Opening};
 pub use page::Page;
 pub use pages::{Pages, pages_in};
-pub use state::{HashState, PageSum};
+pub use state::{PageState, PageSum};
 pub use store_files::IndexFault;
 
 /// The bytes before the entries.

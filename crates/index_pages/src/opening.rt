@@ -8,8 +8,9 @@ ghost use Rattle.index_pages.specs.Opening.{AreBytes, Begins, ClosesAt, NotesPag
 ghost use Rattle.index_pages.specs.Paged.{IsWidth, entries_at, page_count};
 
 use crate::pages::entries_in;
-use crate::{HEADER_SIZE, HashState, PAGE_ENTRIES, Page, PageFault, PageSum};
+use crate::{HEADER_SIZE, PAGE_ENTRIES, Page, PageFault, PageSum};
 use disk_trait::Disk;
+use hash_states::HashState;
 use std::alloc::{AllocError, Global};
 use store_files::IndexFault;
 
@@ -90,8 +91,7 @@ impl Opening {
         ensures len { length result.sums.items ≡ length self.sums.items }
     {
         let Opening { sums, state } = self;
-        let digest = state.digest();
-        let csum = digest.0;
+        let csum = state.digest();
         Body { sums, csum }
     }
 }

@@ -1,75 +1,56 @@
-//! A SHA-256 that goes on.
+//! What an opening keeps of a page.
 
-ghost use Rattle.std.specs.Prelude.{◌≡◌, []};
-ghost use Rattle.index_pages.specs.States.{absorb, digest_of, state_after};
+ghost use Rattle.std.specs.Prelude.{◌≡◌};
+ghost use Rattle.hash_states.specs.States.{absorb, digest_of};
 
-use sha2::{Digest, Sha256};
+use hash_states::{HashState, Quarters};
 use std::marker::Model;
 use store_types::Digest32;
 
-/// The state of a SHA-256 behind some bytes, as contracts see it. More bytes may come.
+/// The state of the SHA-256 of all entries before a page, as contracts see it. By the hash values within the page, which it
+/// holds besides, the page's bytes are hashed again in four quarters side by side.
 #[derive(Drop)]
-pub struct HashState {
-    hasher: Sha256,
+pub struct PageState {
+    state: HashState,
+    quarters: Quarters,
 }
 
-impl Model for HashState {
-    ghost use Rattle.index_pages.specs.States.{State, IsState, state_of};
+impl Model for PageState {
+    ghost use Rattle.hash_states.specs.States.{State};
 
     ghost Value = { State };
 
-    ghost view = { λ s. state_of s.hasher };
-
-    ghost invariant = { λ s. IsState s.hasher };
+    ghost view = { λ s. s.state };
 }
 
-fn copy_of(hasher: &Sha256) -> Sha256
-    ensures { result ≡ hasher.now }
-{
-    let Ok(copy) = hasher.clone() else {
-        unreachable!()
-    };
-    copy
-}
-
-impl HashState {
-    /// Before the first byte.
-    pub fn new() -> HashState
-        ensures { result ≡ state_after [] }
+impl PageState {
+    // Of a page behind a state, which takes its bytes in.
+    fn of(state: &mut HashState, bytes: &[u8]) -> PageState
+        ensures before { result ≡ state.old }
+        ensures state { state.new ≡ absorb state.old bytes.now }
     {
-        HashState {
-            hasher: Sha256::new(),
+        let before = state.copy();
+        let quarters = state.update_noting(bytes);
+        PageState {
+            state: before,
+            quarters,
         }
     }
 
-    /// The same state once more.
-    pub fn copy(&self) -> HashState
-        ensures { result ≡ self.now }
+    // The SHA-256 of all entries to the page's end, where these are its bytes.
+    fn digest_with(&self, bytes: &[u8]) -> [u8; 32]
+        ensures { result ≡ digest_of (absorb self.now bytes.now) }
     {
-        HashState {
-            hasher: copy_of(&self.hasher),
-        }
-    }
-
-    /// Takes more bytes in.
-    pub fn update(&mut self, bytes: &[u8])
-        ensures { self.new ≡ absorb self.old bytes.now }
-    {
-        self.hasher.update(bytes);
-    }
-
-    /// The SHA-256 of the bytes so far.
-    pub fn digest(&self) -> Digest32
-        ensures { result.0 ≡ digest_of self.now }
-    {
-        Digest32(copy_of(&self.hasher).finalize())
+        let mut state = self.state.copy();
+        state.update_by(bytes, &self.quarters);
+        state.digest()
     }
 }
 
 /// What an opening keeps of a page: the state of the SHA-256 of all entries before it, and that SHA-256 at its end.
 #[derive(Drop)]
 pub struct PageSum {
-    before: HashState,
+    before: PageState,
     sum: Digest32,
 }
 
@@ -82,9 +63,8 @@ impl PageSum {
         ensures sum { (result.sum).0 ≡ digest_of (absorb state.old bytes.now) }
         ensures state { state.new ≡ absorb state.old bytes.now }
     {
-        let before = state.copy();
-        state.update(bytes);
-        let sum = state.digest();
+        let before = PageState::of(state, bytes);
+        let sum = Digest32(state.digest());
         PageSum { before, sum }
     }
 
@@ -92,9 +72,7 @@ impl PageSum {
     pub(crate) fn has(&self, bytes: &[u8]) -> bool
         ensures { result ≡ has_sum self.now bytes.now }
     {
-        let mut state = self.before.copy();
-        state.update(bytes);
-        let found = state.digest();
-        found.0.as_slice() == self.sum.0.as_slice()
+        let found = self.before.digest_with(bytes);
+        found.as_slice() == self.sum.0.as_slice()
     }
 }

@@ -5,3 +5,4 @@ pub mod Fixed
 pub mod Reading
 pub mod Index
 pub mod Laws
+pub mod Calls

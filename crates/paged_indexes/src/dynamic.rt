@@ -4,6 +4,8 @@ ghost use Rattle.std.specs.Prelude.{◌≡◌, ◌<◌, ◌≤◌, [], length, I
 ghost use Rattle.disk_trait.specs.Disk.{TicksOnce};
 ghost use Rattle.disk_trait.specs.Effects.{OnlyReads};
 ghost use Rattle.index_pages.specs.declared.fault.PageFault.TheVariants.{Failed as ReadFailed, NoMemory as NoRoom};
+ghost use Rattle.paged_indexes.specs.Calls.{CallsToOpen};
+ghost use Rattle.paged_indexes.specs.declared.kinds.IndexKind.TheVariants as Kind;
 ghost use Rattle.index_pages.specs.Paged.{IsOfBytes, ReadsPage, is_kept, page_count};
 ghost use Rattle.paged_indexes.specs.Dynamic.{CallsOnceAtMost, FindsChunk, OpensDynamic, dynamic_entries, dynamic_told, size_by, start_in};
 ghost use Rattle.paged_indexes.specs.Handing.{HandsSome, HandsThose, HandsTold};
@@ -50,6 +52,7 @@ impl DynamicPages {
         name: &str,
     ) -> Result<DynamicPages, PageFault>
         ensures reads { OnlyReads D.Disk disk.old disk.new (IsErrOf result ReadFailed) }
+        ensures calls { CallsToOpen D.Disk disk.old disk.new name.now Kind.Dynamic }
         ensures exact { OpensDynamic D.Disk disk.old name.now result }
     {
         DynamicPages::open_into(disk, alloc, name, &mut Nothing)
@@ -63,6 +66,7 @@ impl DynamicPages {
         taker: &mut T,
     ) -> Result<DynamicPages, PageFault>
         ensures reads { OnlyReads D.Disk disk.old disk.new (IsErrOf result ReadFailed) }
+        ensures calls { CallsToOpen D.Disk disk.old disk.new name.now Kind.Dynamic }
         ensures exact { OpensDynamic D.Disk disk.old name.now result }
         ensures those { IfOk result (λ _. HandsThose D.Disk disk.old name.now
             dynamic_entries T.taken taker.old taker.new) }

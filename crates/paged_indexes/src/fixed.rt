@@ -4,6 +4,9 @@ ghost use Rattle.std.specs.Prelude.{◌≡◌, ◌<◌, ◌≤◌, [], length, I
 ghost use Rattle.disk_trait.specs.Disk.{TicksOnce};
 ghost use Rattle.disk_trait.specs.Effects.{OnlyReads};
 ghost use Rattle.index_pages.specs.declared.fault.PageFault.TheVariants.{Failed as ReadFailed, NoMemory as NoRoom};
+ghost use Rattle.index_pages.specs.Calls.{CallsAtMost};
+ghost use Rattle.paged_indexes.specs.Calls.{CallsToOpen};
+ghost use Rattle.paged_indexes.specs.declared.kinds.IndexKind.TheVariants as Kind;
 ghost use Rattle.index_pages.specs.Paged.{IsOfBytes, ReadsPage, is_kept, page_count, page_len};
 ghost use Rattle.paged_indexes.specs.Fixed.{Cuts, OpensFixed, chunk_in, fixed_entries, fixed_told, page_with as page_of, sizes_agree, start_in};
 ghost use Rattle.paged_indexes.specs.Handing.{HandsSome, HandsThose, HandsTold};
@@ -51,6 +54,7 @@ impl FixedPages {
         name: &str,
     ) -> Result<FixedPages, PageFault>
         ensures reads { OnlyReads D.Disk disk.old disk.new (IsErrOf result ReadFailed) }
+        ensures calls { CallsToOpen D.Disk disk.old disk.new name.now Kind.Fixed }
         ensures exact { OpensFixed D.Disk disk.old name.now result }
     {
         FixedPages::open_into(disk, alloc, name, &mut Nothing)
@@ -64,6 +68,7 @@ impl FixedPages {
         taker: &mut T,
     ) -> Result<FixedPages, PageFault>
         ensures reads { OnlyReads D.Disk disk.old disk.new (IsErrOf result ReadFailed) }
+        ensures calls { CallsToOpen D.Disk disk.old disk.new name.now Kind.Fixed }
         ensures exact { OpensFixed D.Disk disk.old name.now result }
         ensures those { IfOk result (λ _. HandsThose D.Disk disk.old name.now
             fixed_entries T.taken taker.old taker.new) }
@@ -210,6 +215,7 @@ fn read_body<D: Disk, T: TakesEntries>(
     requires limit { count ≤ 1_048_576 }
     requires cuts { Cuts cut 0 count }
     ensures reads { OnlyReads D.Disk disk.old disk.new (IsErrOf result ReadFailed) }
+    ensures calls { CallsAtMost D.Disk disk.old disk.new (page_count count) }
     ensures exact { ReadsFixedBody D.Disk disk.old name.now count result }
     ensures those { IfOk result (λ _. HandsFixedBody D.Disk disk.old name.now count
         cut T.taken taker.old taker.new) }

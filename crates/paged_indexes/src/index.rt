@@ -4,6 +4,7 @@ ghost use Rattle.std.specs.Prelude.{◌≡◌, ◌<◌, ◌≤◌, [], length, I
 ghost use Rattle.disk_trait.specs.Disk.{TicksOnce};
 ghost use Rattle.disk_trait.specs.Effects.{OnlyReads};
 ghost use Rattle.index_pages.specs.declared.fault.PageFault.TheVariants.{Failed as ReadFailed, NoMemory as NoRoom};
+ghost use Rattle.paged_indexes.specs.Calls.{CallsToOpen};
 ghost use Rattle.index_pages.specs.Paged.{IsOfBytes, ReadsPage, is_kept, page_count, page_len};
 ghost use Rattle.paged_indexes.specs.Handing.{HandsSome, HandsTold};
 ghost use Rattle.paged_indexes.specs.Index.{HandsEntries, HandsKept, HasWidth, OpensIndex, ReadsInto, page_with as page_of, pages_by, size_by, start_by, told_by};
@@ -34,6 +35,7 @@ impl IndexPages {
         taker: &mut T,
     ) -> Result<IndexPages, PageFault>
         ensures reads { OnlyReads D.Disk disk.old disk.new (IsErrOf result ReadFailed) }
+        ensures calls { CallsToOpen D.Disk disk.old disk.new name.now kind }
         ensures exact { OpensIndex D.Disk disk.old name.now kind result }
         ensures those { IfOk result (λ _. HandsEntries D.Disk disk.old name.now kind
             T.taken taker.old taker.new) }

@@ -2,8 +2,10 @@
 
 ghost use Rattle.std.specs.Prelude.{◌≡◌, ◌<◌, ◌≤◌, ◌+◌, [], length, IfOk, OnOk, IsErrOf};
 ghost use Rattle.std.specs.List.Sorted.{IsNonDecreasingBy};
+ghost use Rattle.disk_trait.specs.Disk.{TicksOnce};
 ghost use Rattle.disk_trait.specs.Effects.{OnlyReads};
 ghost use Rattle.index_pages.specs.declared.fault.PageFault.TheVariants.{Failed as ReadFailed};
+ghost use Rattle.index_pages.specs.Calls.{CallsAtMost};
 ghost use Rattle.index_pages.specs.Opening.{Begins};
 ghost use Rattle.index_pages.specs.Paged.{page_count};
 ghost use Rattle.paged_indexes.specs.Reading.{EndsRise, HandsBody, HandsPage, ReadsBody, ReadsSome, TakesPage, sums_of};
@@ -64,6 +66,7 @@ impl Reading {
         requires limit { count ≤ 1_048_576 }
         requires place { i < page_count count }
         ensures reads { OnlyReads D.Disk disk.old disk.new (IsErrOf result ReadFailed) }
+        ensures calls { TicksOnce D.honest D.calls disk.old disk.new }
         ensures takes { TakesPage D.Disk disk.old name.now count i
             self.old self.new room.new result }
         // on any disk
@@ -96,6 +99,7 @@ pub fn read_body<D: Disk, T: TakesEntries>(
 ) -> Result<DynamicBody, PageFault>
     requires { count ≤ 1_048_576 }
     ensures reads { OnlyReads D.Disk disk.old disk.new (IsErrOf result ReadFailed) }
+    ensures calls { CallsAtMost D.Disk disk.old disk.new (page_count count) }
     ensures exact { ReadsBody D.Disk disk.old name.now count result }
     // on any disk
     ensures sums { IfOk result (λ b. length b.body.sums.items ≡ page_count count) }

@@ -1,5 +1,6 @@
 mod Texts
 mod PartLemmas
+mod Calling
 pub mod Indexed
 pub mod Opened
 pub mod Archives

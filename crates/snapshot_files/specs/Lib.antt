@@ -3,6 +3,7 @@ pub mod Forgotten
 pub mod Indexes
 pub mod Parts
 pub mod Reads
+pub mod Calls
 pub mod Scanned
 pub mod Standing
 pub mod Grouped

@@ -1,9 +1,11 @@
 //! Indexes of snapshots, read page by page.
 
-ghost use Rattle.std.specs.Prelude.{◌≡◌, ◌<◌, ◌≤◌, IfErr, IfOk, IsErrOf, MatchResult, length};
+ghost use Rattle.std.specs.Prelude.{◌≡◌, ◌<◌, ◌≤◌, IfErr, IfOk, IsErrOf, MatchResult, Some, length};
 ghost use Rattle.disk_trait.specs.Disk.{TicksOnce};
 ghost use Rattle.disk_trait.specs.Effects.{OnlyReads};
 ghost use Rattle.store_types.specs.declared.refusal.Refusal.TheVariants.{Unreadable as UnreadableAt};
+ghost use Rattle.paged_indexes.specs.Calls.{CallsToOpen};
+ghost use Rattle.snapshot_files.specs.Calls.{CallsForPart};
 ghost use Rattle.paged_indexes.specs.Handing.{HandsSome};
 ghost use Rattle.index_pages.specs.Paged.{page_count};
 ghost use Rattle.paged_indexes.specs.Index.{HandsEntries, HandsKept, pages_by, told_by};
@@ -71,6 +73,7 @@ pub fn open_index<D: Disk, T: TakesEntries>(
 ) -> Result<IndexPages, Stop>
     requires { length path.now ≤ 255 }
     ensures reads { OnlyReads D.Disk disk.old disk.new (IsErrOf result Stop.DiskFailed) }
+    ensures calls { CallsToOpen D.Disk disk.old disk.new path.now kind }
     ensures exact { OpensIndex D.Disk disk.old path.now kind result }
     ensures those { IfOk result
         (λ _. HandsEntries D.Disk disk.old path.now kind T.taken taker.old taker.new) }
@@ -138,6 +141,7 @@ pub fn read_index<D: Disk, T: TakesEntries>(
 ) -> Result<IndexPart, Stop>
     requires { length path.now ≤ 255 }
     ensures reads { OnlyReads D.Disk disk.old disk.new (IsErrOf result Stop.DiskFailed) }
+    ensures calls { CallsForPart D.Disk disk.old disk.new path.now (Some kind) }
     ensures exact { ReadsIndex D.Disk disk.old path.now kind offset
         T.taken taker.old taker.new result }
     // on any disk

@@ -2,6 +2,7 @@
 
 ghost use Rattle.std.specs.Prelude.{◌≡◌, ◌≤◌, IfErr, IfOk, MatchResult, IsErrOf, length};
 ghost use Rattle.disk_trait.specs.Effects.{OnlyReads};
+ghost use Rattle.index_pages.specs.Calls.{CallsAtMost};
 ghost use Rattle.store_types.specs.declared.refusal.Refusal.TheVariants.{Unreadable as UnreadableAt};
 ghost use Rattle.wire_commands.specs.HasText.{ReplyHasText};
 ghost use Rattle.wire_commands.specs.declared.reply.Reply.TheVariants.{Refused};
@@ -54,6 +55,7 @@ pub fn read_part<D: Disk>(
 ) -> Result<FilePart, Stop>
     requires { length path.now ≤ 255 }
     ensures reads { OnlyReads D.Disk disk.old disk.new (IsErrOf result Stop.DiskFailed) }
+    ensures calls { CallsAtMost D.Disk disk.old disk.new 2 }
     ensures exact { ReadsPart D.Disk disk.old path.now offset result }
     ensures kind { IfErr result (IfRefused (RefusesPart path.now)) }
     ensures filled { IfOk result (FillsPart offset) }

@@ -1,5 +1,6 @@
-use Rattle.std.proofs.Common.{◌∙◌, refl, sym, ap, arith}
+use Rattle.std.proofs.Common.{◌∙◌, refl, sym, ap, subst, arith}
 use Rattle.std.specs.FinMap.{get}
+use Rattle.paged_indexes.specs.Calls.{CallsToOpen}
 use Rattle.paged_indexes.specs.Index.{opened}
 use Rattle.core_collect.specs.declared.marking.Batch.{Batch}
 use Rattle.core_collect.proofs.Batches.{hands_all, whole_batch}
@@ -7,6 +8,9 @@ use Rattle.core_collect.proofs.Counted.{first_many}
 use Rattle.core_collect.proofs.ReadLemmas.{opened_stands}
 use Rattle.core_collect.proofs.Reading.{first_kept, opened_as, unopened_stands, unread_named, unread_reads}
 use Rattle.core_collect.proofs.marking.open_first.Goals as goal
+
+pub returns-in-Ok-clause-calls : goal.returns-in-Ok-clause-calls
+returns-in-Ok-clause-calls g c = subst (λ p. CallsToOpen g.D.Disk c.args.disk.now c.open_into.new.disk p c.args.kind) c.as_str.ensures.text c.in-Ok.ensures.calls
 
 pub returns-in-Ok-clause-exact : goal.returns-in-Ok-clause-exact
 returns-in-Ok-clause-exact g c = λ honest.
@@ -37,6 +41,9 @@ returns-in-Ok-clause-kept g c = λ more.
 
 pub returns-in-Err-clause-reads : goal.returns-in-Err-clause-reads
 returns-in-Err-clause-reads g c = unread_reads g.D.Disk c.args.disk.now c.open_into.new.disk c.args.path.now c.in-Err.fault c.why_unread.result c.why_unread.ensures c.in-Err.ensures.reads
+
+pub returns-in-Err-clause-calls : goal.returns-in-Err-clause-calls
+returns-in-Err-clause-calls g c = subst (λ p. CallsToOpen g.D.Disk c.args.disk.now c.open_into.new.disk p c.args.kind) c.as_str.ensures.text c.in-Err.ensures.calls
 
 pub returns-in-Err-clause-exact : goal.returns-in-Err-clause-exact
 returns-in-Err-clause-exact g c = λ honest.

@@ -1,11 +1,17 @@
 use Rattle.std.proofs.Common.{◌∙◌, ◌%◌, Ok, Err, refl, subst, arith}
+use Rattle.index_pages.specs.Calls.{CallsAtMost}
 use Rattle.core_collect.specs.declared.marking.Batch.{Batch}
+use Rattle.core_collect.specs.Calls.{pages_calls}
 use Rattle.core_collect.specs.Entries.{IsHad, TakesNext}
 use Rattle.core_collect.proofs.Counted.{next_many, same_many}
 use Rattle.core_collect.proofs.Reading.{next_kept, next_stands, unread_stands}
 use Rattle.core_collect.proofs.marking.read_next.Goals as goal
 
 -- ---- its digests are not had
+
+pub returns-in_err-page-clause-calls : goal.returns-in_err-page-clause-calls
+returns-in_err-page-clause-calls g c =
+    subst (λ o. CallsAtMost g.D.Disk c.args.disk.now c.read_pages.new.disk (pages_calls c.args.pages.now.kept o c.args.first)) c.take-at_hand.ensures.value c.read_pages.ensures.calls
 
 pub returns-in_err-page-clause-exact : goal.returns-in_err-page-clause-exact
 returns-in_err-page-clause-exact g c = λ honest.
@@ -19,6 +25,10 @@ returns-in_err-page-clause-exact g c = λ honest.
     (subst (λ o. TakesNext m path p.kept o c.args.first old new (Err unread)) c.take-at_hand.ensures.value (c.in_err-page.ensures.exact honest))
 
 -- ---- they are
+
+pub returns-clause-calls : goal.returns-clause-calls
+returns-clause-calls g c =
+    subst (λ o. CallsAtMost g.D.Disk c.args.disk.now c.read_pages.new.disk (pages_calls c.args.pages.now.kept o c.args.first)) c.take-at_hand.ensures.value c.read_pages.ensures.calls
 
 pub returns-clause-exact : goal.returns-clause-exact
 returns-clause-exact g c = λ honest.

@@ -38,7 +38,7 @@ returns-in-Ok-Some g c =
     let is : c.find_next.result ≡ Ok (Some c.in-Ok-Some.digests) = search rules in
     marked_does g.D.Disk old mid c.args.upkeep.now _ c.args.collector.now c.find_next.new.collector c.mark.new.collector c.args.at c.in-Ok-Some.digests
     (subst (λ (r : Result (Option (Vec Digest32 Global)) Unread). OnlyReads g.D.Disk old.disk mid.disk (IsErrOf r unread.DiskFailed)) is c.find_next.ensures.reads) c.find_next.ensures.kept
-    (subst (FindsNext g.D.Disk old c.args.collector.now c.find_next.new.collector) is c.find_next.ensures.next)
+    (subst (FindsNext g.D.Disk old c.args.collector.now c.find_next.new.collector) is c.find_next.ensures.next) c.find_next.ensures.calls
     (subst (λ (ds : List Digest32). MarksSome c.args.upkeep.now.book c.mark.new.book c.find_next.new.collector c.mark.new.collector ds c.args.at.moment) c.deref.ensures.value c.mark.ensures) refl going c.requires
 
 pub returns-in_err-visit_next-in-Ok-None : goal.returns-in_err-visit_next-in-Ok-None
@@ -78,7 +78,7 @@ returns-in-Err-Unreadable g c =
     let going = sym c.is_over.ensures ∙ c.if-is_over.false in
     unread_does g.D.Disk old mid c.args.upkeep.now c.args.collector.now c.find_next.new.collector c.args.at _ c.in-Err-Unreadable.path
     (subst (λ (r : Result (Option (Vec Digest32 Global)) Unread). OnlyReads g.D.Disk old.disk mid.disk (IsErrOf r unread.DiskFailed)) is c.find_next.ensures.reads) c.find_next.ensures.kept
-    (subst (FindsNext g.D.Disk old c.args.collector.now c.find_next.new.collector) is c.find_next.ensures.next) refl refl ended going c.requires
+    (subst (FindsNext g.D.Disk old c.args.collector.now c.find_next.new.collector) is c.find_next.ensures.next) c.find_next.ensures.calls refl refl ended going c.requires
 
 pub returns-in-Err-NoMemory : goal.returns-in-Err-NoMemory
 returns-in-Err-NoMemory g c =

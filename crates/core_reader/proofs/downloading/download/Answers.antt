@@ -16,8 +16,10 @@ use Rattle.core_state.specs.declared.kept.Session.TheVariants.{Idle}
 use Rattle.std.proofs.lemmas.List.{get_or_default}
 use Rattle.core_state.specs.Unreadables.{Asked, from_offset}
 use Rattle.core_state.specs.Wanted.{session_at}
+use Rattle.core_state.proofs.Asking.{uncalled}
 use Rattle.core_state.proofs.Commanding.{read_does, read_leaves, reads_none, same_kept, stopped_does, writes_does}
 use Rattle.core_state.proofs.NamedLemmas.{list_all-set, list_all-at}
+use Rattle.core_reader.proofs.Called.{called_for}
 use Rattle.core_reader.proofs.Downloads.{asked_index_given, asked_index_refused, asked_part_given, asked_part_refused, file_answers, file_is, file_refuses, file_stops, file_text_of, file_untold, sessions_stay}
 use Rattle.core_reader.proofs.Noted.{named_after}
 use Rattle.core_reader.proofs.NotedIndex.{notes_none, notes_part, notes_whole}
@@ -235,6 +237,46 @@ returns-clause-notes g c =
       noted,
     ))
     (index.table, index.pages, noted)
+
+-- ---- how often the disk is called
+
+pub returns-in_err-asked-clause-calls : goal.returns-in_err-asked-clause-calls
+returns-in_err-asked-clause-calls g c = uncalled g.D.Disk (c.args.parts.now).disk _ _ refl
+
+pub returns-in_err-part-clause-calls : goal.returns-in_err-part-clause-calls
+returns-in_err-part-clause-calls g c =
+    let a = c.in_ok-asked.asked in
+    let none : None ≡ a.whole = search rules in
+    called_for g.D.Disk (c.args.parts.now).disk _ _ (string_bytes a.path) c.as_str.result.now a.whole None c.args.offset (ap (λ (x : Result Asked Refusal). result_ok x) (c.in_ok-asked.ensures.value c.args.offset))
+    c.as_str.ensures.value none c.read_part.ensures.calls
+
+pub returns-in_default-clause-calls : goal.returns-in_default-clause-calls
+returns-in_default-clause-calls g c =
+    let a = c.in_ok-asked.asked in
+    let none : None ≡ a.whole = search rules in
+    called_for g.D.Disk (c.args.parts.now).disk _ _ (string_bytes a.path) c.as_str.result.now a.whole None c.args.offset (ap (λ (x : Result Asked Refusal). result_ok x) (c.in_ok-asked.ensures.value c.args.offset))
+    c.as_str.ensures.value none c.read_part.ensures.calls
+
+pub returns-in_err-index-clause-calls : goal.returns-in_err-index-clause-calls
+returns-in_err-index-clause-calls g c =
+    let a = c.in_ok-asked.asked in
+    let some : Some c.in-Some.kind ≡ a.whole = search rules in
+    called_for g.D.Disk (c.args.parts.now).disk _ _ (string_bytes a.path) c.as_str-2.result.now a.whole (Some c.in-Some.kind) c.args.offset
+    (ap (λ (x : Result Asked Refusal). result_ok x) (c.in_ok-asked.ensures.value c.args.offset)) c.as_str-2.ensures.value some c.read_table.ensures.calls
+
+pub returns-in_err-note-clause-calls : goal.returns-in_err-note-clause-calls
+returns-in_err-note-clause-calls g c =
+    let a = c.in_ok-asked.asked in
+    let some : Some c.in-Some.kind ≡ a.whole = search rules in
+    called_for g.D.Disk (c.args.parts.now).disk _ _ (string_bytes a.path) c.as_str-2.result.now a.whole (Some c.in-Some.kind) c.args.offset
+    (ap (λ (x : Result Asked Refusal). result_ok x) (c.in_ok-asked.ensures.value c.args.offset)) c.as_str-2.ensures.value some c.read_table.ensures.calls
+
+pub returns-clause-calls : goal.returns-clause-calls
+returns-clause-calls g c =
+    let a = c.in_ok-asked.asked in
+    let some : Some c.in-Some.kind ≡ a.whole = search rules in
+    called_for g.D.Disk (c.args.parts.now).disk _ _ (string_bytes a.path) c.as_str-2.result.now a.whole (Some c.in-Some.kind) c.args.offset
+    (ap (λ (x : Result Asked Refusal). result_ok x) (c.in_ok-asked.ensures.value c.args.offset)) c.as_str-2.ensures.value some c.read_table.ensures.calls
 
 -- ---- the session
 

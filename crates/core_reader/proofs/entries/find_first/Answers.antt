@@ -1,11 +1,15 @@
 use Rattle.std.proofs.Common.{◌≡◌, ◌∙◌, ◌*◌, ◌/◌, None, Ok, refl, sym, ap}
+use Rattle.std.specs.FinMap.{get}
 use Rattle.snapshot_files.specs.Indexes.{index_opened, kind_of_index, page_entries}
+use Rattle.index_pages.specs.Calls.{opening_calls}
+use Rattle.paged_indexes.specs.Calls.{entry_width}
 use Rattle.restore_reader.specs.Plan.{ends_of}
 use Rattle.core_state.specs.declared.indexes.OpenIndex.{OpenIndex}
 use Rattle.core_state.specs.declared.indexes.OpenPage.{OpenPage}
 use Rattle.core_reader.specs.declared.entries.Found.{Found}
 use Rattle.core_reader.specs.declared.entries.PageTaken.{PageTaken}
 use Rattle.core_reader.specs.declared.entries.Turn.TheVariants.{ToIndex}
+use Rattle.core_reader.proofs.Called.{calls_as}
 use Rattle.core_reader.proofs.EntryFound.{finds_it, finds_no_digest, finds_none, finds_short, finds_unopened, opened_told, read_as}
 use Rattle.core_reader.proofs.FirstPage.{first_kept, first_read, want_below}
 use Rattle.core_reader.proofs.entries.find_first.Goals as goal
@@ -105,3 +109,29 @@ returns-clause-turn g c =
         spelled = first_kept pages place old c.open_index.new.taker refl c.new.ensures.items below c.in_ok-pages.ensures.some;
       },
     )
+
+-- ---- how often the disk is called
+
+pub returns-in_err-pages-clause-calls : goal.returns-in_err-pages-clause-calls
+returns-in_err-pages-clause-calls g c =
+    calls_as g.D.Disk c.args.disk.now _ _ _ (ap (λ k. opening_calls (entry_width k) (get (g.D.Disk.content c.args.disk.now) c.args.path.now)) c.index_kind.ensures) c.open_index.ensures.calls
+
+pub returns-in_err-want_entry-clause-calls : goal.returns-in_err-want_entry-clause-calls
+returns-in_err-want_entry-clause-calls g c =
+    calls_as g.D.Disk c.args.disk.now _ _ _ (ap (λ k. opening_calls (entry_width k) (get (g.D.Disk.content c.args.disk.now) c.args.path.now)) c.index_kind.ensures) c.open_index.ensures.calls
+
+pub returns-in_err-digest-clause-calls : goal.returns-in_err-digest-clause-calls
+returns-in_err-digest-clause-calls g c =
+    calls_as g.D.Disk c.args.disk.now _ _ _ (ap (λ k. opening_calls (entry_width k) (get (g.D.Disk.content c.args.disk.now) c.args.path.now)) c.index_kind.ensures) c.open_index.ensures.calls
+
+pub returns-in_err-name-clause-calls : goal.returns-in_err-name-clause-calls
+returns-in_err-name-clause-calls g c =
+    calls_as g.D.Disk c.args.disk.now _ _ _ (ap (λ k. opening_calls (entry_width k) (get (g.D.Disk.content c.args.disk.now) c.args.path.now)) c.index_kind.ensures) c.open_index.ensures.calls
+
+pub returns-in_err-clone-clause-calls : goal.returns-in_err-clone-clause-calls
+returns-in_err-clone-clause-calls g c =
+    calls_as g.D.Disk c.args.disk.now _ _ _ (ap (λ k. opening_calls (entry_width k) (get (g.D.Disk.content c.args.disk.now) c.args.path.now)) c.index_kind.ensures) c.open_index.ensures.calls
+
+pub returns-clause-calls : goal.returns-clause-calls
+returns-clause-calls g c =
+    calls_as g.D.Disk c.args.disk.now _ _ _ (ap (λ k. opening_calls (entry_width k) (get (g.D.Disk.content c.args.disk.now) c.args.path.now)) c.index_kind.ensures) c.open_index.ensures.calls

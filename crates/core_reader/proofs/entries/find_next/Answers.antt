@@ -5,8 +5,10 @@ use Rattle.restore_reader.specs.Plan.{ends_of}
 use Rattle.store_stops.specs.Stops.{Gives}
 use Rattle.core_state.specs.declared.indexes.OpenPage.{OpenPage}
 use Rattle.core_reader.specs.Entries.{entries_on}
+use Rattle.core_reader.specs.EntryReads.{calls_beside}
 use Rattle.core_reader.specs.declared.entries.Found.{Found}
 use Rattle.core_reader.specs.declared.entries.Turn.TheVariants.{Stay, ToPage}
+use Rattle.core_reader.proofs.Called.{calls_as}
 use Rattle.core_reader.proofs.EntryFound.{finds_it, finds_no_digest, finds_no_page, finds_none, read_as}
 use Rattle.core_reader.proofs.entries.find_next.Goals as goal
 
@@ -90,3 +92,20 @@ pub returns-clause-turn : goal.returns-clause-turn
 returns-clause-turn g c =
     let none : option_map (λ p. p.now) c.args.at_hand ≡ None = search rules in
     (none, c.in_ok-page.ensures.page)
+
+-- ---- how often the disk is called
+
+pub returns-in_err-page-clause-calls : goal.returns-in_err-page-clause-calls
+returns-in_err-page-clause-calls g c =
+    let none : option_map (λ p. p.now) c.args.at_hand ≡ None = search rules in
+    calls_as g.D.Disk c.args.disk.now _ _ _ (ap calls_beside (sym none)) c.read_page.ensures.calls
+
+pub returns-in_err-digest-2-clause-calls : goal.returns-in_err-digest-2-clause-calls
+returns-in_err-digest-2-clause-calls g c =
+    let none : option_map (λ p. p.now) c.args.at_hand ≡ None = search rules in
+    calls_as g.D.Disk c.args.disk.now _ _ _ (ap calls_beside (sym none)) c.read_page.ensures.calls
+
+pub returns-clause-calls : goal.returns-clause-calls
+returns-clause-calls g c =
+    let none : option_map (λ p. p.now) c.args.at_hand ≡ None = search rules in
+    calls_as g.D.Disk c.args.disk.now _ _ _ (ap calls_beside (sym none)) c.read_page.ensures.calls

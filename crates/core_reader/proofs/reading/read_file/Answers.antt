@@ -3,8 +3,10 @@ use Rattle.wire_commands.specs.declared.reply.Reply.{Reply}
 use Rattle.store_history.specs.declared.act.Act.TheVariants.{ReadFile}
 use Rattle.snapshot_files.specs.Parts.{part_reply}
 use Rattle.core_state.specs.Wanted.{session_at}
+use Rattle.core_state.proofs.Asking.{uncalled}
 use Rattle.core_state.proofs.Commanding.{read_does, read_leaves, reads_none, same_kept, stopped_does}
 use Rattle.core_reader.specs.Asked.{as_part}
+use Rattle.core_reader.proofs.Called.{called_for}
 use Rattle.core_reader.proofs.ReadPart.{filled_answers, part_asked, part_refused, part_unplaced, place_is, place_stops, place_text, read_error_answers, read_given, read_refused, read_refuses}
 use Rattle.core_reader.proofs.ReadTold.{part_answers, part_missing, part_unread}
 use Rattle.core_reader.proofs.Telling.{part_got, part_plain, part_stop, read_at, read_stops, stops_does, stops_leaves, tells_given, tells_stopped, tells_unread}
@@ -102,3 +104,22 @@ returns-clause-unreadable g c =
     tells_given d old.disk _ (as_part c.args.offset path) (part_reply c.in_ok-part.part)
     (part_asked c.args.name.now c.args.offset (session_at old c.args.at.lane) old.catalogue.listed path c.in_ok-path.ensures.value) tt
     (λ h. part_got (d.content old.disk) path c.as_str.result.now c.args.offset None (part_reply c.in_ok-part.part) c.as_str.ensures.value refl (c.in_ok-part.ensures.exact h))
+
+-- ---- how often the disk is called
+
+pub returns-in_err-path-clause-calls : goal.returns-in_err-path-clause-calls
+returns-in_err-path-clause-calls g c = uncalled g.D.Disk (c.args.parts.now).disk _ _ refl
+
+pub returns-in_err-part-clause-calls : goal.returns-in_err-part-clause-calls
+returns-in_err-part-clause-calls g c =
+    let old = c.args.parts.now in
+    let path = string_bytes c.in_ok-path.path in
+    called_for g.D.Disk old.disk _ _ path c.as_str.result.now None None c.args.offset
+    (part_asked c.args.name.now c.args.offset (session_at old c.args.at.lane) old.catalogue.listed path c.in_ok-path.ensures.value) c.as_str.ensures.value refl c.read_part.ensures.calls
+
+pub returns-clause-calls : goal.returns-clause-calls
+returns-clause-calls g c =
+    let old = c.args.parts.now in
+    let path = string_bytes c.in_ok-path.path in
+    called_for g.D.Disk old.disk _ _ path c.as_str.result.now None None c.args.offset
+    (part_asked c.args.name.now c.args.offset (session_at old c.args.at.lane) old.catalogue.listed path c.in_ok-path.ensures.value) c.as_str.ensures.value refl c.read_part.ensures.calls

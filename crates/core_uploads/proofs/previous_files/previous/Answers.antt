@@ -3,16 +3,18 @@ use Rattle.std.proofs.lemmas.List.{get_or_default}
 use Rattle.wire_commands.specs.declared.command.Command.TheVariants as commands
 use Rattle.store_history.specs.declared.act.Act.TheVariants.{Plain}
 use Rattle.store_stops.specs.Stops.{Gives}
+use Rattle.snapshot_files.specs.Calls.{CallsForPart}
 use Rattle.core_state.specs.Indexed.{row_at}
 use Rattle.core_state.specs.Named.{is_named}
 use Rattle.core_state.specs.declared.indexes.Indexes.{Indexes}
 use Rattle.core_state.specs.declared.indexes.Indexes.TheVariants.{Unread}
+use Rattle.core_state.proofs.Asking.{uncalled}
 use Rattle.core_state.proofs.Commanding.{unwritten_does, unwritten_leaves}
 use Rattle.core_state.proofs.NamedLemmas.{list_all-set, list_all-at}
 use Rattle.core_uploads.specs.Previous.{MayKnow, base_file, kept_by_whole, known_by_whole, previous_by, shown_given, whole_for}
 use Rattle.core_uploads.proofs.ArchiveLemmas.{settled_at}
 use Rattle.core_uploads.proofs.KeepLemmas.{found_again, found_at, found_stays, found_wants}
-use Rattle.core_uploads.proofs.PreviousLemmas.{given_does, given_leaves, named_noted, no_base_does, no_base_leaves, not_writing, notes_done, notes_none, tells_given, tells_no_base, tells_short, tells_unnamed, tells_unread, tells_unwritten, unnamed_does, unnamed_leaves, unnoted_does, unnoted_leaves, unread_does, unread_leaves}
+use Rattle.core_uploads.proofs.PreviousLemmas.{given_does, given_leaves, named_noted, no_base_does, no_base_leaves, not_writing, notes_done, notes_none, reads_asked, tells_given, tells_no_base, tells_short, tells_unnamed, tells_unread, tells_unwritten, unnamed_does, unnamed_leaves, unnoted_does, unnoted_leaves, unread_does, unread_leaves}
 use Rattle.core_uploads.proofs.SteppedLemmas.{false_true}
 use Rattle.core_uploads.proofs.previous_files.previous.Goals as goal
 
@@ -256,3 +258,62 @@ returns-in_err-path-clause-notes g c = notes_none g.D.Disk c.args.parts.now _ c.
 
 pub returns-in_err-given-clause-notes : goal.returns-in_err-given-clause-notes
 returns-in_err-given-clause-notes g c = notes_none g.D.Disk c.args.parts.now _ c.args.at c.args.name.now c.args.offset _ _ c.from_residual-in_err-given.ensures.1 refl
+
+-- ---- how often the disk is called
+
+pub returns-in_err-writer-clause-calls : goal.returns-in_err-writer-clause-calls
+returns-in_err-writer-clause-calls g c = uncalled g.D.Disk _ _ _ refl
+
+pub returns-in_err-name-clause-calls : goal.returns-in_err-name-clause-calls
+returns-in_err-name-clause-calls g c = uncalled g.D.Disk _ _ _ refl
+
+pub returns-in_err-path-clause-calls : goal.returns-in_err-path-clause-calls
+returns-in_err-path-clause-calls g c = uncalled g.D.Disk _ _ _ refl
+
+pub returns-in_err-given-clause-calls : goal.returns-in_err-given-clause-calls
+returns-in_err-given-clause-calls g c =
+    let d = g.D.Disk in
+    let old = c.args.parts.now in
+    let at = c.args.at in
+    let name = c.args.name.now in
+    let within : at.lane < length old.sessions.items = omega (arith, old.lanes, old.sessions.ok.0, c.requires) in
+    let named : c.in_ok-name.name ≡ name = c.in_ok-name.ensures.name.0 in
+    let found : base_file ((c.in-Writer.w).session).writer.base name old.catalogue.listed ≡ Ok c.in_ok-path.path.now = search rules in
+    let there : at.lane < length old.indexes.items = omega (arith, old.rows, old.indexes.ok.0, c.requires) in
+    let row : c.index-2.result.now ≡ row_at old at.lane = c.index-2.ensures ∙ get_or_default old.indexes.items at.lane c.index-2.result.now Unread there in
+    let whole : c.whole_index-whole.result ≡ whole_for (row_at old at.lane) name = c.whole_index-whole.ensures ∙ ap₂ whole_for row named in
+    reads_asked d old.disk (row_at old at.lane) name c.args.offset _ old.catalogue.listed c.in-Writer.w c.in_ok-path.path.now
+    (found_at old.sessions.items at.lane c.index.result.now c.in-Writer.w within c.index.ensures c.in-Writer.is) c.in_ok-name.ensures.name.1 found
+    c.read_file.new.disk (subst (λ o. CallsForPart d old.disk c.read_file.new.disk c.in_ok-path.path.now o) whole c.read_file.ensures.calls)
+
+pub returns-in_err-note_whole-clause-calls : goal.returns-in_err-note_whole-clause-calls
+returns-in_err-note_whole-clause-calls g c =
+    let d = g.D.Disk in
+    let old = c.args.parts.now in
+    let at = c.args.at in
+    let name = c.args.name.now in
+    let within : at.lane < length old.sessions.items = omega (arith, old.lanes, old.sessions.ok.0, c.requires) in
+    let named : c.in_ok-name.name ≡ name = c.in_ok-name.ensures.name.0 in
+    let found : base_file ((c.in-Writer.w).session).writer.base name old.catalogue.listed ≡ Ok c.in_ok-path.path.now = search rules in
+    let there : at.lane < length old.indexes.items = omega (arith, old.rows, old.indexes.ok.0, c.requires) in
+    let row : c.index-2.result.now ≡ row_at old at.lane = c.index-2.ensures ∙ get_or_default old.indexes.items at.lane c.index-2.result.now Unread there in
+    let whole : c.whole_index-whole.result ≡ whole_for (row_at old at.lane) name = c.whole_index-whole.ensures ∙ ap₂ whole_for row named in
+    reads_asked d old.disk (row_at old at.lane) name c.args.offset _ old.catalogue.listed c.in-Writer.w c.in_ok-path.path.now
+    (found_at old.sessions.items at.lane c.index.result.now c.in-Writer.w within c.index.ensures c.in-Writer.is) c.in_ok-name.ensures.name.1 found
+    c.read_file.new.disk (subst (λ o. CallsForPart d old.disk c.read_file.new.disk c.in_ok-path.path.now o) whole c.read_file.ensures.calls)
+
+pub returns-clause-calls : goal.returns-clause-calls
+returns-clause-calls g c =
+    let d = g.D.Disk in
+    let old = c.args.parts.now in
+    let at = c.args.at in
+    let name = c.args.name.now in
+    let within : at.lane < length old.sessions.items = omega (arith, old.lanes, old.sessions.ok.0, c.requires) in
+    let named : c.in_ok-name.name ≡ name = c.in_ok-name.ensures.name.0 in
+    let found : base_file ((c.in-Writer.w).session).writer.base name old.catalogue.listed ≡ Ok c.in_ok-path.path.now = search rules in
+    let there : at.lane < length old.indexes.items = omega (arith, old.rows, old.indexes.ok.0, c.requires) in
+    let row : c.index-2.result.now ≡ row_at old at.lane = c.index-2.ensures ∙ get_or_default old.indexes.items at.lane c.index-2.result.now Unread there in
+    let whole : c.whole_index-whole.result ≡ whole_for (row_at old at.lane) name = c.whole_index-whole.ensures ∙ ap₂ whole_for row named in
+    reads_asked d old.disk (row_at old at.lane) name c.args.offset _ old.catalogue.listed c.in-Writer.w c.in_ok-path.path.now
+    (found_at old.sessions.items at.lane c.index.result.now c.in-Writer.w within c.index.ensures c.in-Writer.is) c.in_ok-name.ensures.name.1 found
+    c.read_file.new.disk (subst (λ o. CallsForPart d old.disk c.read_file.new.disk c.in_ok-path.path.now o) whole c.read_file.ensures.calls)

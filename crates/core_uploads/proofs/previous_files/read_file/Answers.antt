@@ -1,5 +1,6 @@
 use Rattle.std.proofs.Common.{◌≡◌, None, Ok, Err, sym, subst, refl, rules}
 use Rattle.backup_session.proofs.Pools.{no_lengths}
+use Rattle.snapshot_files.specs.Calls.{CallsForPart}
 use Rattle.snapshot_files.specs.Parts.{part_at, part_reply}
 use Rattle.store_stops.specs.Stops.{Gives}
 use Rattle.core_uploads.specs.Previous.{ArePieces, previous_by, shown_given}
@@ -26,3 +27,17 @@ returns-clause-exact g c = let d = g.D.Disk in λ h.
 
 pub returns-clause-pieces : goal.returns-clause-pieces
 returns-clause-pieces g c = subst ArePieces (sym c.new.ensures) no_lengths
+
+pub returns-in-Some-clause-calls : goal.returns-in-Some-clause-calls
+returns-in-Some-clause-calls g c =
+    subst (λ o. CallsForPart g.D.Disk c.args.disk.now c.read_whole.new.disk c.args.path.now o) (sym c.in-Some.is) c.read_whole.ensures.calls
+
+pub returns-in_err-part-clause-calls : goal.returns-in_err-part-clause-calls
+returns-in_err-part-clause-calls g c =
+    let none : c.args.whole ≡ None = search rules in
+    subst (λ o. CallsForPart g.D.Disk c.args.disk.now c.read_part.new.disk c.args.path.now o) (sym none) c.read_part.ensures.calls
+
+pub returns-clause-calls : goal.returns-clause-calls
+returns-clause-calls g c =
+    let none : c.args.whole ≡ None = search rules in
+    subst (λ o. CallsForPart g.D.Disk c.args.disk.now c.read_part.new.disk c.args.path.now o) (sym none) c.read_part.ensures.calls

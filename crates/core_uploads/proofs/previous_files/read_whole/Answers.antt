@@ -1,6 +1,7 @@
-use Rattle.std.proofs.Common.{◌≡◌, [], refl, sym, subst}
+use Rattle.std.proofs.Common.{◌≡◌, [], Some, refl, sym, subst}
 use Rattle.std.specs.FinMap.{empty}
 use Rattle.backup_session.proofs.Pools.{has_lengths-all, no_lengths}
+use Rattle.snapshot_files.specs.Calls.{CallsForPart}
 use Rattle.snapshot_files.specs.Indexes.{lengths_from}
 use Rattle.snapshot_files.specs.Parts.{part_reply}
 use Rattle.snapshot_files.proofs.Archives.{lengths_fit}
@@ -26,3 +27,11 @@ pub returns-clause-pieces : goal.returns-clause-pieces
 returns-clause-pieces g c =
     let some = c.in_ok-index.ensures.some in
     subst ArePieces (sym (some.hands 0 [] c.new.ensures refl)) (has_lengths-all empty (lengths_from 0 some.entries) no_lengths (lengths_fit 0 some.entries (some.fit).steps))
+
+pub returns-in_err-index-clause-calls : goal.returns-in_err-index-clause-calls
+returns-in_err-index-clause-calls g c =
+    subst (λ p. CallsForPart g.D.Disk c.args.disk.now c.read_index.new.disk p (Some c.args.kind)) c.as_str.ensures.text c.read_index.ensures.calls
+
+pub returns-clause-calls : goal.returns-clause-calls
+returns-clause-calls g c =
+    subst (λ p. CallsForPart g.D.Disk c.args.disk.now c.read_index.new.disk p (Some c.args.kind)) c.as_str.ensures.text c.read_index.ensures.calls

@@ -13,11 +13,13 @@ use Rattle.paged_indexes.proofs.Cutting.{cells_count, next_page, page_cuts, cuts
 use Rattle.paged_indexes.proofs.AnyDisk.{fixed_all, fixed_more, fixed_none}
 use Rattle.paged_indexes.proofs.Handed.{no_rest, rest_less, rest_none, rest_whole}
 use Rattle.paged_indexes.proofs.Opened.{fixed_stopped}
+use Rattle.index_pages.proofs.Calling.{calls_more, calls_none, calls_once, calls_then}
 use Rattle.paged_indexes.proofs.fixed.read_body.Goals as goal
 
 pub loop-i-init : goal.loop-i-init
 loop-i-init g c = record {
   reads = reads_none g.D.Disk c.args.disk.now ⊥ (λ n. n);
+  calls = calls_none g.D.Disk c.args.disk.now 0;
   sums = c.in_ok-opening.ensures.len;
   pages = c.pages_in-pages.ensures;
   progress = λ h text there len. none_read 32 (drop 4096 text) c.in_ok-opening.opening c.in_ok-opening.ensures.begins;
@@ -45,6 +47,7 @@ loop-i-preserved g c = let d = g.D.Disk in
     let below : c.loop-i.i < page_count c.args.count = omega (arith, c.loop-i-test.true, c.loop-i.invariant.pages) in
     record {
       reads = reads_then d _ _ _ ⊥ _ ⊥ reads c.take.ensures.reads inl;
+      calls = calls_then d _ _ _ c.loop-i.i 1 reads.serves.kept.0 c.loop-i.invariant.calls (calls_once d _ _ c.take.ensures.calls);
       sums = omega (arith, c.in_ok-take.ensures.len, c.loop-i.invariant.sums);
       pages = c.loop-i.invariant.pages;
       progress = λ h text there len.
@@ -108,3 +111,18 @@ returns-clause-exact g c = λ h text there len.
     let size : length body ≡ count * 32 = omega (arith, len, length-drop 4096 text) in
     let past : i ≡ page_count count = omega (arith, c.loop-i-test.false, c.loop-i.auto.i-end, c.loop-i.invariant.pages) in
     pages_end 32 count i body c.loop-i.opening c.close.result (inl refl) size past (c.loop-i.invariant.progress h text there len) c.close.ensures.closes
+
+pub returns-in_err-take-clause-calls : goal.returns-in_err-take-clause-calls
+returns-in_err-take-clause-calls g c = let d = g.D.Disk in
+    let within : c.loop-i.i + 1 ≤ page_count c.args.count = omega (arith, c.loop-i-test.true, c.loop-i.invariant.pages) in
+    calls_more d _ _ _ _ within (calls_then d _ _ _ c.loop-i.i 1 c.loop-i.invariant.reads.serves.kept.0 c.loop-i.invariant.calls (calls_once d _ _ c.take.ensures.calls))
+
+pub returns-in_err-start-clause-calls : goal.returns-in_err-start-clause-calls
+returns-in_err-start-clause-calls g c = let d = g.D.Disk in
+    let within : c.loop-i.i + 1 ≤ page_count c.args.count = omega (arith, c.loop-i-test.true, c.loop-i.invariant.pages) in
+    calls_more d _ _ _ _ within (calls_then d _ _ _ c.loop-i.i 1 c.loop-i.invariant.reads.serves.kept.0 c.loop-i.invariant.calls (calls_once d _ _ c.take.ensures.calls))
+
+pub returns-clause-calls : goal.returns-clause-calls
+returns-clause-calls g c =
+    let past : c.loop-i.i ≤ page_count c.args.count = omega (arith, c.loop-i-test.false, c.loop-i.auto.i-end, c.loop-i.invariant.pages) in
+    calls_more g.D.Disk _ _ _ _ past c.loop-i.invariant.calls

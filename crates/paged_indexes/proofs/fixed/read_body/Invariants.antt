@@ -7,11 +7,13 @@ use Rattle.store_files.specs.Cells.{cells}
 use Rattle.paged_indexes.specs.Fixed.{Cuts, ends_in, fixed_ends_from}
 use Rattle.paged_indexes.proofs.AnyDisk.{SomeFixed}
 use Rattle.paged_indexes.proofs.Handed.{HandsRest}
+use Rattle.index_pages.specs.Calls.{CallsAtMost}
 use Rattle.paged_indexes.proofs.fixed.read_body.Given as goal
 
 abbrev pub invariant-loop-i : goal.invariant-loop-i
 invariant-loop-i g l = let d = g.D.Disk in record {
   reads : OnlyReads d l.initial.disk l.disk ⊥;
+  calls : CallsAtMost d l.initial.disk l.disk l.i;
   sums : length l.opening.sums.items ≡ l.i;
   pages : l.pages ≡ page_count l.count;
   progress : d.honest l.initial.disk → (text : List ℕ) → get (d.content l.initial.disk) l.name ≡ Some text → length text ≡ 4096 + l.count * 32

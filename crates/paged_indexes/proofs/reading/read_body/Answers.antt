@@ -11,6 +11,7 @@ use Rattle.paged_indexes.proofs.Entries.{entries_count, page_entries_are}
 use Rattle.paged_indexes.proofs.AnyDisk.{some_all, some_more, some_none}
 use Rattle.paged_indexes.proofs.Handed.{HandsRest, no_rest, page_and_rest, rest_less, rest_none, rest_whole}
 use Rattle.paged_indexes.proofs.Stepping.{begins, body_stopped, none_rise, progress_ends, progress_fails, progress_more, stepped_last}
+use Rattle.index_pages.proofs.Calling.{calls_more, calls_none, calls_once, calls_then}
 use Rattle.paged_indexes.proofs.reading.read_body.Goals as goal
 
 pub loop-i-init : goal.loop-i-init
@@ -20,6 +21,7 @@ loop-i-init g c =
     let taker = c.args.taker.now in
     record {
       reads = reads_none g.D.Disk c.args.disk.now ⊥ (λ n. n);
+      calls = calls_none g.D.Disk c.args.disk.now 0;
       sums = made.len;
       ends = ap length made.ends;
       rises = none_rise c.in_ok-reading.reading made.ends;
@@ -53,6 +55,7 @@ loop-i-preserved g c = let d = g.D.Disk in
     let reads = c.loop-i.invariant.reads in
     record {
       reads = reads_then d _ _ _ ⊥ _ ⊥ reads c.take.ensures.reads inl;
+      calls = calls_then d _ _ _ c.loop-i.i 1 reads.serves.kept.0 c.loop-i.invariant.calls (calls_once d _ _ c.take.ensures.calls);
       sums = omega (arith, c.in_ok-take.ensures.len, c.loop-i.invariant.sums);
       ends = omega (arith, c.in_ok-take.ensures.ends, c.loop-i.invariant.ends);
       rises = c.in_ok-take.ensures.rises c.loop-i.invariant.rises;
@@ -111,3 +114,13 @@ returns-clause-exact g c = λ h text there len.
     let past : i ≡ page_count count = omega (arith, c.loop-i-test.false, c.loop-i.auto.i-end, c.loop-i.invariant.pages) in
     let b : DynamicBody = record { body = c.close.result; ends = c.loop-i.reading.ends } in
     progress_ends body count i c.loop-i.reading b size past (c.loop-i.invariant.progress h text there len) c.close.ensures.closes refl
+
+pub returns-in_err-take-clause-calls : goal.returns-in_err-take-clause-calls
+returns-in_err-take-clause-calls g c = let d = g.D.Disk in
+    let within : c.loop-i.i + 1 ≤ page_count c.args.count = omega (arith, c.loop-i-test.true, c.loop-i.invariant.pages) in
+    calls_more d _ _ _ _ within (calls_then d _ _ _ c.loop-i.i 1 c.loop-i.invariant.reads.serves.kept.0 c.loop-i.invariant.calls (calls_once d _ _ c.take.ensures.calls))
+
+pub returns-clause-calls : goal.returns-clause-calls
+returns-clause-calls g c =
+    let past : c.loop-i.i ≤ page_count c.args.count = omega (arith, c.loop-i-test.false, c.loop-i.auto.i-end, c.loop-i.invariant.pages) in
+    calls_more g.D.Disk _ _ _ _ past c.loop-i.invariant.calls

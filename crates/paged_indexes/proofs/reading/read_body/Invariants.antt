@@ -7,11 +7,13 @@ use Rattle.paged_indexes.specs.Steps.{entries_of}
 use Rattle.paged_indexes.proofs.AnyDisk.{SomeRead}
 use Rattle.paged_indexes.proofs.Handed.{HandsRest}
 use Rattle.paged_indexes.proofs.Stepping.{Progress}
+use Rattle.index_pages.specs.Calls.{CallsAtMost}
 use Rattle.paged_indexes.proofs.reading.read_body.Given as goal
 
 abbrev pub invariant-loop-i : goal.invariant-loop-i
 invariant-loop-i g l = let d = g.D.Disk in record {
   reads : OnlyReads d l.initial.disk l.disk ⊥;
+  calls : CallsAtMost d l.initial.disk l.disk l.i;
   sums : length l.reading.opening.sums.items ≡ l.i;
   ends : length l.reading.ends.items ≡ l.i;
   rises : EndsRise l.reading;

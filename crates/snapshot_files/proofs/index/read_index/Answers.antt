@@ -1,10 +1,11 @@
-use Rattle.std.proofs.Common.{◌≡◌, Ok, Err, inr, ap, subst, ◌∙◌, rules}
+use Rattle.std.proofs.Common.{◌≡◌, Ok, Err, inr, ap, subst, ◌∙◌, rules, arith}
 use Rattle.std.specs.FinMap.{get}
 use Rattle.store_stops.specs.Stops.{Gives}
 use Rattle.paged_indexes.specs.declared.index.IndexPages.{IndexPages}
 use Rattle.snapshot_files.specs.Indexes.{index_opened}
 use Rattle.snapshot_files.specs.Parts.{part_reply}
 use Rattle.disk_trait.proofs.OnlyReading.{reads_then}
+use Rattle.snapshot_files.proofs.Calling.{read_and_opened}
 use Rattle.snapshot_files.proofs.Opened.{is_read, ok_unfailed, open_stops, part_stops}
 use Rattle.snapshot_files.proofs.index.read_index.Goals as goal
 
@@ -34,3 +35,12 @@ returns-clause-exact g c = let d = g.D.Disk in λ h.
     (record { part = c.in_ok-part.part; pages = c.in_ok-pages.pages }) (c.in_ok-part.ensures.exact h)
     (subst (λ m. index_opened m c.args.path.now c.args.kind ≡ Ok c.in_ok-pages.pages) (reads.same h) (c.in_ok-pages.ensures.exact safe))
     (λ text entries there is. c.in_ok-pages.ensures.those safe text entries (ap (λ m. get m c.args.path.now) (reads.same h) ∙ there) is)
+
+pub returns-in_err-part-clause-calls : goal.returns-in_err-part-clause-calls
+returns-in_err-part-clause-calls g c = λ h. let calls = c.read_part.ensures.calls h in omega (arith, calls)
+
+pub returns-in_err-pages-clause-calls : goal.returns-in_err-pages-clause-calls
+returns-in_err-pages-clause-calls g c = read_and_opened g.D.Disk _ _ _ c.args.path.now c.args.kind _ c.read_part.ensures.reads c.read_part.ensures.calls c.open_index.ensures.calls
+
+pub returns-clause-calls : goal.returns-clause-calls
+returns-clause-calls g c = read_and_opened g.D.Disk _ _ _ c.args.path.now c.args.kind _ c.read_part.ensures.reads c.read_part.ensures.calls c.open_index.ensures.calls

@@ -1,6 +1,7 @@
 use Rattle.std.proofs.Common.{◌++◌, ◌∷◌, [], ap, ap₂, ◌∙◌}
-use Rattle.index_pages.specs.States.{absorb}
-use Rattle.index_pages.proofs.States.{absorb_is, noted}
+use Rattle.hash_states.specs.States.{absorb}
+use Rattle.hash_states.proofs.States.{absorb_is}
+use Rattle.index_pages.proofs.Noting.{noted}
 use Rattle.index_pages.proofs.opening.Opening.note.Goals as goal
 
 pub returns-clause-notes : goal.returns-clause-notes

@@ -21,6 +21,7 @@ use Rattle.paged_indexes.specs.Handing.{HandsOn}
 use Rattle.paged_indexes.proofs.Handed.{same_some}
 use Rattle.paged_indexes.proofs.Opened.{bad_sizes, chunk_size_is, fixed_by, fixed_paged_is, fixed_rest, fixed_summed, no_fixed_body, size_is, sizes_are}
 use Rattle.paged_indexes.proofs.Spelled.{fixed_some}
+use Rattle.index_pages.proofs.Calling.{calls_head, calls_open}
 use Rattle.paged_indexes.proofs.fixed.FixedPages.open_into.Goals as goal
 
 abbrev itself : FixedPaged → FixedPaged
@@ -150,3 +151,44 @@ pub of-requires-clause-bytes : goal.of-requires-clause-bytes
 of-requires-clause-bytes g c =
     let some = c.in_ok-body.ensures.some in
     record { body = some.body; whole = some.len; sums = (some.is).sums }
+
+pub returns-in_err-head-clause-calls : goal.returns-in_err-head-clause-calls
+returns-in_err-head-clause-calls g c = calls_head g.D.Disk _ _ 32 (get (g.D.Disk.content c.args.disk.now) c.args.name.now) c.read_head.ensures.calls
+
+pub returns-in_err-count-clause-calls : goal.returns-in_err-count-clause-calls
+returns-in_err-count-clause-calls g c = calls_head g.D.Disk _ _ 32 (get (g.D.Disk.content c.args.disk.now) c.args.name.now) c.read_head.ensures.calls
+
+pub returns-then-not-has_sizes-clause-calls : goal.returns-then-not-has_sizes-clause-calls
+returns-then-not-has_sizes-clause-calls g c = calls_head g.D.Disk _ _ 32 (get (g.D.Disk.content c.args.disk.now) c.args.name.now) c.read_head.ensures.calls
+
+pub returns-in_err-body-clause-calls : goal.returns-in_err-body-clause-calls
+returns-in_err-body-clause-calls g c = let d = g.D.Disk in λ h.
+    let name = c.args.name.now in
+    let o = get (d.content c.args.disk.now) name in
+    let f = has_front o c.in_ok-head.head (c.in_ok-head.ensures.exact h) in
+    let n = has_count magic 32 fixed_of fixed_rest (fixed_paged name) fixed_by (inl refl) f.text c.in_ok-head.head c.in_ok-count.count f.size f.front f.long c.in_ok-count.ensures.exact in
+    calls_open d _ _ _ 32 c.in_ok-count.count o f.text f.there n.counted c.read_head.ensures.reads.serves.kept.0 c.read_head.ensures.calls c.read_body.ensures.calls h
+
+pub returns-then-not-has_csum-clause-calls : goal.returns-then-not-has_csum-clause-calls
+returns-then-not-has_csum-clause-calls g c = let d = g.D.Disk in λ h.
+    let name = c.args.name.now in
+    let o = get (d.content c.args.disk.now) name in
+    let f = has_front o c.in_ok-head.head (c.in_ok-head.ensures.exact h) in
+    let n = has_count magic 32 fixed_of fixed_rest (fixed_paged name) fixed_by (inl refl) f.text c.in_ok-head.head c.in_ok-count.count f.size f.front f.long c.in_ok-count.ensures.exact in
+    calls_open d _ _ _ 32 c.in_ok-count.count o f.text f.there n.counted c.read_head.ensures.reads.serves.kept.0 c.read_head.ensures.calls c.read_body.ensures.calls h
+
+pub returns-in_err-pages-clause-calls : goal.returns-in_err-pages-clause-calls
+returns-in_err-pages-clause-calls g c = let d = g.D.Disk in λ h.
+    let name = c.args.name.now in
+    let o = get (d.content c.args.disk.now) name in
+    let f = has_front o c.in_ok-head.head (c.in_ok-head.ensures.exact h) in
+    let n = has_count magic 32 fixed_of fixed_rest (fixed_paged name) fixed_by (inl refl) f.text c.in_ok-head.head c.in_ok-count.count f.size f.front f.long c.in_ok-count.ensures.exact in
+    calls_open d _ _ _ 32 c.in_ok-count.count o f.text f.there n.counted c.read_head.ensures.reads.serves.kept.0 c.read_head.ensures.calls c.read_body.ensures.calls h
+
+pub returns-clause-calls : goal.returns-clause-calls
+returns-clause-calls g c = let d = g.D.Disk in λ h.
+    let name = c.args.name.now in
+    let o = get (d.content c.args.disk.now) name in
+    let f = has_front o c.in_ok-head.head (c.in_ok-head.ensures.exact h) in
+    let n = has_count magic 32 fixed_of fixed_rest (fixed_paged name) fixed_by (inl refl) f.text c.in_ok-head.head c.in_ok-count.count f.size f.front f.long c.in_ok-count.ensures.exact in
+    calls_open d _ _ _ 32 c.in_ok-count.count o f.text f.there n.counted c.read_head.ensures.reads.serves.kept.0 c.read_head.ensures.calls c.read_body.ensures.calls h
