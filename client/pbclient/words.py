@@ -1,0 +1,206 @@
+"""The words of the client: commands, options and their help, in one table. The parser, the help, the man page and the completion are made
+from it."""
+import argparse, difflib, re
+from typing import Callable, NamedTuple, Tuple
+
+from .failures import MEANINGS, mistyped
+
+GROUP_FORM = re.compile(r"(ct|host|vm)/[A-Za-z0-9_][A-Za-z0-9_.-]{0,63}", re.ASCII)
+TIME_FORM = re.compile(r"\d{4}-\d\d-\d\dT\d\d:\d\d:\d\dZ", re.ASCII)
+SIZE_FORM = re.compile(r"(\d+)([KMGT]?)(i?B)?", re.ASCII | re.IGNORECASE)
+KEEP_LIMIT = 1000
+
+
+def size(text):
+    """A number of bytes: 500, 20K, 3M, 10G, 1T."""
+    found = SIZE_FORM.fullmatch(text)
+    if not found:
+        raise argparse.ArgumentTypeError(f"{text} is no size, as 500, 20K, 3M, 10G or 1T are")
+    return int(found[1]) << 10 * " KMGT".index(found[2].upper() or " ")
+
+
+def seconds(text):
+    if not re.fullmatch(r"\d+(\.\d+)?", text, re.ASCII):
+        raise argparse.ArgumentTypeError(f"{text} is no number of seconds")
+    return float(text)
+
+
+def number(text):
+    if not re.fullmatch(r"\d{1,9}", text, re.ASCII):
+        raise argparse.ArgumentTypeError(f"{text} is no whole number")
+    return int(text)
+
+
+def keep_count(text):
+    found = number(text)
+    if not 1 <= found <= KEEP_LIMIT:
+        raise argparse.ArgumentTypeError(f"{text} is not from 1 to {KEEP_LIMIT}")
+    return found
+
+
+def group(text):
+    if not GROUP_FORM.fullmatch(text):
+        raise argparse.ArgumentTypeError(f"{text} is no group; one is as host/me: ct, host or vm, and a name of letters, digits, _ . -")
+    return text
+
+
+def snapshot(text):
+    """A snapshot's name, a group for its latest, or `latest`."""
+    front, _, last = text.rpartition("/")
+    named = GROUP_FORM.fullmatch(front) and (last == "latest" or TIME_FORM.fullmatch(last))
+    if text != "latest" and not GROUP_FORM.fullmatch(text) and not named:
+        raise argparse.ArgumentTypeError(f"{text} is no snapshot; one is as host/me/2020-01-15T06:30:03Z, or host/me/latest")
+    return text
+
+
+def exact_snapshot(text):
+    """A snapshot whose group is named."""
+    if "/" not in snapshot(text):
+        raise argparse.ArgumentTypeError("latest alone could be any group's; say it as host/me/latest")
+    return text
+
+
+def group_or_snapshot(text):
+    return snapshot(text) if text != "latest" else exact_snapshot(text)
+
+
+class Option(NamedTuple):
+    """An option: its names, what it does, and of one with a value the word for it, how it is read, and whether it may come again."""
+
+    names: Tuple[str, ...]
+    help: str
+    value: str = ""
+    read: Callable = str
+    many: bool = False
+    default: object = None
+    choices: Tuple[str, ...] = ()
+
+
+class Operand(NamedTuple):
+    """What stands without a name: a word for it, what it is, and how many there are: 1, `?`, `*` or `+`."""
+
+    name: str
+    help: str
+    count: str = "1"
+    read: Callable = str
+
+
+class Command(NamedTuple):
+    """A command: what it does, the function that does it (`module.function`), its operands and options, and more text for its help."""
+
+    name: str
+    summary: str
+    does: str
+    operands: Tuple[Operand, ...] = ()
+    options: Tuple[Option, ...] = ()
+    text: str = ""
+
+
+COMMON = (
+    Option(("-r", "--root"), "the store's folder; else PBSTORE_ROOT", "ROOT"),
+    Option(("--wait",), "if the store is in use, wait up to so many seconds", "SECONDS", seconds, default=0.0),
+    Option(("--json",), "print one JSON object a line, each with its message_type"),
+    Option(("-q", "--quiet"), "print results and failures alone"),
+    Option(("-v", "--verbose"), "print more"),
+    Option(("--log",), "append each line to FILE too, with the time", "FILE"),
+    Option(("--force",), "open a store that has lost its file .chunks/book"),
+    Option(("--program",), "the program pbstore; else PBSTORE, the one beside pbclient, or the one on the path", "FILE"),
+)
+DRY_RUN = Option(("-n", "--dry-run"), "tell what would be done, and do nothing")
+
+COMMANDS = (
+    Command(
+        "init", "make a store", "keep.init",
+        text="Makes the folder ROOT, if it is not there, and an empty store in it. The folder must be empty. Only its owner may read it.",
+    ),
+    Command("version", "tell the versions of the client and of the program", "keep.version"),
+)
+
+
+def command_named(name):
+    """The row of a command."""
+    for it in COMMANDS:
+        if it.name == name:
+            return it
+    near = difflib.get_close_matches(name, [it.name for it in COMMANDS], 1)
+    meant = f"did you mean {near[0]}? " if near else ""
+    raise mistyped(f"{name} is no command", f"{meant}pbclient help lists them")
+
+
+class Parser(argparse.ArgumentParser):
+    """A parser whose failures are the client's."""
+
+    def error(self, message):
+        raise mistyped(message, f"{self.prog.replace('pbclient', 'pbclient help', 1)} tells the words")
+
+
+def option_arguments(option):
+    """How argparse reads an option."""
+    if not option.value:
+        return {"action": "store_true", "help": option.help}
+    found = {"metavar": option.value, "type": option.read, "help": option.help, "default": option.default}
+    if option.many:
+        found.update(action="append", default=[])
+    if option.choices:
+        found.update(choices=option.choices)
+    return found
+
+
+def add_options(parser, options, **more):
+    for it in options:
+        parser.add_argument(*it.names, **{**option_arguments(it), **more})
+
+
+def parser_of(command):
+    """The parser of what follows a command."""
+    parser = Parser(
+        prog=f"pbclient {command.name}", description=command.text or f"{command.summary.capitalize()}.", allow_abbrev=False,
+        formatter_class=argparse.RawDescriptionHelpFormatter,
+    )
+    for it in command.operands:
+        count = {} if it.count == "1" else {"nargs": it.count}
+        parser.add_argument(it.name.lower().replace("-", "_"), metavar=it.name, help=it.help, type=it.read, **count)
+    add_options(parser, command.options)
+    add_options(parser.add_argument_group("options of all commands"), COMMON, default=argparse.SUPPRESS)
+    return parser
+
+
+def common_parser():
+    """The parser of what comes before a command."""
+    parser = Parser(prog="pbclient", add_help=False, allow_abbrev=False)
+    add_options(parser, COMMON)
+    return parser
+
+
+def parted(words):
+    """The words before the command, and those from it on."""
+    valued = {name for it in COMMON if it.value for name in it.names}
+    at = 0
+    while at < len(words) and words[at].startswith("-"):
+        at += 2 if words[at] in valued else 1
+    return words[:at], words[at:]
+
+
+def read(words):
+    """What the words say: the command's row, and the options. Help is printed, and ends the program, as argparse does it."""
+    front, rest = parted(["version" if it == "--version" else it for it in words[:1]] + words[1:])
+    if not rest or rest[0] == "help" or front in (["-h"], ["--help"]):
+        return None, help_of(rest[1:])
+    options = common_parser().parse_args(front)
+    command = command_named(rest[0])
+    return command, parser_of(command).parse_intermixed_args(rest[1:], options)
+
+
+def help_of(words):
+    """The help of a command, or of all."""
+    if words:
+        return parser_of(command_named(words[0])).format_help().rstrip("\n")
+    width = max(len(it.name) for it in COMMANDS) + 2
+    lines = ["usage: pbclient [-r ROOT] COMMAND [WORDS]", "", "Backs up to a store, restores from it, and looks after it.", ""]
+    lines += [f"  {it.name.ljust(width)}{it.summary}" for it in COMMANDS]
+    lines += ["", "pbclient help COMMAND tells the words of one. Options of all commands:", ""]
+    names = {", ".join(it.names) + (f" {it.value}" if it.value else ""): it.help for it in COMMON}
+    wide = max(map(len, names)) + 2
+    lines += [f"  {name.ljust(wide)}{text}" for name, text in names.items()]
+    lines += ["", "Statuses:", ""] + [f"  {status:3}  {text}" for status, text in MEANINGS.items()]
+    return "\n".join(lines)
