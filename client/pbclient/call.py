@@ -4,6 +4,8 @@ import contextlib, os
 from . import store
 from .failures import Failure, mistyped
 from .report import failure_of
+from .served import dial
+from .served.talks import ServedRun
 from .talk import Ended, NoProgram, Refused, Run, program
 
 # The status of the program for a fault of the disk, and the refusals that come of one.
@@ -44,12 +46,31 @@ class Call:
     @contextlib.contextmanager
     def run(self, count=1, writes=False, makes=False, remote=None):
         """A run of the program on ROOT, with so many sessions. A command that only reads is done on a store that can only be read.
-        One that makes a store leaves the book first, by which the folder is a store from then on, whatever comes."""
+        One that makes a store leaves the book first, by which the folder is a store from then on, whatever comes.
+
+        Where a server has the store, they are sessions of it."""
+        if way := self.way():
+            with self.served(way, count, remote) as run:
+                yield run
+            return
         if self.check_store(writes, makes):
             self.make_store()
         with self.started(count, remote) as run:
             yield run
             self.end(run, writes)
+
+    def way(self):
+        """How the server is reached that has the store; None for a folder that no server has."""
+        self.need_root()
+        try:
+            return dial.way_to(self.root)
+        except ValueError as error:
+            raise mistyped(str(error), "one is as unix:/run/pbstore/main.sock or ssh://backup@vault/main") from None
+
+    def served(self, way, count, remote):
+        if remote:
+            raise mistyped("a served store pulls from the folder that its server was given", "leave it out, or end the server first")
+        return ServedRun(self.root, way, count, lambda text: self.report.note(f"waiting: {text}"), self.options.wait)
 
     @contextlib.contextmanager
     def session(self, **how):
@@ -88,6 +109,8 @@ class Call:
             return failure_of(error)
         if isinstance(error, Refused) and error.name not in DISK_REFUSALS:
             return Failure(str(error), ADVICE.get(error.name, "look at the words; if they are right this is a fault of pbclient"))
+        if isinstance(error, Refused) and self.way():
+            return Failure(f"the store's disk failed: {error}", "look at the server's log and at the store's disk, then run again")
         if isinstance(error, Refused) or error.status == DISK_FAULT:
             return store.why_ended(self.root, error)
         return Failure(f"the store ended: {error}", "run again; no finished snapshot was lost")

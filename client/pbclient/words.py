@@ -1,6 +1,6 @@
 """The words of the client: commands, options and their help, in one table. The parser, the help, the man page and the completion are made
 from it."""
-import argparse, difflib, re
+import argparse, difflib, grp, pwd, re
 from typing import Callable, NamedTuple, Tuple
 
 from .failures import MEANINGS, mistyped
@@ -64,6 +64,33 @@ def group_or_snapshot(text):
     return snapshot(text) if text != "latest" else exact_snapshot(text)
 
 
+def lane_count(text):
+    found = number(text)
+    if not 1 <= found <= 64:
+        raise argparse.ArgumentTypeError(f"{text} is not from 1 to 64")
+    return found
+
+
+def mode(text):
+    if not re.fullmatch(r"[0-7]{3}", text, re.ASCII):
+        raise argparse.ArgumentTypeError(f"{text} is no mode, as 660 is")
+    return int(text, 8)
+
+
+def uid(text):
+    try:
+        return int(text) if text.isdigit() else pwd.getpwnam(text).pw_uid
+    except KeyError:
+        raise argparse.ArgumentTypeError(f"{text} is no account") from None
+
+
+def gid(text):
+    try:
+        return int(text) if text.isdigit() else grp.getgrnam(text).gr_gid
+    except KeyError:
+        raise argparse.ArgumentTypeError(f"{text} is no group of this machine") from None
+
+
 class Option(NamedTuple):
     """An option: its names, what it does, and of one with a value the word for it, how it is read, and whether it may come again."""
 
@@ -97,7 +124,7 @@ class Command(NamedTuple):
 
 
 COMMON = (
-    Option(("-r", "--root"), "the store's folder; else PBSTORE_ROOT", "ROOT"),
+    Option(("-r", "--root"), "the store: its folder, unix:SOCKET, or ssh://ACCOUNT@HOST/NAME; else PBSTORE_ROOT", "ROOT"),
     Option(("--wait",), "if the store is in use, wait up to so many seconds", "SECONDS", seconds, default=0.0),
     Option(("--json",), "print one JSON object a line, each with its message_type"),
     Option(("-q", "--quiet"), "print results and failures alone"),
@@ -113,6 +140,32 @@ COMMANDS = (
         "init", "make a store", "keep.init",
         text="Makes the folder ROOT, if it is not there, and an empty store in it. The folder must be empty. Only its owner may read it.",
     ),
+    Command(
+        "serve", "serve ROOT to clients that come and go, of this machine and others", "serving.serve",
+        operands=(Operand("STORE", "the store's folder"),),
+        options=(
+            Option(("--name",), "the store's name, by which clients ask for it; else the folder's", "NAME"),
+            Option(("--socket",), "where clients connect; else /run/pbstore/NAME.sock", "PATH"),
+            Option(("--group",), "the group whose accounts may connect", "GROUP", gid),
+            Option(("--mode",), "the rights to the socket", "OCTAL", mode, default=0o660),
+            Option(("--trust",), "an account that may say for which user it speaks, as ssh's does; may come again", "ACCOUNT", uid, many=True),
+            Option(("--remote",), "the folder that copy reads", "ROOT2"),
+            Option(("--lanes",), "sessions at once, 64 at most", "N", lane_count, default=64),
+            Option(("--linger",), "seconds without a client, after which the program ends", "SECONDS", seconds, default=60.0),
+            Option(("--idle",), "seconds after which a client that sends or takes nothing is left", "SECONDS", seconds, default=3600.0),
+            Option(("--grace",), "seconds that sessions have when the server is stopped", "SECONDS", seconds, default=60.0),
+            Option(("--stop-limit",), "seconds after which a program that does not end then is killed", "SECONDS", seconds, default=600.0),
+        ),
+        text="""Serves the store to up to 64 clients at once, until SIGTERM. SIGHUP has the store opened anew.
+
+Clients of this machine come by -r STORE or -r unix:SOCKET, those of others by -r ssh://ACCOUNT@HOST/NAME.""",
+    ),
+    Command(
+        "connect", "join standard input and output to a server: the forced command of ssh", "serving.connect",
+        operands=(Operand("STORE", "the store's name, or its socket's path"),),
+        options=(Option(("--user",), "for whom; else this account", "USER"),),
+    ),
+    Command("status", "tell who has a lane of the server, and who waits", "serving.status"),
     Command("version", "tell the versions of the client and of the program", "keep.version"),
 )
 
