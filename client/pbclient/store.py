@@ -160,12 +160,6 @@ def clock_warning(root):
     return f"{root} was used at {at}, which is ahead of the clock: until then gc frees nothing", advice
 
 
-def chunk_path(root, digest):
-    """Where a chunk's file lies, by its digest."""
-    name = digest.hex()
-    return os.path.join(root, ".chunks", name[:4], name)
-
-
 def why_ended(root, error):
     """The failure behind a status of the program that says that the disk failed."""
     if is_locked(root):
