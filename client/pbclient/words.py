@@ -7,6 +7,7 @@ from .failures import MEANINGS, mistyped
 
 GROUP_FORM = re.compile(r"(ct|host|vm)/[A-Za-z0-9_][A-Za-z0-9_.-]{0,63}", re.ASCII)
 TIME_FORM = re.compile(r"\d{4}-\d\d-\d\dT\d\d:\d\d:\d\dZ", re.ASCII)
+FILE_FORM, FILE_LIMIT = re.compile(r"[A-Za-z0-9_][A-Za-z0-9_.-]*", re.ASCII), 64
 SIZE_FORM = re.compile(r"(\d+)([KMGT]?)(i?B)?", re.ASCII | re.IGNORECASE)
 KEEP_LIMIT = 1000
 
@@ -89,6 +90,43 @@ def gid(text):
         return int(text) if text.isdigit() else grp.getgrnam(text).gr_gid
     except KeyError:
         raise argparse.ArgumentTypeError(f"{text} is no group of this machine") from None
+
+
+def named(text, what, ending):
+    """A name in a snapshot and a value, from NAME=VALUE."""
+    name, sign, value = text.partition("=")
+    if not sign or not value:
+        raise argparse.ArgumentTypeError(f"{text} is not as in {what}")
+    return file_name(name, ending), value
+
+
+def file_name(text, ending=""):
+    """A name that a file of a snapshot may have, with an ending to come."""
+    if not FILE_FORM.fullmatch(text) or len(text + ending) > FILE_LIMIT:
+        raise argparse.ArgumentTypeError(f"{text} is no name of a file in a snapshot: letters, digits, _ . -, {FILE_LIMIT - len(ending)} at most")
+    return text
+
+
+def image(text):
+    return named(text, "NAME=DEVICE", ".fidx")
+
+
+def stream(text):
+    return file_name(text, ".didx")
+
+
+def note(text):
+    key, sign, value = text.partition("=")
+    if not sign or not key:
+        raise argparse.ArgumentTypeError(f"{text} is not as in KEY=VALUE")
+    return key, value
+
+
+def moment(text):
+    """A second in UTC."""
+    if not TIME_FORM.fullmatch(text):
+        raise argparse.ArgumentTypeError(f"{text} is no time; one is as 2020-01-15T06:30:03Z, in UTC")
+    return text
 
 
 class Option(NamedTuple):
@@ -223,6 +261,27 @@ COMMANDS = (
         "    [prune]\n    all = yes\n    keep-daily = 7\n    keep-weekly = 4\n\n"
         "    [gc]\n\n    [check]\n    read-data = yes\n\n"
         "All of it is read before anything is done. A command that fails does not keep the others from being done.",
+    ),
+    Command(
+        "backup", "back up folders, images or standard input into a group", "backup.backup",
+        (Operand("GROUP", "whose snapshot it becomes, as host/me: ct, host or vm, and a name", read=group),
+         Operand("PATH", "a folder, with all below it, or a file; `and GROUP PATH..` backs up another group at the same time", "*")),
+        (Option(("-e", "--exclude"), "leave out what PATTERN matches: a name, the end of a path, or with / in front a whole path; "
+                "* and ? are of one name, ** goes over names, / at the end is of folders alone", "PATTERN", many=True),
+         Option(("--exclude-from",), "leave out what the patterns in FILE match, one a line", "FILE", many=True),
+         Option(("--exclude-caches",), "leave out what folders hold that have a CACHEDIR.TAG"),
+         Option(("--exclude-larger-than",), "leave out files larger than SIZE", "SIZE", size),
+         Option(("-x", "--one-file-system"), "do not go into other file systems that are mounted below"),
+         Option(("--image",), "back up a disk or its image as NAME.fidx", "NAME=DEVICE", image, many=True),
+         Option(("--stdin",), "back up standard input as NAME.didx", "NAME", stream),
+         Option(("--time",), "the snapshot's time in UTC; else now", "TIME", moment),
+         Option(("--note",), "keep this with the snapshot", "KEY=VALUE", note, many=True),
+         Option(("--reread",), "read all files, also those that look unchanged"),
+         Option(("--resend",), "read and send all, also what the last snapshot has"),
+         Option(("--reserve",), "stop while so much is free on the store's disk", "SIZE", size),
+         DRY_RUN),
+        text="Makes a snapshot of folders and files, images and standard input. What has not changed since the group's last snapshot, by "
+        "size, times and inode, is neither read nor sent.",
     ),
     *SERVING,
     Command("version", "tell the versions of the client and of the program", "keep.version"),
