@@ -1,11 +1,10 @@
 """A call of the client: its options, what it says, and the store that it is on."""
-import contextlib, os
+import contextlib, functools, os
 
-from . import store
+from . import damage, store
 from .failures import Failure, mistyped
 from .report import failure_of
-from .served import dial
-from .served.talks import ServedRun
+from .served import dial, talks
 from .talk import Ended, NoProgram, Refused, Run, program
 
 # The status of the program for a fault of the disk, and the refusals that come of one.
@@ -42,8 +41,9 @@ class Call:
             self.report.detail(f"{self.root} is made")
 
     def check_store(self, writes, makes):
-        """Looks at ROOT before the program is started, and tells whether it is empty."""
-        self.need_root()
+        """Looks at ROOT before the program is started, and tells whether it is empty. A server does so itself."""
+        if self.way:
+            return False
         empty = store.is_empty(self.root, may_be_empty=makes, force=self.options.force)
         if writes:
             store.need_rights(self.root)
@@ -56,8 +56,8 @@ class Call:
         One that makes a store leaves the book first, by which the folder is a store from then on, whatever comes.
 
         Where a server has the store, they are sessions of it."""
-        if way := self.way():
-            with self.served(way, count, remote) as run:
+        if self.way:
+            with self.served(count, remote) as run:
                 yield run
             return
         if self.check_store(writes, makes):
@@ -66,6 +66,7 @@ class Call:
             yield run
             self.end(run, writes)
 
+    @functools.cached_property
     def way(self):
         """How the server is reached that has the store; None for a folder that no server has."""
         self.need_root()
@@ -74,10 +75,32 @@ class Call:
         except ValueError as error:
             raise mistyped(str(error), "one is as unix:/run/pbstore/main.sock or ssh://backup@vault/main") from None
 
-    def served(self, way, count, remote):
+    @property
+    def folder(self):
+        """The store's folder, to look into; None of a served store if it is not here, or this account may not read it."""
+        is_here = not dial.is_address(self.root) and os.access(os.path.join(self.root, ".chunks"), os.R_OK | os.X_OK)
+        return self.root if is_here or not self.way else None
+
+    def damaged(self):
+        """The chunks that a backup must send though the store has files of them. It is asked before a run."""
+        return talks.damaged(self.way) if self.way else damage.set_aside(self.root)
+
+    def note_damaged(self, digests):
+        """Has damaged chunks sent again by the next backup that has their pieces."""
+        if self.way:
+            talks.damaged(self.way, digests)
+        else:
+            damage.add(self.root, digests)
+
+    def settle_damaged(self):
+        """Notes no more those chunks that are whole again. A server does so as it opens the store."""
+        if not self.way:
+            damage.settle(self.root)
+
+    def served(self, count, remote):
         if remote:
             raise mistyped("a served store pulls from the folder that its server was given", "leave it out, or end the server first")
-        return ServedRun(self.root, way, count, lambda text: self.report.note(f"waiting: {text}"), self.options.wait)
+        return talks.ServedRun(self.root, self.way, count, lambda text: self.report.note(f"waiting: {text}"), self.options.wait)
 
     @contextlib.contextmanager
     def session(self, **how):
@@ -116,7 +139,7 @@ class Call:
             return failure_of(error)
         if isinstance(error, Refused) and error.name not in DISK_REFUSALS:
             return Failure(str(error), ADVICE.get(error.name, "look at the words; if they are right this is a fault of pbclient"))
-        if isinstance(error, Refused) and self.way():
+        if isinstance(error, Refused) and self.way:
             return Failure(f"the store's disk failed: {error}", "look at the server's log and at the store's disk, then run again")
         if isinstance(error, Refused) or error.status == DISK_FAULT:
             return store.why_ended(self.root, error)

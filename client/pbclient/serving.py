@@ -48,11 +48,11 @@ def connect(call):
 
 def status(call):
     """Tells who has a lane of the server, and who waits."""
-    way = call.way()
-    if not way:
+    call.need_root()
+    if not call.way:
         raise Failure(f"no server has {call.root}", "start one: pbclient serve STORE")
     try:
-        state, *rows, waiting = dial.status(way)
+        state, *rows, waiting = dial.status(call.way)
     except hello.Refused as refused:
         raise talks.failure_of(refused) from None
     call.report.result("server", state, state=state, waiting=int(waiting.split()[0]))

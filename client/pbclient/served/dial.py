@@ -121,6 +121,15 @@ def status(way):
     return found
 
 
+def damaged(way, digests=()):
+    """Tells a server of damaged chunks, and gives all that it knows of."""
+    with heard(), contextlib.closing(way.open()) as stream:
+        stream.write(hello.line("damaged", hello.VERSION, way.name) + hello.lines_of_digests(digests))
+        stream.shut()
+        count = hello.await_ready(stream.read, lambda text: None)
+        return hello.digests_of(stream.read(count * hello.DIGEST_LINE))
+
+
 def begin(way, told=lambda text: None):
     """A stream that is ready for frames, and the lane's number. `told` takes why it has to wait."""
     with heard():

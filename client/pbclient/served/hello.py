@@ -1,14 +1,18 @@
 """The lines before the frames. After `ready` both directions carry the frames of docs/PROTOCOL.md and nothing else.
 
     client    user NAME            for whom it speaks, if the server trusts it
-    client    pbstore 1 STORE      the version of these lines, and the store's name or `-`; or `status 1 STORE`
+    client    pbstore 1 STORE      the version of these lines, and the store's name or `-`
     server    wait TEXT            any number of these
     server    ready LANE           or `no CAUSE TEXT`, and the end
+
+In place of `pbstore` a client may say `status`, and is told lines of text; or `damaged`, with a line of 64 hexadecimal digits for each damaged
+chunk that it knows of, up to the end of what it sends. The server answers `ready COUNT`, and a line for each that it knows of then.
 """
 import re
 
 VERSION = "1"
 LINE_LIMIT = 512
+DIGEST, DIGEST_LINE = re.compile(rb"[0-9a-f]{64}"), 65
 NAME = re.compile(r"[A-Za-z0-9_][A-Za-z0-9_.-]{0,63}")
 
 
@@ -47,7 +51,7 @@ def read_hello(read):
     if words[0] == "user" and len(words) == 2:
         user = words[1]
         words = line_of(read).split(" ")
-    if words[0] not in ("pbstore", "status") or len(words) != 3:
+    if words[0] not in ("pbstore", "status", "damaged") or len(words) != 3:
         raise Refused("line", "the first line is `pbstore 1 STORE`")
     if words[1] != VERSION:
         raise Refused("version", f"this server speaks version {VERSION}")
@@ -78,3 +82,12 @@ def row_of(text):
     """What a line of the status tells of a session: lane, user, seconds, commands, bytes."""
     lane, user, seconds, _, commands, _, size, _ = text.split(" ")
     return int(lane), user, int(seconds), int(commands), int(size)
+
+
+def lines_of_digests(digests):
+    return b"".join(line(it.hex()) for it in sorted(digests))
+
+
+def digests_of(data):
+    """The digests that lines tell. Other lines are passed over."""
+    return {bytes.fromhex(it.decode()) for it in data.split(b"\n") if DIGEST.fullmatch(it)}

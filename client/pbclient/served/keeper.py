@@ -1,7 +1,7 @@
 """Runs the program whenever clients are there, and ends it."""
 import os, shutil, time
 
-from .. import store
+from .. import damage, store
 from ..failures import Failure
 from . import limits
 from .lending import IN_USE, OPENING
@@ -62,6 +62,7 @@ class Keeper:
     def start(self):
         # (the folder may be another than it was: a disk that is not mounted)
         store.is_empty(self.options.root, force=self.options.force)
+        damage.set_aside(self.options.root)
         # (a killed server's)
         shutil.rmtree(self.work, ignore_errors=True)
         remote = ["--remote", self.options.remote] if self.options.remote else []

@@ -21,6 +21,8 @@ RUN_COMMANDS, RUN_AGE = 2_500_000, 86_400
 RENEWAL, NEXT_RENEWAL = 120, 21_600
 # Sessions of a run whose disk failed are ended after this time, and a client that does not take its last replies is left after this one.
 HALTED, LAST_REPLIES = 60, 10
+# A client may tell so many bytes of damaged chunks, 65 each.
+DAMAGED = 65 << 16
 # After an opening that failed, and for what a client sends after its end.
 RETRY, PARTING = 5, 5
 # How often what has no event of its own is looked at.

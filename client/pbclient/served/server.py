@@ -5,6 +5,7 @@ session.
 """
 import contextlib, os, select, signal, socket, threading, time, traceback
 
+from .. import damage
 from . import hello, limits
 from .hello import Refused, line
 from .keeper import Keeper
@@ -85,6 +86,8 @@ class Server:
         if word == "status":
             self.want_trust(uid)
             client.sendall(self.status())
+        elif word == "damaged":
+            client.sendall(self.damaged(client))
         else:
             self.serve(client, self.lend(client, user))
 
@@ -142,6 +145,20 @@ class Server:
     def status(self):
         with self.changed:
             return "".join(f"{it}\n" for it in self.lending.status()).encode()
+
+    def damaged(self, client):
+        """Notes the damaged chunks that a client tells, and tells all that are noted. They are put aside as the store is opened, so that is done
+        soon."""
+        told = bytearray()
+        while len(told) < limits.DAMAGED and (some := client.recv(1 << 16)):
+            told += some
+        with self.changed:
+            before = damage.noted(self.options.root)
+            damage.add(self.options.root, hello.digests_of(told))
+            found = damage.noted(self.options.root)
+            if found != before:
+                self.lending.renew()
+        return line("ready", len(found)) + hello.lines_of_digests(found)
 
     # Its own start and end
 

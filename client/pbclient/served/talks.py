@@ -33,6 +33,14 @@ def ended(text):
     return Failure(f"the server ended the session: {text}", "run again; no finished snapshot was lost")
 
 
+def damaged(way, digests=()):
+    """The damaged chunks that a server knows of, these among them."""
+    try:
+        return dial.damaged(way, digests)
+    except hello.Refused as refused:
+        raise failure_of(refused) from None
+
+
 class ServedTalk(Talk):
     """A session of a server. It waits for a lane as it is entered."""
 
