@@ -106,6 +106,7 @@ COMMON = (
     Option(("--force",), "open a store that has lost its file .chunks/book"),
     Option(("--program",), "the program pbstore; else PBSTORE, the one beside pbclient, or the one on the path", "FILE"),
 )
+HELP = {"-h", "--help"}
 DRY_RUN = Option(("-n", "--dry-run"), "tell what would be done, and do nothing")
 
 YES = Option(("-y", "--yes"), "do not ask")
@@ -183,7 +184,10 @@ def command_named(name):
 
 
 class Parser(argparse.ArgumentParser):
-    """A parser whose failures are the client's."""
+    """A parser whose failures are the client's. It makes no help."""
+
+    def __init__(self, name):
+        super().__init__(prog=name, add_help=False, allow_abbrev=False)
 
     def error(self, message):
         # (of an operand what is wrong is told alone)
@@ -209,21 +213,18 @@ def add_options(parser, options, **more):
 
 def parser_of(command):
     """The parser of what follows a command."""
-    parser = Parser(
-        prog=f"pbclient {command.name}", description=command.text or f"{command.summary.capitalize()}.", allow_abbrev=False,
-        formatter_class=argparse.RawDescriptionHelpFormatter,
-    )
+    parser = Parser(f"pbclient {command.name}")
     for it in command.operands:
         count = {} if it.count == "1" else {"nargs": it.count}
         parser.add_argument(it.name.lower().replace("-", "_"), metavar=it.name, help=it.help, type=it.read, **count)
     add_options(parser, command.options)
-    add_options(parser.add_argument_group("options of all commands"), COMMON, default=argparse.SUPPRESS)
+    add_options(parser, COMMON, default=argparse.SUPPRESS)
     return parser
 
 
 def common_parser():
     """The parser of what comes before a command."""
-    parser = Parser(prog="pbclient", add_help=False, allow_abbrev=False)
+    parser = Parser("pbclient")
     add_options(parser, COMMON)
     return parser
 
@@ -238,25 +239,46 @@ def parted(words):
 
 
 def read(words):
-    """What the words say: the command's row, and the options. Help is printed, and ends the program, as argparse does it."""
+    """What the words say: the command's row and the options; or none, and the help that they ask for."""
     front, rest = parted(["version" if it == "--version" else it for it in words[:1]] + words[1:])
-    if not rest or rest[0] == "help" or front in (["-h"], ["--help"]):
+    if not rest or rest[0] == "help" or HELP & set(front):
         return None, help_of(rest[1:])
-    options = common_parser().parse_args(front)
     command = command_named(rest[0])
-    return command, parser_of(command).parse_intermixed_args(rest[1:], options)
+    if HELP & set(rest):
+        return None, help_of_command(command)
+    return command, parser_of(command).parse_intermixed_args(rest[1:], common_parser().parse_args(front))
+
+
+def spelled(option):
+    """An option as the help shows it."""
+    return ", ".join(option.names) + (f" {option.value}" if option.value else "")
+
+
+def listed(rows):
+    """Lines of names with their texts beside them."""
+    width = max(len(name) for name, _ in rows) + 2
+    return [f"  {name.ljust(width)}{text}" for name, text in rows]
+
+
+def usage(command):
+    """How a command is spelled, in one line."""
+    counts = {"1": "{}", "?": "[{}]", "*": "[{}..]", "+": "{}.."}
+    operands = "".join(f" {counts[it.count].format(it.name)}" for it in command.operands)
+    return f"pbclient {command.name}{' [OPTIONS]' if command.options else ''}{operands}"
+
+
+def help_of_command(command):
+    rows = [(it.name, it.help) for it in command.operands] + [(spelled(it), it.help) for it in command.options]
+    lines = [f"usage: {usage(command)}", "", command.text or f"{command.summary.capitalize()}."]
+    return "\n".join([*lines, *(["", *listed(rows)] if rows else []), "", "pbclient help tells the options of all commands."])
 
 
 def help_of(words):
     """The help of a command, or of all."""
     if words:
-        return parser_of(command_named(words[0])).format_help().rstrip("\n")
-    width = max(len(it.name) for it in COMMANDS) + 2
+        return help_of_command(command_named(words[0]))
     lines = ["usage: pbclient [-r ROOT] COMMAND [WORDS]", "", "Backs up to a store, restores from it, and looks after it.", ""]
-    lines += [f"  {it.name.ljust(width)}{it.summary}" for it in COMMANDS]
+    lines += listed([(it.name, it.summary) for it in COMMANDS])
     lines += ["", "pbclient help COMMAND tells the words of one. Options of all commands:", ""]
-    names = {", ".join(it.names) + (f" {it.value}" if it.value else ""): it.help for it in COMMON}
-    wide = max(map(len, names)) + 2
-    lines += [f"  {name.ljust(wide)}{text}" for name, text in names.items()]
-    lines += ["", "Statuses:", ""] + [f"  {status:3}  {text}" for status, text in MEANINGS.items()]
-    return "\n".join(lines)
+    lines += listed([(spelled(it), it.help) for it in COMMON])
+    return "\n".join(lines + ["", "Statuses:", "", *listed([(str(status), text) for status, text in MEANINGS.items()])])
