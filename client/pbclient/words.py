@@ -172,6 +172,20 @@ COMMANDS = (
         text="Makes a snapshot of folders and files, images and standard input. What has not changed since the group's last snapshot, by "
         "size, times and inode, is neither read nor sent.",
     ),
+    Command(
+        "restore", "restore a snapshot, or paths of it, into a folder; or an image into a file", "restore.restore",
+        (Operand("SNAPSHOT", "which snapshot", read=snapshot), Operand("PATH", "a path, with all below it; else all", "*")),
+        (Option(("-t", "--target"), "the folder that the paths are put into, each with those on its way", "DIR"),
+         Option(("--image",), "the file or device that an image is written to", "FILE"),
+         Option(("--overwrite",), "of what is there already: keep it, write over what differs by size or time, or over all", "WHICH",
+                default="never", choices=("never", "if-changed", "always")),
+         Option(("--numeric-owner",), "take owners by their numbers, not by their names"),
+         Option(("--no-owner",), "let all be the caller's"),
+         Option(("--sparse",), "make holes of zeros"),
+         DRY_RUN),
+        text="Paths are as `pbclient ls` tells them. No link is followed below DIR. What is there already is kept, unless --overwrite says "
+        "otherwise.",
+    ),
     Command("version", "tell the versions of the client and of the program", "keep.version"),
 )
 
