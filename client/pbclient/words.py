@@ -186,6 +186,26 @@ COMMANDS = (
         text="Paths are as `pbclient ls` tells them. No link is followed below DIR. What is there already is kept, unless --overwrite says "
         "otherwise.",
     ),
+    Command(
+        "ls", "list a folder of a snapshot", "look.ls",
+        (Operand("SNAPSHOT", "which snapshot", read=snapshot), Operand("PATH", "the folder; else what the snapshot has on top", "?")),
+        (Option(("-R", "--recursive"), "list all below it"),),
+    ),
+    Command(
+        "find", "find paths of a snapshot by a pattern", "look.find",
+        (Operand("SNAPSHOT", "which snapshot", read=snapshot),
+         Operand("PATTERN", "a name, or the end of a path; * and ? are of one name, ** goes over names")),
+    ),
+    Command(
+        "diff", "tell what changed from one snapshot to another", "look.diff",
+        (Operand("SNAPSHOT", "the older one", read=snapshot), Operand("OTHER", "the newer one", read=snapshot)),
+    ),
+    Command(
+        "dump", "write a file of a snapshot to standard output, or a folder as a tar stream", "look.dump",
+        (Operand("SNAPSHOT", "which snapshot", read=snapshot),
+         Operand("PATH", "a path, or what --stdin or --image named")),
+        (Option(("--tar",), "write a file as a tar stream too"),),
+    ),
     Command("version", "tell the versions of the client and of the program", "keep.version"),
 )
 
