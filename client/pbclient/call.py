@@ -32,6 +32,13 @@ class Call:
         if not self.root:
             raise mistyped("no store is named", "name its folder: -r ROOT, or PBSTORE_ROOT in the environment")
 
+    def make_folder(self):
+        """Makes ROOT where it is not there, in a folder that is."""
+        self.need_root()
+        if not os.path.lexists(self.root):
+            os.mkdir(self.root)
+            self.report.detail(f"{self.root} is made")
+
     def check_store(self, writes, makes):
         """Looks at ROOT before the program is started, and tells whether it is empty."""
         self.need_root()

@@ -7,7 +7,7 @@ A chunk's file that is damaged is put aside under a name with `.bad`, since the 
 import os
 
 from . import chunks
-from .store import is_locked
+from .store import held
 
 NOTE = "damaged-chunks"
 ASIDE = ".bad"
@@ -44,17 +44,20 @@ def add(root, digests):
 
 
 def set_aside(root):
-    """The noted chunks that a backup must send, those whose files are missing or damaged. The damaged ones are put aside. No run may have
+    """The noted chunks that a backup must send: those whose files are missing or damaged. The damaged ones are put aside, unless a run has
     the store."""
-    if not noted(root) or is_locked(root):
+    if not noted(root):
         return set()
-    bad = set(chunks.bad_of(root, noted(root)))
-    for digest in bad:
-        path = chunks.path_of(root, digest)
-        if os.path.lexists(path):
-            os.replace(path, path + ASIDE)
-    write(root, bad)
-    return bad
+    with held(root) as free:
+        if not free:
+            return noted(root)
+        bad = set(chunks.bad_of(root, noted(root)))
+        for digest in bad:
+            path = chunks.path_of(root, digest)
+            if os.path.lexists(path):
+                os.replace(path, path + ASIDE)
+        write(root, bad)
+        return bad
 
 
 def settle(root):

@@ -7,9 +7,7 @@ from .talk import NoProgram, program
 
 def init(call):
     """Makes ROOT and an empty store in it."""
-    call.need_root()
-    if not os.path.lexists(call.root):
-        os.mkdir(call.root)
+    call.make_folder()
     if not call.check_store(writes=True, makes=True):
         raise store.no_store(f"{call.root} has a store already", "use it as it is, or name another folder")
     call.make_store()

@@ -3,11 +3,13 @@
 A run removes files of its folder that it takes for unfinished work: all that end in `.tmp`, and those of a snapshot without a manifest. So it
 may open a store alone. A store has the file `.chunks/book`, which each run leaves.
 """
-import fcntl, os, pwd, stat, struct, time
+import contextlib, fcntl, os, pwd, stat, struct, time
 
 from .failures import FULL, IN_USE, NO_STORE, Failure
+from .session import BOOK_MAGIC
 
 BOOK = os.path.join(".chunks", "book")
+BOOK_HEAD, BOOK_ROW = 24, struct.Struct("<32sQ")
 TYPES = ["ct", "host", "vm"]
 # A folder of another program has all of these names, and perhaps more.
 REPOSITORIES = {"a restic repository": {"config", "data", "keys"}, "a borg repository": {"README", "config", "data"}}
@@ -85,16 +87,25 @@ def is_empty(root, may_be_empty=False, force=False):
     return not names
 
 
-def is_locked(root, kind=fcntl.LOCK_EX):
-    """Whether a run has the folder, by the lock that the program takes itself."""
+@contextlib.contextmanager
+def held(root, kind=fcntl.LOCK_EX):
+    """Holds the lock that a run of the program takes; gives whether it was free."""
     folder = os.open(root, os.O_RDONLY | os.O_DIRECTORY)
     try:
-        fcntl.flock(folder, kind | fcntl.LOCK_NB)
-        return False
-    except BlockingIOError:
-        return True
+        try:
+            fcntl.flock(folder, kind | fcntl.LOCK_NB)
+            free = True
+        except BlockingIOError:
+            free = False
+        yield free
     finally:
         os.close(folder)
+
+
+def is_locked(root, kind=fcntl.LOCK_EX):
+    """Whether a run has the folder."""
+    with held(root, kind) as free:
+        return not free
 
 
 def wait_for(root, seconds, kind=fcntl.LOCK_EX):
@@ -140,6 +151,15 @@ def need_room(root, reserve):
         raise Failure(what, "free space, or give a smaller --reserve", FULL)
 
 
+def book(root):
+    """The chunks of the store's book, each with its last use in seconds since 1970; none where the file is no book."""
+    with open(os.path.join(root, BOOK), "rb") as it:
+        data = it.read()
+    if len(data) >= BOOK_HEAD and data.startswith(BOOK_MAGIC):
+        end = BOOK_HEAD + BOOK_ROW.size * struct.unpack("<Q", data[16:24])[0]
+        yield from BOOK_ROW.iter_unpack(data[BOOK_HEAD:end])
+
+
 def last_moment(root):
     """The last moment of the store's book, in seconds since 1970; none where the file is no book."""
     try:
@@ -147,7 +167,12 @@ def last_moment(root):
             head = it.read(16)
     except OSError:
         return None
-    return struct.unpack("<8xQ", head)[0] if len(head) == 16 and head.startswith(b"PBSBOOK1") else None
+    return struct.unpack("<8xQ", head)[0] if len(head) == 16 and head.startswith(BOOK_MAGIC) else None
+
+
+def is_open_to_others(root):
+    """Whether others than its owner have rights in ROOT."""
+    return bool(os.stat(root).st_mode & 0o77)
 
 
 def clock_warning(root):

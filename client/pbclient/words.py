@@ -146,6 +146,15 @@ def moment(text):
 
 DRY_RUN = Option(("-n", "--dry-run"), "tell what would be done, and do nothing")
 
+YES = Option(("-y", "--yes"), "do not ask")
+GROUPS = Operand("GROUP", "groups, as host/me", "*", group)
+ALL_GROUPS = Option(("--all",), "all groups")
+SNAPSHOTS = Operand("SNAPSHOT", "snapshots, as host/me/latest, or groups for all of theirs; else all of the store", "*", group_or_snapshot)
+KEEPS = tuple(
+    Option((f"--keep-{name}",), f"keep the last snapshot of each of the last N {what}" if name != "last" else "keep the last N snapshots", "N", keep_count)
+    for name, what in [("last", ""), ("hourly", "hours"), ("daily", "days"), ("weekly", "weeks"), ("monthly", "months"), ("yearly", "years")]
+)
+
 COMMANDS = (
     Command(
         "init", "make a store", "keep.init",
@@ -206,6 +215,52 @@ COMMANDS = (
          Operand("PATH", "a path, or what --stdin or --image named")),
         (Option(("--tar",), "write a file as a tar stream too"),),
     ),
+    Command(
+        "snapshots", "list the snapshots", "lists.snapshots", (Operand("GROUP", "a group, as host/me; else all", "?", group),),
+        text="Lists each snapshot with its age, its size, what its backup stored anew, and its files. With -v each file's size and checksum too.",
+    ),
+    Command(
+        "check", "look for damage", "check.check", (SNAPSHOTS,),
+        (Option(("--read-data",), "read each chunk that is referred to, once, and compare it with its SHA-256"),),
+        text="Looks at the snapshots' files, and whether each chunk is there with its size. Tells which snapshots a damaged chunk hurts, and notes\n"
+        "it, so that the next backup sends it again.",
+    ),
+    Command(
+        "verify", "read snapshots whole, by the proved program", "check.verify", (SNAPSHOTS,),
+        text="Reads each snapshot whole, chunk by chunk, and compares all with its manifest. Chunks that snapshots share are read for each of\n"
+        "them; check --read-data reads each once.",
+    ),
+    Command(
+        "forget", "remove snapshots", "prune.forget", (Operand("SNAPSHOT", "snapshots, as host/me/latest", "+", exact_snapshot),), (DRY_RUN, YES),
+        text="Removes snapshots. Their space is freed by gc, a day later. On a terminal it asks first.",
+    ),
+    Command(
+        "prune", "remove the snapshots that no --keep- option keeps", "prune.prune", (GROUPS,),
+        (ALL_GROUPS, *KEEPS, DRY_RUN, Option(("--gc",), "collect garbage too, when this is done")),
+        text="Removes the snapshots of groups that no option keeps, and tells which option keeps each of the others. Times are in UTC. At\n"
+        "least one --keep- option must be given.",
+    ),
+    Command(
+        "gc", "free space: remove the chunks that nothing has used for a day", "prune.gc",
+        text="Garbage collection: removes the chunks that no snapshot refers to and that were last used a day and five minutes ago, or\n"
+        "earlier. It tells how much was freed, and when more may be.",
+    ),
+    Command("stats", "tell how much the store has, and how full it is", "lists.stats"),
+    Command(
+        "copy", "copy snapshots from another store", "copies.copy", (GROUPS,),
+        (Option(("--from",), "the store that is copied from; it is only read", "FOLDER"), ALL_GROUPS),
+        text="Copies the snapshots of groups that are later than ROOT's from another store into ROOT, which is made if it is not there.",
+    ),
+    Command(
+        "run-config", "do what a file says, for the night", "nightly.run_config", (Operand("FILE", "the file"),),
+        text="Does the commands of a file, one after another, and tells all in one summary with one status. A section is a command; its keys\n"
+        "are the command's options, and the operands, one a line:\n\n"
+        "    [store]\n    root = /srv/store\n    wait = 600\n\n"
+        "    [backup host/web]\n    path = /etc\n        /srv/web\n    exclude = *.tmp\n\n"
+        "    [prune]\n    all = yes\n    keep-daily = 7\n    keep-weekly = 4\n\n"
+        "    [gc]\n\n    [check]\n    read-data = yes\n\n"
+        "All of it is read before anything is done. A command that fails does not keep the others from being done.",
+    ),
     Command("version", "tell the versions of the client and of the program", "keep.version"),
 )
 
@@ -224,7 +279,8 @@ class Parser(argparse.ArgumentParser):
     """A parser whose failures are the client's."""
 
     def error(self, message):
-        raise mistyped(message, f"{self.prog.replace('pbclient', 'pbclient help', 1)} tells the words")
+        # (of an operand what is wrong is told alone)
+        raise mistyped(re.sub(r"^argument [A-Z]+: ", "", message), f"{self.prog.replace('pbclient', 'pbclient help', 1)} tells the words")
 
 
 def option_arguments(option):
