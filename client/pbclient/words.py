@@ -4,64 +4,7 @@ import argparse, difflib, re
 from typing import Callable, NamedTuple, Tuple
 
 from .failures import MEANINGS, mistyped
-
-GROUP_FORM = re.compile(r"(ct|host|vm)/[A-Za-z0-9_][A-Za-z0-9_.-]{0,63}", re.ASCII)
-TIME_FORM = re.compile(r"\d{4}-\d\d-\d\dT\d\d:\d\d:\d\dZ", re.ASCII)
-SIZE_FORM = re.compile(r"(\d+)([KMGT]?)(i?B)?", re.ASCII | re.IGNORECASE)
-KEEP_LIMIT = 1000
-
-
-def size(text):
-    """A number of bytes: 500, 20K, 3M, 10G, 1T."""
-    found = SIZE_FORM.fullmatch(text)
-    if not found:
-        raise argparse.ArgumentTypeError(f"{text} is no size, as 500, 20K, 3M, 10G or 1T are")
-    return int(found[1]) << 10 * " KMGT".index(found[2].upper() or " ")
-
-
-def seconds(text):
-    if not re.fullmatch(r"\d+(\.\d+)?", text, re.ASCII):
-        raise argparse.ArgumentTypeError(f"{text} is no number of seconds")
-    return float(text)
-
-
-def number(text):
-    if not re.fullmatch(r"\d{1,9}", text, re.ASCII):
-        raise argparse.ArgumentTypeError(f"{text} is no whole number")
-    return int(text)
-
-
-def keep_count(text):
-    found = number(text)
-    if not 1 <= found <= KEEP_LIMIT:
-        raise argparse.ArgumentTypeError(f"{text} is not from 1 to {KEEP_LIMIT}")
-    return found
-
-
-def group(text):
-    if not GROUP_FORM.fullmatch(text):
-        raise argparse.ArgumentTypeError(f"{text} is no group; one is as host/me: ct, host or vm, and a name of letters, digits, _ . -")
-    return text
-
-
-def snapshot(text):
-    """A snapshot's name, a group for its latest, or `latest`."""
-    front, _, last = text.rpartition("/")
-    named = GROUP_FORM.fullmatch(front) and (last == "latest" or TIME_FORM.fullmatch(last))
-    if text != "latest" and not GROUP_FORM.fullmatch(text) and not named:
-        raise argparse.ArgumentTypeError(f"{text} is no snapshot; one is as host/me/2020-01-15T06:30:03Z, or host/me/latest")
-    return text
-
-
-def exact_snapshot(text):
-    """A snapshot whose group is named."""
-    if "/" not in snapshot(text):
-        raise argparse.ArgumentTypeError("latest alone could be any group's; say it as host/me/latest")
-    return text
-
-
-def group_or_snapshot(text):
-    return snapshot(text) if text != "latest" else exact_snapshot(text)
+from .values import exact_snapshot, group, group_or_snapshot, image, keep_count, moment, note, seconds, size, snapshot, stream
 
 
 class Option(NamedTuple):
@@ -108,7 +51,6 @@ COMMON = (
 )
 HELP = {"-h", "--help"}
 DRY_RUN = Option(("-n", "--dry-run"), "tell what would be done, and do nothing")
-
 YES = Option(("-y", "--yes"), "do not ask")
 GROUPS = Operand("GROUP", "groups, as host/me", "*", group)
 ALL_GROUPS = Option(("--all",), "all groups")
@@ -122,6 +64,61 @@ COMMANDS = (
     Command(
         "init", "make a store", "keep.init",
         text="Makes the folder ROOT, if it is not there, and an empty store in it. The folder must be empty. Only its owner may read it.",
+    ),
+    Command(
+        "backup", "back up folders, images or standard input into a group", "backup.backup",
+        (Operand("GROUP", "whose snapshot it becomes, as host/me: ct, host or vm, and a name", read=group),
+         Operand("PATH", "a folder, with all below it, or a file; `and GROUP PATH..` backs up another group at the same time", "*")),
+        (Option(("-e", "--exclude"), "leave out what PATTERN matches: a name, the end of a path, or with / in front a whole path; "
+                "* and ? are of one name, ** goes over names, / at the end is of folders alone", "PATTERN", many=True),
+         Option(("--exclude-from",), "leave out what the patterns in FILE match, one a line", "FILE", many=True),
+         Option(("--exclude-caches",), "leave out what folders hold that have a CACHEDIR.TAG"),
+         Option(("--exclude-larger-than",), "leave out files larger than SIZE", "SIZE", size),
+         Option(("-x", "--one-file-system"), "do not go into other file systems that are mounted below"),
+         Option(("--image",), "back up a disk or its image as NAME.fidx", "NAME=DEVICE", image, many=True),
+         Option(("--stdin",), "back up standard input as NAME.didx", "NAME", stream),
+         Option(("--time",), "the snapshot's time in UTC; else now", "TIME", moment),
+         Option(("--note",), "keep this with the snapshot", "KEY=VALUE", note, many=True),
+         Option(("--reread",), "read all files, also those that look unchanged"),
+         Option(("--resend",), "read and send all, also what the last snapshot has"),
+         Option(("--reserve",), "stop while so much is free on the store's disk", "SIZE", size),
+         DRY_RUN),
+        text="Makes a snapshot of folders and files, images and standard input. What has not changed since the group's last snapshot, by "
+        "size, times and inode, is neither read nor sent.",
+    ),
+    Command(
+        "restore", "restore a snapshot, or paths of it, into a folder; or an image into a file", "restore.restore",
+        (Operand("SNAPSHOT", "which snapshot", read=snapshot), Operand("PATH", "a path, with all below it; else all", "*")),
+        (Option(("-t", "--target"), "the folder that the paths are put into, each with those on its way", "DIR"),
+         Option(("--image",), "the file or device that an image is written to", "FILE"),
+         Option(("--overwrite",), "of what is there already: keep it, write over what differs by size or time, or over all", "WHICH",
+                default="never", choices=("never", "if-changed", "always")),
+         Option(("--numeric-owner",), "take owners by their numbers, not by their names"),
+         Option(("--no-owner",), "let all be the caller's"),
+         Option(("--sparse",), "make holes of zeros"),
+         DRY_RUN),
+        text="Paths are as `pbclient ls` tells them. No link is followed below DIR. What is there already is kept, unless --overwrite says "
+        "otherwise.",
+    ),
+    Command(
+        "ls", "list a folder of a snapshot", "look.ls",
+        (Operand("SNAPSHOT", "which snapshot", read=snapshot), Operand("PATH", "the folder; else what the snapshot has on top", "?")),
+        (Option(("-R", "--recursive"), "list all below it"),),
+    ),
+    Command(
+        "find", "find paths of a snapshot by a pattern", "look.find",
+        (Operand("SNAPSHOT", "which snapshot", read=snapshot),
+         Operand("PATTERN", "a name, or the end of a path; * and ? are of one name, ** goes over names")),
+    ),
+    Command(
+        "diff", "tell what changed from one snapshot to another", "look.diff",
+        (Operand("SNAPSHOT", "the older one", read=snapshot), Operand("OTHER", "the newer one", read=snapshot)),
+    ),
+    Command(
+        "dump", "write a file of a snapshot to standard output, or a folder as a tar stream", "look.dump",
+        (Operand("SNAPSHOT", "which snapshot", read=snapshot),
+         Operand("PATH", "a path, or what --stdin or --image named")),
+        (Option(("--tar",), "write a file as a tar stream too"),),
     ),
     Command(
         "snapshots", "list the snapshots", "lists.snapshots", (Operand("GROUP", "a group, as host/me; else all", "?", group),),
