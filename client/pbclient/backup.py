@@ -14,7 +14,7 @@ from .report import Progress, counted, size as size_text, span
 from .sends import Sends
 from .talk import Refused
 from .walk import LeftOut, Rules, Walk, lines_of
-from .words import GROUP_FORM
+from .values import GROUP_FORM
 
 # The refusals of a base whose files cannot be read.
 UNREADABLE = ("NoFile", "NoSnapshot", "Damaged", "Unreadable")
@@ -94,14 +94,12 @@ class Backup:
 
     def open_writer(self):
         """A writer of a snapshot of the given time, or of now; or of the first second that is later than the group's last one."""
-        if self.options.time:
-            snapshot = f"{self.group}/{self.options.time}"
-        else:
-            last = in_group(self.store, self.group)[-1:]
-            at = max([int(time.time()), *(s.time_of(it) + 1 for it in last)])
-            if at > time.time() + folder.CLOCK_LEEWAY:
-                self.report.warn(f"the last snapshot of {self.group} is of the future: {last[0]}", "forget it if the clock was wrong then")
-            snapshot = f"{self.group}/{time.strftime('%Y-%m-%dT%H:%M:%SZ', time.gmtime(at))}"
+        last = in_group(self.store, self.group)[-1:]
+        at = max([int(time.time()), *(s.time_of(it) + 1 for it in last)])
+        snapshot = f"{self.group}/{self.options.time or time.strftime('%Y-%m-%dT%H:%M:%SZ', time.gmtime(at))}"
+        if s.time_of(snapshot) > time.time() + folder.CLOCK_LEEWAY:
+            advice = "its group takes no earlier one as long as it is there: forget it, and later ones, if the clock was wrong"
+            self.report.warn(f"{snapshot} is of the future", advice)
         return snapshot, self.store.ask(s.open_writer(snapshot))[1:].decode()
 
     def is_there(self, digest):

@@ -36,7 +36,7 @@ class Call:
     def make_folder(self):
         """Makes ROOT where it is not there, in a folder that is."""
         self.need_root()
-        if not os.path.lexists(self.root):
+        if not self.way and not os.path.lexists(self.root):
             os.mkdir(self.root)
             self.report.detail(f"{self.root} is made")
 

@@ -72,12 +72,35 @@ def line_of(front, length, target):
     return b"%s\t%d\t%s\n" % (front, length, spelled(target))
 
 
-def read_lines(text, offset=0):
-    """The entries of whole lines without the first one of a catalog."""
-    for line in text.split(b"\n")[:-1]:
-        entry = read_line(line, offset)
-        yield entry
-        offset = entry.end
+def lines_in(text):
+    """The lines of a catalog behind the first one, each with the place of its member in the stream."""
+    if not text.startswith(FIRST):
+        raise tars.Damaged("the catalog is of another kind")
+    at, offset = len(FIRST), 0
+    while (end := text.find(b"\n", at)) >= 0:
+        line = text[at:end]
+        yield line, offset
+        offset += int(line.rsplit(b"\t", 2)[1])
+        at = end + 1
+
+
+def entries(text):
+    """All entries of a catalog."""
+    return (read_line(*it) for it in lines_in(text))
+
+
+def below(text, path):
+    """The entries of a path and of what it holds; of `.` all. (They stand one behind another.)"""
+    if path == TOP:
+        yield from entries(text)
+        return
+    same, front, met = spelled(path) + b"\t", spelled(path) + b"/", False
+    for line, offset in lines_in(text):
+        if line.startswith(front) or line.startswith(same):
+            met = True
+            yield read_line(line, offset)
+        elif met:
+            return
 
 
 def read_line(line, offset):

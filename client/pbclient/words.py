@@ -1,132 +1,10 @@
 """The words of the client: commands, options and their help, in one table. The parser, the help, the man page and the completion are made
 from it."""
-import argparse, difflib, grp, pwd, re
+import argparse, difflib, re
 from typing import Callable, NamedTuple, Tuple
 
 from .failures import MEANINGS, mistyped
-
-GROUP_FORM = re.compile(r"(ct|host|vm)/[A-Za-z0-9_][A-Za-z0-9_.-]{0,63}", re.ASCII)
-TIME_FORM = re.compile(r"\d{4}-\d\d-\d\dT\d\d:\d\d:\d\dZ", re.ASCII)
-FILE_FORM, FILE_LIMIT = re.compile(r"[A-Za-z0-9_][A-Za-z0-9_.-]*", re.ASCII), 64
-SIZE_FORM = re.compile(r"(\d+)([KMGT]?)(i?B)?", re.ASCII | re.IGNORECASE)
-KEEP_LIMIT = 1000
-
-
-def size(text):
-    """A number of bytes: 500, 20K, 3M, 10G, 1T."""
-    found = SIZE_FORM.fullmatch(text)
-    if not found:
-        raise argparse.ArgumentTypeError(f"{text} is no size, as 500, 20K, 3M, 10G or 1T are")
-    return int(found[1]) << 10 * " KMGT".index(found[2].upper() or " ")
-
-
-def seconds(text):
-    if not re.fullmatch(r"\d+(\.\d+)?", text, re.ASCII):
-        raise argparse.ArgumentTypeError(f"{text} is no number of seconds")
-    return float(text)
-
-
-def number(text):
-    if not re.fullmatch(r"\d{1,9}", text, re.ASCII):
-        raise argparse.ArgumentTypeError(f"{text} is no whole number")
-    return int(text)
-
-
-def keep_count(text):
-    found = number(text)
-    if not 1 <= found <= KEEP_LIMIT:
-        raise argparse.ArgumentTypeError(f"{text} is not from 1 to {KEEP_LIMIT}")
-    return found
-
-
-def group(text):
-    if not GROUP_FORM.fullmatch(text):
-        raise argparse.ArgumentTypeError(f"{text} is no group; one is as host/me: ct, host or vm, and a name of letters, digits, _ . -")
-    return text
-
-
-def snapshot(text):
-    """A snapshot's name, a group for its latest, or `latest`."""
-    front, _, last = text.rpartition("/")
-    named = GROUP_FORM.fullmatch(front) and (last == "latest" or TIME_FORM.fullmatch(last))
-    if text != "latest" and not GROUP_FORM.fullmatch(text) and not named:
-        raise argparse.ArgumentTypeError(f"{text} is no snapshot; one is as host/me/2020-01-15T06:30:03Z, or host/me/latest")
-    return text
-
-
-def exact_snapshot(text):
-    """A snapshot whose group is named."""
-    if "/" not in snapshot(text):
-        raise argparse.ArgumentTypeError("latest alone could be any group's; say it as host/me/latest")
-    return text
-
-
-def group_or_snapshot(text):
-    return snapshot(text) if text != "latest" else exact_snapshot(text)
-
-
-def lane_count(text):
-    found = number(text)
-    if not 1 <= found <= 64:
-        raise argparse.ArgumentTypeError(f"{text} is not from 1 to 64")
-    return found
-
-
-def mode(text):
-    if not re.fullmatch(r"[0-7]{3}", text, re.ASCII):
-        raise argparse.ArgumentTypeError(f"{text} is no mode, as 660 is")
-    return int(text, 8)
-
-
-def uid(text):
-    try:
-        return int(text) if text.isdigit() else pwd.getpwnam(text).pw_uid
-    except KeyError:
-        raise argparse.ArgumentTypeError(f"{text} is no account") from None
-
-
-def gid(text):
-    try:
-        return int(text) if text.isdigit() else grp.getgrnam(text).gr_gid
-    except KeyError:
-        raise argparse.ArgumentTypeError(f"{text} is no group of this machine") from None
-
-
-def named(text, what, ending):
-    """A name in a snapshot and a value, from NAME=VALUE."""
-    name, sign, value = text.partition("=")
-    if not sign or not value:
-        raise argparse.ArgumentTypeError(f"{text} is not as in {what}")
-    return file_name(name, ending), value
-
-
-def file_name(text, ending=""):
-    """A name that a file of a snapshot may have, with an ending to come."""
-    if not FILE_FORM.fullmatch(text) or len(text + ending) > FILE_LIMIT:
-        raise argparse.ArgumentTypeError(f"{text} is no name of a file in a snapshot: letters, digits, _ . -, {FILE_LIMIT - len(ending)} at most")
-    return text
-
-
-def image(text):
-    return named(text, "NAME=DEVICE", ".fidx")
-
-
-def stream(text):
-    return file_name(text, ".didx")
-
-
-def note(text):
-    key, sign, value = text.partition("=")
-    if not sign or not key:
-        raise argparse.ArgumentTypeError(f"{text} is not as in KEY=VALUE")
-    return key, value
-
-
-def moment(text):
-    """A second in UTC."""
-    if not TIME_FORM.fullmatch(text):
-        raise argparse.ArgumentTypeError(f"{text} is no time; one is as 2020-01-15T06:30:03Z, in UTC")
-    return text
+from .values import account, exact_snapshot, group, group_or_snapshot, image, keep_count, lane_count, moment, note, rights, seconds, size, snapshot, stream, system_group
 
 
 class Option(NamedTuple):
@@ -171,8 +49,8 @@ COMMON = (
     Option(("--force",), "open a store that has lost its file .chunks/book"),
     Option(("--program",), "the program pbstore; else PBSTORE, the one beside pbclient, or the one on the path", "FILE"),
 )
+HELP = {"-h", "--help"}
 DRY_RUN = Option(("-n", "--dry-run"), "tell what would be done, and do nothing")
-
 YES = Option(("-y", "--yes"), "do not ask")
 GROUPS = Operand("GROUP", "groups, as host/me", "*", group)
 ALL_GROUPS = Option(("--all",), "all groups")
@@ -189,9 +67,9 @@ SERVING = (
         options=(
             Option(("--name",), "the store's name, by which clients ask for it; else the folder's", "NAME"),
             Option(("--socket",), "where clients connect; else /run/pbstore/NAME.sock", "PATH"),
-            Option(("--group",), "the group whose accounts may connect", "GROUP", gid),
-            Option(("--mode",), "the rights to the socket", "OCTAL", mode, default=0o660),
-            Option(("--trust",), "an account that may say for which user it speaks, as ssh's does; may come again", "ACCOUNT", uid, many=True),
+            Option(("--group",), "the group whose accounts may connect", "GROUP", system_group),
+            Option(("--mode",), "the rights to the socket", "OCTAL", rights, default=0o660),
+            Option(("--trust",), "an account that may say for which user it speaks, as ssh's does; may come again", "ACCOUNT", account, many=True),
             Option(("--remote",), "the folder that copy reads", "ROOT2"),
             Option(("--lanes",), "sessions at once, 64 at most", "N", lane_count, default=64),
             Option(("--linger",), "seconds without a client, after which the program ends", "SECONDS", seconds, default=60.0),
@@ -215,6 +93,61 @@ COMMANDS = (
     Command(
         "init", "make a store", "keep.init",
         text="Makes the folder ROOT, if it is not there, and an empty store in it. The folder must be empty. Only its owner may read it.",
+    ),
+    Command(
+        "backup", "back up folders, images or standard input into a group", "backup.backup",
+        (Operand("GROUP", "whose snapshot it becomes, as host/me: ct, host or vm, and a name", read=group),
+         Operand("PATH", "a folder, with all below it, or a file; `and GROUP PATH..` backs up another group at the same time", "*")),
+        (Option(("-e", "--exclude"), "leave out what PATTERN matches: a name, the end of a path, or with / in front a whole path; "
+                "* and ? are of one name, ** goes over names, / at the end is of folders alone", "PATTERN", many=True),
+         Option(("--exclude-from",), "leave out what the patterns in FILE match, one a line", "FILE", many=True),
+         Option(("--exclude-caches",), "leave out what folders hold that have a CACHEDIR.TAG"),
+         Option(("--exclude-larger-than",), "leave out files larger than SIZE", "SIZE", size),
+         Option(("-x", "--one-file-system"), "do not go into other file systems that are mounted below"),
+         Option(("--image",), "back up a disk or its image as NAME.fidx", "NAME=DEVICE", image, many=True),
+         Option(("--stdin",), "back up standard input as NAME.didx", "NAME", stream),
+         Option(("--time",), "the snapshot's time in UTC; else now", "TIME", moment),
+         Option(("--note",), "keep this with the snapshot", "KEY=VALUE", note, many=True),
+         Option(("--reread",), "read all files, also those that look unchanged"),
+         Option(("--resend",), "read and send all, also what the last snapshot has"),
+         Option(("--reserve",), "stop while so much is free on the store's disk", "SIZE", size),
+         DRY_RUN),
+        text="Makes a snapshot of folders and files, images and standard input. What has not changed since the group's last snapshot, by "
+        "size, times and inode, is neither read nor sent.",
+    ),
+    Command(
+        "restore", "restore a snapshot, or paths of it, into a folder; or an image into a file", "restore.restore",
+        (Operand("SNAPSHOT", "which snapshot", read=snapshot), Operand("PATH", "a path, with all below it; else all", "*")),
+        (Option(("-t", "--target"), "the folder that the paths are put into, each with those on its way", "DIR"),
+         Option(("--image",), "the file or device that an image is written to", "FILE"),
+         Option(("--overwrite",), "of what is there already: keep it, write over what differs by size or time, or over all", "WHICH",
+                default="never", choices=("never", "if-changed", "always")),
+         Option(("--numeric-owner",), "take owners by their numbers, not by their names"),
+         Option(("--no-owner",), "let all be the caller's"),
+         Option(("--sparse",), "make holes of zeros"),
+         DRY_RUN),
+        text="Paths are as `pbclient ls` tells them. No link is followed below DIR. What is there already is kept, unless --overwrite says "
+        "otherwise.",
+    ),
+    Command(
+        "ls", "list a folder of a snapshot", "look.ls",
+        (Operand("SNAPSHOT", "which snapshot", read=snapshot), Operand("PATH", "the folder; else what the snapshot has on top", "?")),
+        (Option(("-R", "--recursive"), "list all below it"),),
+    ),
+    Command(
+        "find", "find paths of a snapshot by a pattern", "look.find",
+        (Operand("SNAPSHOT", "which snapshot", read=snapshot),
+         Operand("PATTERN", "a name, or the end of a path; * and ? are of one name, ** goes over names")),
+    ),
+    Command(
+        "diff", "tell what changed from one snapshot to another", "look.diff",
+        (Operand("SNAPSHOT", "the older one", read=snapshot), Operand("OTHER", "the newer one", read=snapshot)),
+    ),
+    Command(
+        "dump", "write a file of a snapshot to standard output, or a folder as a tar stream", "look.dump",
+        (Operand("SNAPSHOT", "which snapshot", read=snapshot),
+         Operand("PATH", "a path, or what --stdin or --image named")),
+        (Option(("--tar",), "write a file as a tar stream too"),),
     ),
     Command(
         "snapshots", "list the snapshots", "lists.snapshots", (Operand("GROUP", "a group, as host/me; else all", "?", group),),
@@ -262,27 +195,6 @@ COMMANDS = (
         "    [gc]\n\n    [check]\n    read-data = yes\n\n"
         "All of it is read before anything is done. A command that fails does not keep the others from being done.",
     ),
-    Command(
-        "backup", "back up folders, images or standard input into a group", "backup.backup",
-        (Operand("GROUP", "whose snapshot it becomes, as host/me: ct, host or vm, and a name", read=group),
-         Operand("PATH", "a folder, with all below it, or a file; `and GROUP PATH..` backs up another group at the same time", "*")),
-        (Option(("-e", "--exclude"), "leave out what PATTERN matches: a name, the end of a path, or with / in front a whole path; "
-                "* and ? are of one name, ** goes over names, / at the end is of folders alone", "PATTERN", many=True),
-         Option(("--exclude-from",), "leave out what the patterns in FILE match, one a line", "FILE", many=True),
-         Option(("--exclude-caches",), "leave out what folders hold that have a CACHEDIR.TAG"),
-         Option(("--exclude-larger-than",), "leave out files larger than SIZE", "SIZE", size),
-         Option(("-x", "--one-file-system"), "do not go into other file systems that are mounted below"),
-         Option(("--image",), "back up a disk or its image as NAME.fidx", "NAME=DEVICE", image, many=True),
-         Option(("--stdin",), "back up standard input as NAME.didx", "NAME", stream),
-         Option(("--time",), "the snapshot's time in UTC; else now", "TIME", moment),
-         Option(("--note",), "keep this with the snapshot", "KEY=VALUE", note, many=True),
-         Option(("--reread",), "read all files, also those that look unchanged"),
-         Option(("--resend",), "read and send all, also what the last snapshot has"),
-         Option(("--reserve",), "stop while so much is free on the store's disk", "SIZE", size),
-         DRY_RUN),
-        text="Makes a snapshot of folders and files, images and standard input. What has not changed since the group's last snapshot, by "
-        "size, times and inode, is neither read nor sent.",
-    ),
     *SERVING,
     Command("version", "tell the versions of the client and of the program", "keep.version"),
 )
@@ -299,7 +211,10 @@ def command_named(name):
 
 
 class Parser(argparse.ArgumentParser):
-    """A parser whose failures are the client's."""
+    """A parser whose failures are the client's. It makes no help."""
+
+    def __init__(self, name):
+        super().__init__(prog=name, add_help=False, allow_abbrev=False)
 
     def error(self, message):
         # (of an operand what is wrong is told alone)
@@ -325,21 +240,18 @@ def add_options(parser, options, **more):
 
 def parser_of(command):
     """The parser of what follows a command."""
-    parser = Parser(
-        prog=f"pbclient {command.name}", description=command.text or f"{command.summary.capitalize()}.", allow_abbrev=False,
-        formatter_class=argparse.RawDescriptionHelpFormatter,
-    )
+    parser = Parser(f"pbclient {command.name}")
     for it in command.operands:
         count = {} if it.count == "1" else {"nargs": it.count}
         parser.add_argument(it.name.lower().replace("-", "_"), metavar=it.name, help=it.help, type=it.read, **count)
     add_options(parser, command.options)
-    add_options(parser.add_argument_group("options of all commands"), COMMON, default=argparse.SUPPRESS)
+    add_options(parser, COMMON, default=argparse.SUPPRESS)
     return parser
 
 
 def common_parser():
     """The parser of what comes before a command."""
-    parser = Parser(prog="pbclient", add_help=False, allow_abbrev=False)
+    parser = Parser("pbclient")
     add_options(parser, COMMON)
     return parser
 
@@ -354,25 +266,46 @@ def parted(words):
 
 
 def read(words):
-    """What the words say: the command's row, and the options. Help is printed, and ends the program, as argparse does it."""
+    """What the words say: the command's row and the options; or none, and the help that they ask for."""
     front, rest = parted(["version" if it == "--version" else it for it in words[:1]] + words[1:])
-    if not rest or rest[0] == "help" or front in (["-h"], ["--help"]):
+    if not rest or rest[0] == "help" or HELP & set(front):
         return None, help_of(rest[1:])
-    options = common_parser().parse_args(front)
     command = command_named(rest[0])
-    return command, parser_of(command).parse_intermixed_args(rest[1:], options)
+    if HELP & set(rest):
+        return None, help_of_command(command)
+    return command, parser_of(command).parse_intermixed_args(rest[1:], common_parser().parse_args(front))
+
+
+def spelled(option):
+    """An option as the help shows it."""
+    return ", ".join(option.names) + (f" {option.value}" if option.value else "")
+
+
+def listed(rows):
+    """Lines of names with their texts beside them."""
+    width = max(len(name) for name, _ in rows) + 2
+    return [f"  {name.ljust(width)}{text}" for name, text in rows]
+
+
+def usage(command):
+    """How a command is spelled, in one line."""
+    counts = {"1": "{}", "?": "[{}]", "*": "[{}..]", "+": "{}.."}
+    operands = "".join(f" {counts[it.count].format(it.name)}" for it in command.operands)
+    return f"pbclient {command.name}{' [OPTIONS]' if command.options else ''}{operands}"
+
+
+def help_of_command(command):
+    rows = [(it.name, it.help) for it in command.operands] + [(spelled(it), it.help) for it in command.options]
+    lines = [f"usage: {usage(command)}", "", command.text or f"{command.summary.capitalize()}."]
+    return "\n".join([*lines, *(["", *listed(rows)] if rows else []), "", "pbclient help tells the options of all commands."])
 
 
 def help_of(words):
     """The help of a command, or of all."""
     if words:
-        return parser_of(command_named(words[0])).format_help().rstrip("\n")
-    width = max(len(it.name) for it in COMMANDS) + 2
+        return help_of_command(command_named(words[0]))
     lines = ["usage: pbclient [-r ROOT] COMMAND [WORDS]", "", "Backs up to a store, restores from it, and looks after it.", ""]
-    lines += [f"  {it.name.ljust(width)}{it.summary}" for it in COMMANDS]
+    lines += listed([(it.name, it.summary) for it in COMMANDS])
     lines += ["", "pbclient help COMMAND tells the words of one. Options of all commands:", ""]
-    names = {", ".join(it.names) + (f" {it.value}" if it.value else ""): it.help for it in COMMON}
-    wide = max(map(len, names)) + 2
-    lines += [f"  {name.ljust(wide)}{text}" for name, text in names.items()]
-    lines += ["", "Statuses:", ""] + [f"  {status:3}  {text}" for status, text in MEANINGS.items()]
-    return "\n".join(lines)
+    lines += listed([(spelled(it), it.help) for it in COMMON])
+    return "\n".join(lines + ["", "Statuses:", "", *listed([(str(status), text) for status, text in MEANINGS.items()])])

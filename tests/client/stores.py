@@ -1,11 +1,13 @@
 """Small stores for the tests of the client: snapshots of set times, made by sessions of commands; and calls of the client on them."""
-import json, os, subprocess, sys, tempfile, unittest
+import json, os, sys, tempfile, time, traceback, unittest
 
 HERE = os.path.dirname(os.path.abspath(__file__))
 TOP = os.path.dirname(os.path.dirname(HERE))
 CLIENT = os.path.join(TOP, "client", "bin", "pbclient")
 sys.path.insert(0, os.path.join(TOP, "client"))
 from pbclient import session as s
+from pbclient import check, chunks, copies, keep, lists, nightly, prune  # (a child that is another user may not be able to import them)
+from pbclient.main import main
 from pbclient.talk import NoProgram, program, talk
 
 FIRST, SECOND, THIRD = (f"host/a/2020-01-{day}T06:30:03Z" for day in (15, 16, 17))
@@ -13,6 +15,9 @@ OTHER = "vm/b/2020-01-20T00:00:00Z"
 # The pieces of the snapshots' archives.
 PIECES = {FIRST: [b"one", b"two"], SECOND: [b"one", b"three"], THIRD: [b"one", b"three", b"four"], OTHER: [b"one", b"other"]}
 NAME = "root.didx"
+HOUR = 3600
+# (a store in memory, since a run syncs often)
+FAST = "/dev/shm"
 
 
 def digest(piece):
@@ -33,6 +38,28 @@ def back_up(store, snapshot, pieces, name=NAME):
     store.ask(s.finish())
 
 
+def run_client(words, out, said, become):
+    """Ends this process as the client would, with its output in these files."""
+    for number, file in [(0, os.open(os.devnull, os.O_RDONLY)), (1, out.fileno()), (2, said.fileno())]:
+        os.dup2(file, number)
+    status = 70
+    try:
+        if become:
+            become()
+        status = main(words)
+    except BaseException:
+        traceback.print_exc()
+    finally:
+        sys.stdout.flush()
+        sys.stderr.flush()
+        os._exit(status)
+
+
+def text_in(file):
+    file.seek(0)
+    return file.read().decode(errors="surrogateescape")
+
+
 class WithStore(unittest.TestCase):
     """A test with a folder of its own, a store in it that is not made yet, and calls of the client."""
 
@@ -41,23 +68,31 @@ class WithStore(unittest.TestCase):
             program()
         except NoProgram as error:
             self.skipTest(f"{error}: build it, or name it by PBSTORE")
-        place = tempfile.TemporaryDirectory(prefix="client-test-")
+        place = tempfile.TemporaryDirectory(prefix="client-test-", dir=FAST if os.path.isdir(FAST) else None)
         self.addCleanup(place.cleanup)
         self.work, self.root = place.name, os.path.join(place.name, "store")
 
     def make(self, root=None, snapshots=PIECES):
-        """A store of these snapshots."""
+        """A store of these snapshots, whose chunks were last used an hour ago."""
         root = root or self.root
         os.makedirs(root, mode=0o700, exist_ok=True)
         with talk(root) as store:
             for snapshot, pieces in snapshots.items():
                 back_up(store, snapshot, pieces)
+        made = int(time.time()) - HOUR
+        with open(os.path.join(root, ".chunks", "book"), "wb") as out:
+            out.write(s.book(made, *((it, made) for it in {it for pieces in snapshots.values() for it in pieces})))
 
-    def call(self, *words, root=None, **more):
-        """The client's status, standard output and standard error; ROOT is named `ROOT` in both."""
+    def call(self, *words, root=None, become=None):
+        """The client's status, standard output and standard error; ROOT is named `ROOT` in both. It is a process of its own, which `become`
+        may change first."""
         root = root or self.root
-        done = subprocess.run([CLIENT, "-r", root, *words], stdin=subprocess.DEVNULL, stdout=subprocess.PIPE, stderr=subprocess.PIPE, **more)
-        return (done.returncode, *(it.decode(errors="surrogateescape").replace(root, "ROOT") for it in (done.stdout, done.stderr)))
+        with tempfile.TemporaryFile() as out, tempfile.TemporaryFile() as said:
+            child = os.fork()
+            if not child:
+                run_client(["-r", root, *words], out, said, become)
+            status = os.WEXITSTATUS(os.waitpid(child, 0)[1])
+            return (status, *(text_in(it).replace(root, "ROOT") for it in (out, said)))
 
     def done(self, *words, status=0, **more):
         """The output of a call that ends so."""

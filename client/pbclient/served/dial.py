@@ -29,13 +29,13 @@ class Stream:
 
     def read(self, size):
         """So many bytes; fewer at the end."""
-        found = bytearray()
-        while len(found) < size:
-            some = os.read(self.reading, size - len(found))
-            if not some:
+        found, at = bytearray(size), 0
+        while at < size:
+            count = os.readv(self.reading, [memoryview(found)[at:]])
+            if not count:
                 break
-            found += some
-        return bytes(found)
+            at += count
+        return found if at == size else found[:at]
 
 
 def over_socket(path):
