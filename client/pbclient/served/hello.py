@@ -11,6 +11,8 @@ chunk that it knows of, up to the end of what it sends. The server answers `read
 import re
 
 VERSION = "1"
+# A reply with this number is none of the program: it is the server's last word, a text, when no reply will come.
+CLOSED = 255
 LINE_LIMIT = 512
 DIGEST, DIGEST_LINE = re.compile(rb"[0-9a-f]{64}"), 65
 NAME = re.compile(r"[A-Za-z0-9_][A-Za-z0-9_.-]{0,63}")

@@ -5,10 +5,9 @@ import collections, contextlib, mmap, socket, struct, threading, time
 
 from .. import session as s
 from . import limits
+from .hello import CLOSED
 from .lanes import DISK_FAULT, HALTED, JOBS, LOOK, LaneEnded
 
-# No answer of the program has this number: it is the server's last word, when no answer will come.
-CLOSED = 255
 # In the place of a command's code: one of the server's own.
 OWN = -1
 ENDED = "the store's program ended, or had no memory left for this session"

@@ -4,7 +4,6 @@ import struct, time
 from ..failures import FAILED, IN_USE, MISTYPED, Failure
 from ..talk import Refused, Talk
 from . import dial, hello
-from .sessions import CLOSED
 
 # By the server's cause: what to do, and the status.
 ADVICE = {
@@ -68,7 +67,7 @@ class ServedTalk(Talk):
         try:
             return super().reply()
         except Refused as refused:
-            if refused.number == CLOSED:
+            if refused.number == hello.CLOSED:
                 raise ended(refused.body[1:].decode()) from None
             raise
 
@@ -77,7 +76,7 @@ class ServedTalk(Talk):
         try:
             while True:
                 body = self.read(struct.unpack("<I", self.read(4))[0])
-                if body[0] == CLOSED:
+                if body[0] == hello.CLOSED:
                     return ended(body[1:].decode())
         except (Failure, OSError):
             return ended("the connection ended")
