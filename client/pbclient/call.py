@@ -100,7 +100,10 @@ class Call:
     def served(self, count, remote):
         if remote:
             raise mistyped("a served store pulls from the folder that its server was given", "leave it out, or end the server first")
-        return talks.ServedRun(self.root, self.way, count, lambda text: self.report.note(f"waiting: {text}"), self.options.wait)
+        return talks.ServedRun(self.root, self.way, count, self.tell_waiting, self.options.wait)
+
+    def tell_waiting(self, why):
+        self.report.note(f"waiting: {why}", "waiting", why=why)
 
     @contextlib.contextmanager
     def session(self, **how):
