@@ -37,7 +37,7 @@ class Compared(unittest.TestCase):
     def same(self, alone, server, data, see=masked):
         with server.client() as it:
             served = see(data, it.exchange(data))
-        self.assertEqual(served, see(data, alone.exchange(data)), data[:200])
+        self.assertEqual(served, see(data, alone.exchange(data)), (data[:200], server.said()[-500:]))
 
     def same_folders(self, alone, server, look=tree):
         self.assertEqual(server.stop(), 0)

@@ -3,7 +3,8 @@
 
 OPEN_WRITER of a snapshot whose group is `host/disk`, `host/memory`, `host/kill` or `host/cut` makes the disk fail, lets want of memory end the
 lane (its pipes stay open, as the program's do), kills the program, or kills it within the reply. After one of `host/room` a frame above 128 KiB
-is answered NoMemory by its length, and ends the lane; after one of `host/short` the lane goes on. GC takes the seconds of STAND_IN_GC.
+is answered NoMemory by its length, and ends the lane; after one of `host/short` the lane goes on. GC takes the seconds of STAND_IN_GC. As it
+ends it leaves a file ROOT/.chunks/ended.
 """
 import fcntl, os, signal, struct, sys, threading, time
 
@@ -106,7 +107,7 @@ def main(words):
         it.start()
     for it in threads:
         it.join()
-    with open(os.path.join(root, "ended"), "w"):
+    with open(os.path.join(root, ".chunks", "ended"), "w"):
         pass
     return 3 if faults else 0
 

@@ -161,7 +161,7 @@ class Disks(unittest.TestCase):
         self.finish(snapshot("host/a", 2), b"abc", b"de")
 
     def test_it_is_read_only_with_unfinished_work(self):
-        path = os.path.join(self.root, "x.tmp")
+        path = os.path.join(self.root, ".chunks", "x.tmp")
         with open(path, "w"):
             pass
         self.mount("ro")

@@ -188,7 +188,7 @@ class Memory(Served):
     def test_it_ended_the_lane_within_a_frame(self):
         """The program answers by the frame's length, and does not take the rest. Whether the pipe has room for it makes no difference."""
         for size in (1 << 17, PART - 1, PART, PART + 3, 4 << 20):
-            server = self.serve("--lanes", "2")
+            server = self.serve("--lanes", "3")
             with self.subTest(size=size), server.client() as it:
                 self.assertEqual(it.ask(opened("room")), OPENED)
                 self.assertEqual(it.ask(piece(1 + size)), s.no_memory())

@@ -21,7 +21,7 @@ class Served(unittest.TestCase):
     def look_stopped(self):
         """The server has ended, and the program by itself before it."""
         self.assertEqual(self.server.process.wait(), 0)
-        self.assertTrue(os.path.exists(os.path.join(self.server.root, "ended")))
+        self.assertTrue(os.path.exists(os.path.join(self.server.root, ".chunks", "ended")))
         self.assertEqual([it for it in os.listdir(self.server.work) if it not in ("root", "log")], [])
 
 
@@ -93,7 +93,7 @@ class Stops(Served):
         with self.server.client() as it:
             it.ask(opened("a"))
             self.server.stop(signal.SIGKILL)
-            wait_until(lambda: os.path.exists(os.path.join(self.server.root, "ended")))
+            wait_until(lambda: os.path.exists(os.path.join(self.server.root, ".chunks", "ended")))
             self.assertEqual(it.rest(), b"")
         self.server.start()
         with self.server.client() as it:
@@ -164,7 +164,7 @@ class Openings(Served):
         with self.assertRaises(hello.Refused) as refused:
             self.server.client()
         self.assertEqual(refused.exception.cause, "opening")
-        self.assertFalse(os.path.exists(os.path.join(self.server.root, "ended")))
+        self.assertFalse(os.path.exists(os.path.join(self.server.root, ".chunks", "ended")))
         os.rename(book + ".kept", book)
         wait_until(self.is_served)
 

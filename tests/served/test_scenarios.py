@@ -1,5 +1,5 @@
 """The scenarios' sessions by a server, beside the same as files, each in a run of its own on another folder: each byte of a reply is the program's."""
-import os, random, unittest
+import glob, os, random, unittest
 
 from compared import Compared
 from harness import s
@@ -11,12 +11,9 @@ SEED = int(os.environ.get("FIRST", "0"))
 class Scenarios(Compared):
     def forget_all(self, alone, server):
         """The next scenario's backups are later than none."""
-        with server.client() as it:
-            listed = it.exchange(s.frame(s.list_after()))
-        rows = [it for it in listed.decode("latin-1").split("Z") if "/" in it]
-        names = [f"{row[max(row.rfind(kind) for kind in ('ct/', 'host/', 'vm/')) :]}Z" for row in rows]
+        names = [os.path.dirname(os.path.relpath(it, server.root)) for it in glob.glob(f"{server.root}/*/*/*/{s.MANIFEST}")]
         if names:
-            self.same(alone, server, s.frames(*map(s.forget, names)))
+            self.same(alone, server, s.frames(*map(s.forget, sorted(names))))
 
     def serve(self, alone, server, scenarios):
         count = 0
