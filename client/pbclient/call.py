@@ -54,9 +54,17 @@ class Call:
         One that makes a store leaves the book first, by which the folder is a store from then on, whatever comes."""
         if self.check_store(writes, makes):
             self.make_store()
+        if writes:
+            self.warn_of_clock()
         with self.started(count, remote) as run:
             yield run
             self.end(run, writes)
+
+    def warn_of_clock(self):
+        """Tells of a store that was used under a clock that was ahead."""
+        warning = store.clock_warning(self.root)
+        if warning:
+            self.report.warn(*warning)
 
     @contextlib.contextmanager
     def session(self, **how):
