@@ -217,12 +217,18 @@ def time_of(text):
 
 def read_map(read, stored):
     """The parts of a file with holes, and how many bytes their map has."""
-    text, wanted = read(BLOCK), 1
-    while text.count(b"\n") < wanted and len(text) <= stored:
-        wanted = 1 + 2 * int(text.partition(b"\n")[0]) if b"\n" in text else wanted
-        if text.count(b"\n") < wanted:
+
+    def whole(lines):
+        nonlocal text
+        while text.count(b"\n") < lines:
+            if len(text) >= stored:
+                raise Damaged("the map of a file with holes is not whole")
             text += read(BLOCK)
-    numbers = [int(it) for it in text.split(b"\n")[1:wanted]]
+        return text.split(b"\n")
+
+    text = b""
+    count = int(whole(1)[0])
+    numbers = [int(it) for it in whole(1 + 2 * count)[1 : 1 + 2 * count]]
     return tuple(zip(numbers[::2], numbers[1::2])), len(text)
 
 
