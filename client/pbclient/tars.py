@@ -7,6 +7,8 @@ name that is not UTF-8, under a keyword that GNU tar does not know.
 import errno, functools, os, re, stat, zlib
 from typing import NamedTuple
 
+from .failures import DAMAGED, Failure
+
 BLOCK = 512
 END = bytes(2 * BLOCK)
 # What has room in a header: names, small numbers, sizes and times.
@@ -20,8 +22,11 @@ RECORDS, RECORDS_OF_ALL = b"x", b"g"
 KINDS = {stat.S_IFREG: FILE, stat.S_IFLNK: LINK, stat.S_IFCHR: CHARACTER, stat.S_IFBLK: DEVICE, stat.S_IFDIR: FOLDER, stat.S_IFIFO: PIPE}
 
 
-class Damaged(Exception):
-    """What is read is no tar stream of this kind."""
+class Damaged(Failure):
+    """What is read is no tar stream, or no catalog, of this client."""
+
+    def __init__(self, what):
+        super().__init__(what, "pbclient check and verify tell what is damaged; `pbclient dump` gives the archive as it is", DAMAGED)
 
 
 class Member(NamedTuple):

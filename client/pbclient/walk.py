@@ -31,10 +31,10 @@ class LeftOut(NamedTuple):
 
 def expression(pattern):
     """A pattern as a regular expression of a path. `*`, `?` and `[..]` are of one name, `**` goes over names."""
-    spelled = {b"**/": b"(?:.*/)?", b"**": b".+", b"*": b"[^/]*", b"?": b"[^/]"}
+    spelled = {b"**/": b"(?:.*/)?", b"**": b".*", b"*": b"[^/]*", b"?": b"[^/]"}
     parts = re.split(rb"(\*\*/|\*\*|\*|\?|\[!?[^\]/]+\])", pattern)
     return b"".join(
-        spelled.get(it) or (it.replace(b"[!", b"[^") if it.startswith(b"[") and it.endswith(b"]") and len(it) > 2 else re.escape(it))
+        spelled.get(it) or (it.replace(b"[!", b"[^") if it.startswith(b"[") and it.endswith(b"]") and len(it) > 2 else re.escape(it).replace(b"/", b"/(?=[^/])"))
         for it in parts)
 
 
