@@ -14,7 +14,7 @@ from .report import Progress, counted, size as size_text, span
 from .sends import Sends
 from .talk import Refused
 from .walk import LeftOut, Rules, Walk, lines_of
-from .words import GROUP_FORM
+from .values import GROUP_FORM
 
 # The refusals of a base whose files cannot be read.
 UNREADABLE = ("NoFile", "NoSnapshot", "Damaged", "Unreadable")

@@ -2,15 +2,16 @@
 has them.
 
 They stand in the file `damaged-chunks` of the store's folder, a line of 64 hexadecimal digits each. The program leaves that file alone.
-A chunk's file that is damaged is put aside under a name with `.bad`, since the program writes over no chunk's file.
+A chunk's file that is damaged is put aside as DIGEST.0.bad to DIGEST.9.bad, since the program writes over no chunk's file.
 """
 import os
 
 from . import chunks
-from .store import held
+from .failures import Failure
+from .store import NOTE, held
 
-NOTE = "damaged-chunks"
-ASIDE = ".bad"
+# So many bad files of one chunk are put aside at most.
+ASIDES = 10
 
 
 def noted(root):
@@ -53,11 +54,19 @@ def set_aside(root):
             return noted(root)
         bad = set(chunks.bad_of(root, noted(root)))
         for digest in bad:
-            path = chunks.path_of(root, digest)
-            if os.path.lexists(path):
-                os.replace(path, path + ASIDE)
+            put_aside(chunks.path_of(root, digest))
         write(root, bad)
         return bad
+
+
+def put_aside(path):
+    """Gives a bad file a name that is free, and writes over none."""
+    if not os.path.lexists(path):
+        return
+    free = [it for it in (f"{path}.{number}.bad" for number in range(ASIDES)) if not os.path.lexists(it)]
+    if not free:
+        raise Failure(f"{path} was damaged {ASIDES} times", "look after the disk, and remove this chunk's .bad files")
+    os.rename(path, free[0])
 
 
 def settle(root):

@@ -134,10 +134,12 @@ class Place:
         try:
             self.make(folder, member, parts)
             os.rename(BESIDE, name, src_dir_fd=folder, dst_dir_fd=folder)
-        finally:
-            # (it is there still if something failed, or if it was another name of the same file)
-            with contextlib.suppress(FileNotFoundError):
-                os.unlink(BESIDE, dir_fd=folder)
+        except BaseException:
+            remove_beside(folder)
+            raise
+        if member.kind == tars.HARD_LINK:
+            # (it is left where what was there is another name of the same file)
+            remove_beside(folder)
 
     def look(self, folder, name, member):
         """Refuses what may not be written over."""
@@ -247,6 +249,11 @@ class Place:
             os.setxattr(file, name, value, **how)
         except OSError as error:
             self.tell(member.name, f"attribute {name}: {error.strerror}")
+
+
+def remove_beside(folder):
+    with contextlib.suppress(FileNotFoundError):
+        os.unlink(BESIDE, dir_fd=folder)
 
 
 def write_all(file, data, at):

@@ -5,12 +5,16 @@ may open a store alone. A store has the file `.chunks/book`, which each run leav
 """
 import contextlib, fcntl, os, pwd, stat, struct, time
 
-from .failures import FULL, IN_USE, NO_STORE, Failure
+from .failures import FULL, IN_USE, NO_STORE, Failure, printable
 from .session import BOOK_MAGIC
 
 BOOK = os.path.join(".chunks", "book")
 BOOK_HEAD, BOOK_ROW = 24, struct.Struct("<32sQ")
 TYPES = ["ct", "host", "vm"]
+# The client's own file in a store.
+NOTE = "damaged-chunks"
+# All that a store's folder has.
+OWN_NAMES = {".chunks", *TYPES, NOTE, f"{NOTE}.new", ".access"}
 # A folder of another program has all of these names, and perhaps more.
 REPOSITORIES = {"a restic repository": {"config", "data", "keys"}, "a borg repository": {"README", "config", "data"}}
 # Proxmox Backup makes all of them at once; a store makes them one by one.
@@ -82,6 +86,10 @@ def is_empty(root, may_be_empty=False, force=False):
             raise no_store(f"{root} has other things in it, and no store", "take a folder of its own for the store")
         if not force:
             raise no_store(f"{root} has .chunks, but no {BOOK}", "if it is a store that lost this file, give --force once")
+    others = sorted(names - OWN_NAMES)
+    if others and not force:
+        what = f"{root} has other things beside a store, as {printable(others[0])}"
+        raise no_store(what, "a run may remove files among them: move them away, or give --force if you know them")
     if not names and not may_be_empty:
         raise no_store(f"{root} is empty, and no store yet", "make a store there: pbclient init")
     return not names
@@ -190,22 +198,26 @@ def why_ended(root, error):
     if is_locked(root):
         return Failure(f"{root} is in use by another run", "run again later, or wait for it: --wait SECONDS", IN_USE)
     if is_read_only(root) or not may_write(root):
+        closed = next((it for it in paths_below(root) if not os.access(it, os.R_OK)), None)
+        if closed:
+            return Failure(f"{closed} may not be read: it is {owner(closed)}'s", f"run as {owner(closed)}")
         what = f"{root} can only be read, and has unfinished work of an interrupted run in it"
         return Failure(what, "run any command once where it can be written")
     if room(root) < 1 << 16:
         return full(root)
-    odd = odd_below(root)
+    odd = next((it for it in paths_below(root) if not is_plain(it)), None)
     if odd:
         return Failure(f"{odd} is a link, a named pipe, a socket or a device: a store has none", "move it away, and run again")
     return Failure(f"the disk failed: {error}", f"look at {root} and at the system's log (dmesg), then run again")
 
 
-def odd_below(root):
-    """The first thing below ROOT that no store has, or nothing."""
+def paths_below(root):
+    """Each path below a folder."""
     for at, folders, files in os.walk(root):
-        for name in folders + files:
-            path = os.path.join(at, name)
-            mode = os.lstat(path).st_mode
-            if not stat.S_ISDIR(mode) and not stat.S_ISREG(mode):
-                return path
-    return None
+        yield from (os.path.join(at, name) for name in folders + files)
+
+
+def is_plain(path):
+    """Whether it is a file or a folder."""
+    mode = os.lstat(path).st_mode
+    return stat.S_ISDIR(mode) or stat.S_ISREG(mode)

@@ -139,13 +139,14 @@ class Talk:
 
     def read(self, size):
         """So many bytes of the replies, once they are there."""
-        found = bytearray()
-        while len(found) < size:
-            some = self.replies.read(size - len(found))
-            if not some:
+        found = bytearray(size)
+        left = memoryview(found)
+        while left:
+            count = self.replies.readinto(left)
+            if not count:
                 raise self.run.ended()
-            found += some
-        return bytes(found)
+            left = left[count:]
+        return found
 
     def write(self, data):
         try:
@@ -163,8 +164,8 @@ class Talk:
         """The fields of the next reply."""
         body = self.read(struct.unpack("<I", self.read(4))[0])
         if body[0]:
-            raise Refused(body)
-        return body[1:]
+            raise Refused(bytes(body))
+        return bytes(memoryview(body)[1:])
 
     def ask(self, command):
         self.send(command)

@@ -4,65 +4,7 @@ import argparse, difflib, re
 from typing import Callable, NamedTuple, Tuple
 
 from .failures import MEANINGS, mistyped
-
-GROUP_FORM = re.compile(r"(ct|host|vm)/[A-Za-z0-9_][A-Za-z0-9_.-]{0,63}", re.ASCII)
-TIME_FORM = re.compile(r"\d{4}-\d\d-\d\dT\d\d:\d\d:\d\dZ", re.ASCII)
-FILE_FORM, FILE_LIMIT = re.compile(r"[A-Za-z0-9_][A-Za-z0-9_.-]*", re.ASCII), 64
-SIZE_FORM = re.compile(r"(\d+)([KMGT]?)(i?B)?", re.ASCII | re.IGNORECASE)
-KEEP_LIMIT = 1000
-
-
-def size(text):
-    """A number of bytes: 500, 20K, 3M, 10G, 1T."""
-    found = SIZE_FORM.fullmatch(text)
-    if not found:
-        raise argparse.ArgumentTypeError(f"{text} is no size, as 500, 20K, 3M, 10G or 1T are")
-    return int(found[1]) << 10 * " KMGT".index(found[2].upper() or " ")
-
-
-def seconds(text):
-    if not re.fullmatch(r"\d+(\.\d+)?", text, re.ASCII):
-        raise argparse.ArgumentTypeError(f"{text} is no number of seconds")
-    return float(text)
-
-
-def number(text):
-    if not re.fullmatch(r"\d{1,9}", text, re.ASCII):
-        raise argparse.ArgumentTypeError(f"{text} is no whole number")
-    return int(text)
-
-
-def keep_count(text):
-    found = number(text)
-    if not 1 <= found <= KEEP_LIMIT:
-        raise argparse.ArgumentTypeError(f"{text} is not from 1 to {KEEP_LIMIT}")
-    return found
-
-
-def group(text):
-    if not GROUP_FORM.fullmatch(text):
-        raise argparse.ArgumentTypeError(f"{text} is no group; one is as host/me: ct, host or vm, and a name of letters, digits, _ . -")
-    return text
-
-
-def snapshot(text):
-    """A snapshot's name, a group for its latest, or `latest`."""
-    front, _, last = text.rpartition("/")
-    named = GROUP_FORM.fullmatch(front) and (last == "latest" or TIME_FORM.fullmatch(last))
-    if text != "latest" and not GROUP_FORM.fullmatch(text) and not named:
-        raise argparse.ArgumentTypeError(f"{text} is no snapshot; one is as host/me/2020-01-15T06:30:03Z, or host/me/latest")
-    return text
-
-
-def exact_snapshot(text):
-    """A snapshot whose group is named."""
-    if "/" not in snapshot(text):
-        raise argparse.ArgumentTypeError("latest alone could be any group's; say it as host/me/latest")
-    return text
-
-
-def group_or_snapshot(text):
-    return snapshot(text) if text != "latest" else exact_snapshot(text)
+from .values import exact_snapshot, group, group_or_snapshot, image, keep_count, moment, note, seconds, size, snapshot, stream
 
 
 class Option(NamedTuple):
@@ -107,45 +49,8 @@ COMMON = (
     Option(("--force",), "open a store that has lost its file .chunks/book"),
     Option(("--program",), "the program pbstore; else PBSTORE, the one beside pbclient, or the one on the path", "FILE"),
 )
-def named(text, what, ending):
-    """A name in a snapshot and a value, from NAME=VALUE."""
-    name, sign, value = text.partition("=")
-    if not sign or not value:
-        raise argparse.ArgumentTypeError(f"{text} is not as in {what}")
-    return file_name(name, ending), value
-
-
-def file_name(text, ending=""):
-    """A name that a file of a snapshot may have, with an ending to come."""
-    if not FILE_FORM.fullmatch(text) or len(text + ending) > FILE_LIMIT:
-        raise argparse.ArgumentTypeError(f"{text} is no name of a file in a snapshot: letters, digits, _ . -, {FILE_LIMIT - len(ending)} at most")
-    return text
-
-
-def image(text):
-    return named(text, "NAME=DEVICE", ".fidx")
-
-
-def stream(text):
-    return file_name(text, ".didx")
-
-
-def note(text):
-    key, sign, value = text.partition("=")
-    if not sign or not key:
-        raise argparse.ArgumentTypeError(f"{text} is not as in KEY=VALUE")
-    return key, value
-
-
-def moment(text):
-    """A second in UTC."""
-    if not TIME_FORM.fullmatch(text):
-        raise argparse.ArgumentTypeError(f"{text} is no time; one is as 2020-01-15T06:30:03Z, in UTC")
-    return text
-
-
+HELP = {"-h", "--help"}
 DRY_RUN = Option(("-n", "--dry-run"), "tell what would be done, and do nothing")
-
 YES = Option(("-y", "--yes"), "do not ask")
 GROUPS = Operand("GROUP", "groups, as host/me", "*", group)
 ALL_GROUPS = Option(("--all",), "all groups")
@@ -276,7 +181,10 @@ def command_named(name):
 
 
 class Parser(argparse.ArgumentParser):
-    """A parser whose failures are the client's."""
+    """A parser whose failures are the client's. It makes no help."""
+
+    def __init__(self, name):
+        super().__init__(prog=name, add_help=False, allow_abbrev=False)
 
     def error(self, message):
         # (of an operand what is wrong is told alone)
@@ -302,21 +210,18 @@ def add_options(parser, options, **more):
 
 def parser_of(command):
     """The parser of what follows a command."""
-    parser = Parser(
-        prog=f"pbclient {command.name}", description=command.text or f"{command.summary.capitalize()}.", allow_abbrev=False,
-        formatter_class=argparse.RawDescriptionHelpFormatter,
-    )
+    parser = Parser(f"pbclient {command.name}")
     for it in command.operands:
         count = {} if it.count == "1" else {"nargs": it.count}
         parser.add_argument(it.name.lower().replace("-", "_"), metavar=it.name, help=it.help, type=it.read, **count)
     add_options(parser, command.options)
-    add_options(parser.add_argument_group("options of all commands"), COMMON, default=argparse.SUPPRESS)
+    add_options(parser, COMMON, default=argparse.SUPPRESS)
     return parser
 
 
 def common_parser():
     """The parser of what comes before a command."""
-    parser = Parser(prog="pbclient", add_help=False, allow_abbrev=False)
+    parser = Parser("pbclient")
     add_options(parser, COMMON)
     return parser
 
@@ -331,25 +236,46 @@ def parted(words):
 
 
 def read(words):
-    """What the words say: the command's row, and the options. Help is printed, and ends the program, as argparse does it."""
+    """What the words say: the command's row and the options; or none, and the help that they ask for."""
     front, rest = parted(["version" if it == "--version" else it for it in words[:1]] + words[1:])
-    if not rest or rest[0] == "help" or front in (["-h"], ["--help"]):
+    if not rest or rest[0] == "help" or HELP & set(front):
         return None, help_of(rest[1:])
-    options = common_parser().parse_args(front)
     command = command_named(rest[0])
-    return command, parser_of(command).parse_intermixed_args(rest[1:], options)
+    if HELP & set(rest):
+        return None, help_of_command(command)
+    return command, parser_of(command).parse_intermixed_args(rest[1:], common_parser().parse_args(front))
+
+
+def spelled(option):
+    """An option as the help shows it."""
+    return ", ".join(option.names) + (f" {option.value}" if option.value else "")
+
+
+def listed(rows):
+    """Lines of names with their texts beside them."""
+    width = max(len(name) for name, _ in rows) + 2
+    return [f"  {name.ljust(width)}{text}" for name, text in rows]
+
+
+def usage(command):
+    """How a command is spelled, in one line."""
+    counts = {"1": "{}", "?": "[{}]", "*": "[{}..]", "+": "{}.."}
+    operands = "".join(f" {counts[it.count].format(it.name)}" for it in command.operands)
+    return f"pbclient {command.name}{' [OPTIONS]' if command.options else ''}{operands}"
+
+
+def help_of_command(command):
+    rows = [(it.name, it.help) for it in command.operands] + [(spelled(it), it.help) for it in command.options]
+    lines = [f"usage: {usage(command)}", "", command.text or f"{command.summary.capitalize()}."]
+    return "\n".join([*lines, *(["", *listed(rows)] if rows else []), "", "pbclient help tells the options of all commands."])
 
 
 def help_of(words):
     """The help of a command, or of all."""
     if words:
-        return parser_of(command_named(words[0])).format_help().rstrip("\n")
-    width = max(len(it.name) for it in COMMANDS) + 2
+        return help_of_command(command_named(words[0]))
     lines = ["usage: pbclient [-r ROOT] COMMAND [WORDS]", "", "Backs up to a store, restores from it, and looks after it.", ""]
-    lines += [f"  {it.name.ljust(width)}{it.summary}" for it in COMMANDS]
+    lines += listed([(it.name, it.summary) for it in COMMANDS])
     lines += ["", "pbclient help COMMAND tells the words of one. Options of all commands:", ""]
-    names = {", ".join(it.names) + (f" {it.value}" if it.value else ""): it.help for it in COMMON}
-    wide = max(map(len, names)) + 2
-    lines += [f"  {name.ljust(wide)}{text}" for name, text in names.items()]
-    lines += ["", "Statuses:", ""] + [f"  {status:3}  {text}" for status, text in MEANINGS.items()]
-    return "\n".join(lines)
+    lines += listed([(spelled(it), it.help) for it in COMMON])
+    return "\n".join(lines + ["", "Statuses:", "", *listed([(str(status), text) for status, text in MEANINGS.items()])])
