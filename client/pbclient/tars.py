@@ -7,6 +7,8 @@ name that is not UTF-8, under a keyword that GNU tar does not know.
 import errno, functools, os, re, stat, zlib
 from typing import NamedTuple
 
+from .failures import DAMAGED, Failure
+
 BLOCK = 512
 END = bytes(2 * BLOCK)
 # What has room in a header: names, small numbers, sizes and times.
@@ -20,8 +22,11 @@ RECORDS, RECORDS_OF_ALL = b"x", b"g"
 KINDS = {stat.S_IFREG: FILE, stat.S_IFLNK: LINK, stat.S_IFCHR: CHARACTER, stat.S_IFBLK: DEVICE, stat.S_IFDIR: FOLDER, stat.S_IFIFO: PIPE}
 
 
-class Damaged(Exception):
-    """What is read is no tar stream of this kind."""
+class Damaged(Failure):
+    """What is read is no tar stream, or no catalog, of this client."""
+
+    def __init__(self, what):
+        super().__init__(what, "pbclient check and verify tell what is damaged; `pbclient dump` gives the archive as it is", DAMAGED)
 
 
 class Member(NamedTuple):
@@ -217,12 +222,18 @@ def time_of(text):
 
 def read_map(read, stored):
     """The parts of a file with holes, and how many bytes their map has."""
-    text, wanted = read(BLOCK), 1
-    while text.count(b"\n") < wanted and len(text) <= stored:
-        wanted = 1 + 2 * int(text.partition(b"\n")[0]) if b"\n" in text else wanted
-        if text.count(b"\n") < wanted:
+
+    def whole(lines):
+        nonlocal text
+        while text.count(b"\n") < lines:
+            if len(text) >= stored:
+                raise Damaged("the map of a file with holes is not whole")
             text += read(BLOCK)
-    numbers = [int(it) for it in text.split(b"\n")[1:wanted]]
+        return text.split(b"\n")
+
+    text = b""
+    count = int(whole(1)[0])
+    numbers = [int(it) for it in whole(1 + 2 * count)[1 : 1 + 2 * count]]
     return tuple(zip(numbers[::2], numbers[1::2])), len(text)
 
 
