@@ -4,7 +4,7 @@ from typing import NamedTuple
 
 from . import VERSION, chunks, image, session as s, store as folder
 from .call import FAILURES
-from .catalog import ARCHIVE, CATALOG, Past
+from .catalog import ARCHIVE, CATALOG, FIRST, Past
 from .cut import Pieces
 from .failures import FAILED, LEFT_OUT, Failure, mistyped, printable
 from .members import CLOCK_STEP, Counts, Members, PastIndex, Planner
@@ -54,7 +54,8 @@ def read_catalogs(store, group, archives, report):
         try:
             with Snapshot(store, name) as snapshot:
                 texts = {it: snapshot.catalog(it) for it in snapshot.catalogs() if it in archives}
-                return name, snapshot.manifest().get("unprotected", {}).get("begun-ns", 0), texts
+                known = {it: text for it, text in texts.items() if text.startswith(FIRST)}
+                return name, snapshot.manifest().get("unprotected", {}).get("begun-ns", 0), known
         except Refused as refused:
             if refused.name not in UNREADABLE:
                 raise
@@ -290,6 +291,8 @@ def backup(call):
     """Backs up what the words name."""
     jobs, dry = jobs_of(call.options), call.options.dry_run
     call.check_store(writes=not dry, makes=not dry)
+    if call.options.reserve and not call.folder:
+        raise mistyped("--reserve looks at the store's disk, which is a server's", "leave it out")
     damaged = set() if dry else call.damaged()
     with call.run(len(jobs), writes=not dry, makes=not dry) as run:
         found = do_all(call, run.talks, jobs, damaged)

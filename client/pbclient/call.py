@@ -62,6 +62,8 @@ class Call:
             return
         if self.check_store(writes, makes):
             self.make_store()
+        if writes:
+            self.warn_of_clock()
         with self.started(count, remote) as run:
             yield run
             self.end(run, writes)
@@ -104,6 +106,12 @@ class Call:
 
     def tell_waiting(self, why):
         self.report.note(f"waiting: {why}", "waiting", why=why)
+
+    def warn_of_clock(self):
+        """Tells of a store that was used under a clock that was ahead."""
+        warning = store.clock_warning(self.root)
+        if warning:
+            self.report.warn(*warning)
 
     @contextlib.contextmanager
     def session(self, **how):

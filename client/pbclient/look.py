@@ -7,7 +7,7 @@ from .failures import Failure, printable
 from .queries import resolve, whole
 from .reads import Snapshot
 from .report import write_all
-from .restore import Stream, not_there, path_in
+from .restore import Stream, need_all, path_in
 from .walk import TOP, compiled
 
 LETTERS = {
@@ -69,8 +69,7 @@ def ls(call):
             if options.recursive or is_directly_in(it.name, path) or it.name == path and not is_folder:
                 show(call, it)
             met = True
-        if not met:
-            raise not_there([path])
+        need_all([path], {path} if met else ())
 
 
 def list_tops(call, snapshot):
@@ -172,7 +171,7 @@ def dump(call):
             if name in snapshot.sizes:
                 dump_file(store, snapshot, name)
                 return
-        raise not_there([path])
+        need_all([path], ())
 
 
 def put(data):

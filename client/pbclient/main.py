@@ -3,8 +3,8 @@ import importlib, os, signal, sys
 
 from . import words
 from .call import FAILURES, Call
-from .failures import FAILED, INTERRUPTED, TERMINATED, Failure, reason
-from .report import Report
+from .failures import FAILED, INTERRUPTED, TERMINATED, Failure
+from .report import Report, failure_of
 
 
 class Terminated(BaseException):
@@ -39,12 +39,10 @@ def main(given):
             print(options)
             return 0
         report = Report(options)
-    except Failure as failure:
+    except (Failure, OSError) as error:
+        failure = error if isinstance(error, Failure) else failure_of(error)
         print(f"pbclient: {failure.what}\n    {failure.advice}", file=sys.stderr)
         return failure.status
-    except OSError as error:
-        print(f"pbclient: {reason(error)}", file=sys.stderr)
-        return FAILED
     try:
         return do(command, options, report)
     except KeyboardInterrupt:

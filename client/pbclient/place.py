@@ -3,7 +3,7 @@
 No link is followed below that folder, whoever made it: each folder on the way is opened by its name in the one before. A file is written
 beside its place and renamed. Its rights come after its content, and a folder's after all that it holds.
 """
-import errno, grp, os, pwd, stat
+import contextlib, errno, grp, os, pwd, stat
 from functools import lru_cache
 
 from . import tars
@@ -42,7 +42,7 @@ def parts_of(name):
 
 
 class Kept(Exception):
-    """What stands at a member's place stays."""
+    """What stands at a member's place stays; why, if it is not the same."""
 
 
 class Place:
@@ -53,11 +53,16 @@ class Place:
         self.options, self.tell = options, tell
         self.numeric, self.owners = options.numeric_owner, not options.no_owner and os.geteuid() == 0
         self.kept, self.files, self.bytes = set(), 0, 0
-        # The folders that are open: of each its name, its number, and the member whose rights it gets as it is left.
-        self.open = [(None, os.open(target, os.O_RDONLY | os.O_DIRECTORY), None)]
+        self.target, self.open = target, []
 
     def __enter__(self):
         return self
+
+    def start(self):
+        """Opens the folder, and makes it if it is not there."""
+        os.makedirs(self.target, exist_ok=True)
+        # The folders that are open: of each its name, its number, and the member whose rights it gets as it is left.
+        self.open.append((None, os.open(self.target, os.O_RDONLY | os.O_DIRECTORY), None))
 
     def __exit__(self, kind, *cause):
         while self.open:
@@ -67,6 +72,8 @@ class Place:
         """Puts a member there. Its file's bytes come from a call, part by part, which may be left alone."""
         try:
             names = parts_of(member.name)
+            if not self.open:
+                self.start()
             if member.kind == tars.FOLDER:
                 self.enter(names, member)
             else:
@@ -74,8 +81,8 @@ class Place:
                 self.put_into(self.open[-1][1], names[-1], member, parts)
             self.files += 1
         except Kept as kept:
-            self.kept.add(member.name)
             if str(kept):
+                self.kept.add(member.name)
                 self.tell(member.name, str(kept))
         except OSError as error:
             self.tell(member.name, error.strerror)
@@ -128,11 +135,11 @@ class Place:
             self.make(folder, member, parts)
             os.rename(BESIDE, name, src_dir_fd=folder, dst_dir_fd=folder)
         except BaseException:
-            try:
-                os.unlink(BESIDE, dir_fd=folder)
-            except FileNotFoundError:
-                pass
+            remove_beside(folder)
             raise
+        if member.kind == tars.HARD_LINK:
+            # (it is left where what was there is another name of the same file)
+            remove_beside(folder)
 
     def look(self, folder, name, member):
         """Refuses what may not be written over."""
@@ -242,6 +249,11 @@ class Place:
             os.setxattr(file, name, value, **how)
         except OSError as error:
             self.tell(member.name, f"attribute {name}: {error.strerror}")
+
+
+def remove_beside(folder):
+    with contextlib.suppress(FileNotFoundError):
+        os.unlink(BESIDE, dir_fd=folder)
 
 
 def write_all(file, data, at):

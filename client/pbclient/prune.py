@@ -4,7 +4,7 @@ from datetime import datetime
 
 from . import chunks, queries, store
 from . import session as s
-from .failures import Failure, mistyped
+from .failures import DAMAGED, Failure, mistyped
 from .report import counted, size
 from .talk import Refused
 
@@ -95,11 +95,8 @@ def prune_one(call, talk, group, counts):
 
 def gc(call):
     """Takes out the chunks that nothing has used for a day."""
-    warning = store.clock_warning(call.folder) if call.folder else None
     with call.session(writes=True) as talk:
         collect(call, talk)
-    if warning:
-        call.report.warn(*warning)
 
 
 def collect(call, talk):
@@ -111,7 +108,7 @@ def collect(call, talk):
         if refused.name != "Unreadable":
             raise
         damaged = queries.group_of(refused.body[2:].decode())
-        raise Failure(str(refused), f"pbclient forget {damaged} gives it up; then gc works again") from None
+        raise Failure(str(refused), f"pbclient forget {damaged} gives it up; then gc works again", DAMAGED) from None
     if not call.folder:
         text = f"{counted(removed, 'chunk')} removed; {counted(used + pending, 'chunk')} are left, of which {counted(pending, 'chunk')} may go later"
         return call.report.result("gc", text, removed=removed, used=used, pending=pending)

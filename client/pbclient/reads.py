@@ -33,7 +33,7 @@ class Snapshot:
     """A snapshot that the session reads: `with Snapshot(store, name) as it`."""
 
     def __init__(self, store, name):
-        self.store, self.name, self.downloaded = store, name, set()
+        self.store, self.name, self.downloaded, self.texts = store, name, set(), {}
 
     def __enter__(self):
         self.sizes = {it.name: it.size for it in files_of(self.store, self.name)}
@@ -60,5 +60,7 @@ class Snapshot:
         return [it for it in sorted(found) if it + ARCHIVE in self.sizes]
 
     def catalog(self, archive):
-        """The text of an archive's catalog."""
-        return b"".join(self.stream(archive + CATALOG))
+        """The text of an archive's catalog. It is read once."""
+        if archive not in self.texts:
+            self.texts[archive] = b"".join(self.stream(archive + CATALOG))
+        return self.texts[archive]

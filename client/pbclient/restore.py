@@ -92,31 +92,34 @@ class Restore:
     """A restore of a snapshot into a folder."""
 
     def __init__(self, call, snapshot, place):
-        self.report, self.snapshot, self.place, self.damaged, self.texts = call.report, snapshot, place, 0, {}
+        self.report, self.snapshot, self.place, self.damaged = call.report, snapshot, place, 0
 
-    def text(self, archive):
-        if archive not in self.texts:
-            self.texts[archive] = self.snapshot.catalog(archive)
-        return self.texts[archive]
+    def whole(self):
+        """Restores all archives."""
+        for archive in archives_of(self.snapshot):
+            self.part(archive, Part(0, self.snapshot.sizes[archive + ARCHIVE]))
 
-    def whole(self, archive):
-        """Restores all of an archive."""
-        self.part(archive, Part(0, self.snapshot.sizes[archive + ARCHIVE]))
-
-    def paths(self, archive, paths):
-        """Restores these paths of an archive, and gives those that it has."""
-        found = {path: list(catalog.below(self.text(archive), path)) for path in paths}
-        chosen = sorted({it.offset: it for rows in found.values() for it in rows}.values(), key=lambda it: it.offset)
-        for part in parts_of(chosen, self.text(archive)):
-            self.part(archive, part)
-        return {path for path, rows in found.items() if rows}
+    def paths(self, paths):
+        """Restores these paths; nothing when one of them is not there."""
+        chosen, met = {}, set()
+        for archive in self.snapshot.catalogs():
+            rows = {}
+            for path in paths:
+                found = {it.offset: it for it in catalog.below(self.snapshot.catalog(archive), path)}
+                rows.update(found)
+                met.update([path] if found else [])
+            chosen[archive] = [rows[offset] for offset in sorted(rows)]
+        need_all(paths, met)
+        for archive, rows in chosen.items():
+            for part in parts_of(rows, self.snapshot.catalog(archive)):
+                self.part(archive, part)
 
     def part(self, archive, part):
         """Restores a part. Members with a damaged chunk are told, and the others are restored."""
         place = self.until_damage(archive, part)
         if place is None:
             return
-        for entry in catalog.entries(self.text(archive)):
+        for entry in catalog.entries(self.snapshot.catalog(archive)):
             if entry.offset < place or entry.offset >= part.end:
                 continue
             if self.until_damage(archive, Part(entry.offset, entry.end, part.name, part.target)) is not None:
@@ -149,44 +152,40 @@ def archives_of(snapshot):
     return [name[: -len(ARCHIVE)] for name in snapshot.sizes if name.endswith(ARCHIVE)]
 
 
-def not_there(paths):
-    return Failure(f"the snapshot has no {', '.join(printable(os.fsdecode(it)) for it in paths)}", "pbclient ls and find tell what is in it")
+def need_all(paths, met):
+    """Refuses paths that no archive has."""
+    missing = [printable(os.fsdecode(it)) for it in paths if it not in met]
+    if missing:
+        raise Failure(f"the snapshot has no {', '.join(missing)}", "pbclient ls and find tell what is in it")
 
 
 def plan(call, snapshot, paths):
     """Tells what a restore would do."""
-    met = set()
+    met, rows = set(), []
     for archive in snapshot.catalogs():
-        text = snapshot.catalog(archive)
         for path in paths or [TOP]:
-            for it in catalog.below(text, path):
-                met.add(path)
-                name = os.fsdecode(it.name)
-                call.report.result("would_restore", f"would restore {printable(name)}", path=name, size=it.size)
-    if met.issuperset(paths):
-        return
-    raise not_there(sorted(set(paths) - met))
+            found = list(catalog.below(snapshot.catalog(archive), path))
+            met.update([path] if found else [])
+            rows += found
+    need_all(paths, met)
+    for it in rows:
+        name = os.fsdecode(it.name)
+        call.report.result("would_restore", f"would restore {printable(name)}", path=name, size=it.size)
 
 
 def restore_paths(call, snapshot, paths):
     """Restores paths of a snapshot, or all, and gives the status."""
     options, told, began = call.options, [], time.monotonic()
-    os.makedirs(options.target, exist_ok=True)
     with Place(options.target, options, lambda *it: told.append(it)) as place:
         restore = Restore(call, snapshot, place)
-        met = set()
-        for archive in archives_of(snapshot) if not paths else snapshot.catalogs():
-            if paths:
-                met |= restore.paths(archive, paths)
-            else:
-                restore.whole(archive)
-        missing = set(paths) - met
+        if paths:
+            restore.paths(paths)
+        else:
+            restore.whole()
     call.report.note(
         f"{counted(place.files, 'path')} restored to {options.target}, {size_text(place.bytes)} in {span(time.monotonic() - began)}",
         "summary", restored=place.files, bytes=place.bytes, told=len(told), damaged=restore.damaged)
     tell(call, told)
-    if missing:
-        raise not_there(sorted(missing))
     return DAMAGED if restore.damaged else LEFT_OUT if told else 0
 
 

@@ -7,6 +7,8 @@ name that is not UTF-8, under a keyword that GNU tar does not know.
 import errno, functools, os, re, stat, zlib
 from typing import NamedTuple
 
+from .failures import DAMAGED, Failure
+
 BLOCK = 512
 END = bytes(2 * BLOCK)
 # What has room in a header: names, small numbers, sizes and times.
@@ -20,8 +22,11 @@ RECORDS, RECORDS_OF_ALL = b"x", b"g"
 KINDS = {stat.S_IFREG: FILE, stat.S_IFLNK: LINK, stat.S_IFCHR: CHARACTER, stat.S_IFBLK: DEVICE, stat.S_IFDIR: FOLDER, stat.S_IFIFO: PIPE}
 
 
-class Damaged(Exception):
-    """What is read is no tar stream of this kind."""
+class Damaged(Failure):
+    """What is read is no tar stream, or no catalog, of this client."""
+
+    def __init__(self, what):
+        super().__init__(what, "pbclient check and verify tell what is damaged; `pbclient dump` gives the archive as it is", DAMAGED)
 
 
 class Member(NamedTuple):
@@ -126,12 +131,13 @@ def records_of(member, stored):
         found += record(b"path", member.name)
     if len(member.target) > NAME_LIMIT:
         found += record(b"linkpath", member.target)
-    for keyword, value, limit in ((b"size", stored, SIZE_LIMIT), (b"uid", member.uid, NUMBER_LIMIT), (b"gid", member.gid, NUMBER_LIMIT)):
-        if value >= limit:
-            found += record(keyword, b"%d" % value)
-    for keyword, value in ((b"uname", member.user), (b"gname", member.group)):
-        if len(value) > OWNER_LIMIT:
-            found += record(keyword, value)
+    if stored >= SIZE_LIMIT or member.uid >= NUMBER_LIMIT or member.gid >= NUMBER_LIMIT:
+        numbers = ((b"size", stored, SIZE_LIMIT), (b"uid", member.uid, NUMBER_LIMIT), (b"gid", member.gid, NUMBER_LIMIT))
+        found += b"".join([record(keyword, b"%d" % value) for keyword, value, limit in numbers if value >= limit])
+    if len(member.user) > OWNER_LIMIT:
+        found += record(b"uname", member.user)
+    if len(member.group) > OWNER_LIMIT:
+        found += record(b"gname", member.group)
     return found
 
 
@@ -168,7 +174,8 @@ def xattrs_of(file):
     """The extended attributes of a path, not of what it links to, or of an open file; none where the file system has none."""
     try:
         follow = {} if isinstance(file, int) else {"follow_symlinks": False}
-        return tuple((name, os.getxattr(file, name, **follow)) for name in sorted(os.listxattr(file, **follow)))
+        names = os.listxattr(file, **follow)
+        return tuple([(name, os.getxattr(file, name, **follow)) for name in sorted(names)]) if names else ()
     except OSError as error:
         if error.errno in (errno.ENOTSUP, errno.ENODATA, errno.EPERM, errno.EACCES):
             return ()
@@ -217,12 +224,18 @@ def time_of(text):
 
 def read_map(read, stored):
     """The parts of a file with holes, and how many bytes their map has."""
-    text, wanted = read(BLOCK), 1
-    while text.count(b"\n") < wanted and len(text) <= stored:
-        wanted = 1 + 2 * int(text.partition(b"\n")[0]) if b"\n" in text else wanted
-        if text.count(b"\n") < wanted:
+
+    def whole(lines):
+        nonlocal text
+        while text.count(b"\n") < lines:
+            if len(text) >= stored:
+                raise Damaged("the map of a file with holes is not whole")
             text += read(BLOCK)
-    numbers = [int(it) for it in text.split(b"\n")[1:wanted]]
+        return text.split(b"\n")
+
+    text = b""
+    count = int(whole(1)[0])
+    numbers = [int(it) for it in whole(1 + 2 * count)[1 : 1 + 2 * count]]
     return tuple(zip(numbers[::2], numbers[1::2])), len(text)
 
 

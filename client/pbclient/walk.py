@@ -34,7 +34,7 @@ def expression(pattern):
     spelled = {b"**/": b"(?:.*/)?", b"**": b".*", b"*": b"[^/]*", b"?": b"[^/]"}
     parts = re.split(rb"(\*\*/|\*\*|\*|\?|\[!?[^\]/]+\])", pattern)
     return b"".join(
-        spelled.get(it) or (it.replace(b"[!", b"[^") if it.startswith(b"[") and it.endswith(b"]") and len(it) > 2 else re.escape(it))
+        spelled.get(it) or (it.replace(b"[!", b"[^") if it.startswith(b"[") and it.endswith(b"]") and len(it) > 2 else re.escape(it).replace(b"/", b"/(?=[^/])"))
         for it in parts)
 
 

@@ -105,6 +105,7 @@ class Commands(Served):
         self.fails(1, "check looks into the store's folder", "check")
         self.fails(MISTYPED, "a server copies from the store that it was given", "copy", "--from", self.work, "host/web")
         self.fails(MISTYPED, "does not tell which groups", "copy", "--all")
+        self.fails(MISTYPED, "--reserve looks at the store's disk", "backup", "host/web", self.work, "--reserve", "1G")
         self.fails(1, "NoRemote", "copy", "host/web")
         self.fails(10, "has a store already", "init")
 
