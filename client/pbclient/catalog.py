@@ -69,7 +69,7 @@ def untrusted(front):
 
 
 def line_of(front, length, target):
-    return b"%s\t%d\t%s\n" % (front, length, spelled(target))
+    return b"%s\t%d\t%s\n" % (front, length, spelled(target) if target else b"")
 
 
 def lines_in(text):

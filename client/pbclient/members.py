@@ -10,7 +10,7 @@ from . import catalog, tars
 from .cut import Pieces, Runs
 from .walk import LeftOut, opened
 
-BLOCK = 1 << 20
+BLOCK, SMALL = 1 << 20, 64 << 10
 # A file that was written within so many nanoseconds before a backup began, or later, may have been written again at the same time by its
 # clock, which has steps. It is read again.
 CLOCK_STEP = 10**8
@@ -172,13 +172,15 @@ class Members:
         try:
             segments = tars.segments_of(file, status)
             parts = [(0, status.st_size)] if segments is None else segments
-            stored = sum(length for _, length in parts)
-            member = member_of(
-                found, tars.FILE, status, size=status.st_size, stored=stored, xattrs=tars.xattrs_of(file), segments=segments)
-            header = tars.header(member)
-            self.pieces.write(header)
-            whole = self.put_parts(found, file, parts)
-            self.pieces.write(tars.padding(stored))
+            stored = sum([length for _, length in parts])
+            header = tars.header(member_of(
+                found, tars.FILE, status, size=status.st_size, stored=stored, xattrs=tars.xattrs_of(file), segments=segments))
+            padding = tars.padding(stored)
+            whole = self.put_small(file, header, stored, padding) if segments is None and stored <= SMALL else False
+            if not whole:
+                self.pieces.write(header)
+                whole = self.put_parts(found, file, parts)
+                self.pieces.write(padding)
             after = os.fstat(file)
         finally:
             os.close(file)
@@ -187,7 +189,19 @@ class Members:
         front = planned.front if status == found.status else front_of(found, tars.FILE, status)
         if not whole:
             front = catalog.untrusted(front)
-        self.catalog.add(catalog.line_of(front, len(header) + stored + len(tars.padding(stored)), b""))
+        self.catalog.add(catalog.line_of(front, len(header) + stored + len(padding), b""))
+
+    def put_small(self, file, header, size, padding):
+        """Writes a small file at once, if it can be read whole."""
+        try:
+            data = os.pread(file, size, 0) if size else b""
+        except OSError:
+            return False
+        if len(data) < size:
+            return False
+        self.counts.read += size
+        self.pieces.write(b"%s%s%s" % (header, data, padding))
+        return True
 
     def put_parts(self, found, file, parts):
         """Writes these parts of a file, and tells whether they were there. Zeros stand for what was not."""

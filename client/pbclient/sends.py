@@ -3,6 +3,7 @@ import collections, hashlib
 from concurrent.futures import ThreadPoolExecutor
 
 from . import session as s
+from .talk import Refused
 
 # So many pieces wait for the thread at most, and so many commands for their replies.
 WAITING, UNANSWERED = 4, 8
@@ -39,8 +40,11 @@ class Sends:
         self.worker.shutdown()
 
     def ask(self, command):
-        """The reply's fields, once all that was given before is done."""
-        return self.do(self.answer, command, wait=True)
+        """The reply's fields, once all that was given before is done. After a refusal here the session may go on."""
+        reply = self.do(self.answer, command, wait=True)
+        if isinstance(reply, Refused):
+            raise reply
+        return reply
 
     def begin(self, name, size=None, piece=None):
         """An archive that begins, of this size in pieces of one size or in any pieces."""
@@ -89,8 +93,12 @@ class Sends:
             self.store.reply()
 
     def answer(self, command):
+        """The reply's fields, or its refusal."""
         self.take_replies(0)
-        return self.store.ask(command)
+        try:
+            return self.store.ask(command)
+        except Refused as refused:
+            return refused
 
     def take(self, archive, piece):
         digest = hashlib.sha256(piece).digest()
@@ -115,5 +123,5 @@ class Sends:
         if archive.entries:
             self.append(archive)
         checksum = archive.checksum.digest()
-        self.answer(s.close_index(archive.number, archive.count, archive.size, checksum))
+        self.send(s.close_index(archive.number, archive.count, archive.size, checksum), unanswered=0)
         return s.listed(archive.name, archive.size, checksum)

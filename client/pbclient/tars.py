@@ -131,12 +131,13 @@ def records_of(member, stored):
         found += record(b"path", member.name)
     if len(member.target) > NAME_LIMIT:
         found += record(b"linkpath", member.target)
-    for keyword, value, limit in ((b"size", stored, SIZE_LIMIT), (b"uid", member.uid, NUMBER_LIMIT), (b"gid", member.gid, NUMBER_LIMIT)):
-        if value >= limit:
-            found += record(keyword, b"%d" % value)
-    for keyword, value in ((b"uname", member.user), (b"gname", member.group)):
-        if len(value) > OWNER_LIMIT:
-            found += record(keyword, value)
+    if stored >= SIZE_LIMIT or member.uid >= NUMBER_LIMIT or member.gid >= NUMBER_LIMIT:
+        numbers = ((b"size", stored, SIZE_LIMIT), (b"uid", member.uid, NUMBER_LIMIT), (b"gid", member.gid, NUMBER_LIMIT))
+        found += b"".join([record(keyword, b"%d" % value) for keyword, value, limit in numbers if value >= limit])
+    if len(member.user) > OWNER_LIMIT:
+        found += record(b"uname", member.user)
+    if len(member.group) > OWNER_LIMIT:
+        found += record(b"gname", member.group)
     return found
 
 
@@ -173,7 +174,8 @@ def xattrs_of(file):
     """The extended attributes of a path, not of what it links to, or of an open file; none where the file system has none."""
     try:
         follow = {} if isinstance(file, int) else {"follow_symlinks": False}
-        return tuple((name, os.getxattr(file, name, **follow)) for name in sorted(os.listxattr(file, **follow)))
+        names = os.listxattr(file, **follow)
+        return tuple([(name, os.getxattr(file, name, **follow)) for name in sorted(names)]) if names else ()
     except OSError as error:
         if error.errno in (errno.ENOTSUP, errno.ENODATA, errno.EPERM, errno.EACCES):
             return ()
