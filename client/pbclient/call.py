@@ -2,12 +2,13 @@
 import contextlib, os
 
 from . import store
-from .failures import Failure, mistyped
+from .failures import DAMAGED, FAILED, Failure, mistyped
 from .report import failure_of
 from .talk import Ended, NoProgram, Refused, Run, program
 
 # The status of the program for a fault of the disk, and the refusals that come of one.
 DISK_FAULT, DISK_REFUSALS = 3, ("DiskFault", "Halted")
+DAMAGES = ("Damaged", "Unreadable")
 ADVICE = {
     "GroupBusy": "wait for the other backup's end",
     "SnapshotBusy": "wait for the end of what uses it",
@@ -105,7 +106,8 @@ class Call:
         if isinstance(error, OSError):
             return failure_of(error)
         if isinstance(error, Refused) and error.name not in DISK_REFUSALS:
-            return Failure(str(error), ADVICE.get(error.name, "look at the words; if they are right this is a fault of pbclient"))
+            advice = ADVICE.get(error.name, "look at the words; if they are right this is a fault of pbclient")
+            return Failure(str(error), advice, DAMAGED if error.name in DAMAGES else FAILED)
         if isinstance(error, Refused) or error.status == DISK_FAULT:
             return store.why_ended(self.root, error)
         return Failure(f"the store ended: {error}", "run again; no finished snapshot was lost")

@@ -253,6 +253,16 @@ class Ends(stores.WithStore):
         self.make()
         self.fails(1, "is no program", "--program", "/nowhere/pbstore", "snapshots")
 
+    def test_a_log(self):
+        self.make()
+        log = os.path.join(self.work, "log")
+        self.done("--log", log, "-q", "prune", "--all", "--keep-last", "1")
+        self.fails(1, "has no snapshot", "--log", log, "check", "host/x")
+        with open(log) as it:
+            lines = [line.split(" ", 1)[1].rstrip() for line in it]
+        self.assertEqual((len(lines), lines[4]), (6, "pbclient: host/x has no snapshot"), lines)
+        self.fails(1, "No such file", "--log", os.path.join(log, "x", "y"), "check")
+
     def test_a_full_output(self):
         self.make()
         with open("/dev/full", "wb") as full:
