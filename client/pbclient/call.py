@@ -39,24 +39,35 @@ class Call:
             os.mkdir(self.root)
             self.report.detail(f"{self.root} is made")
 
-    def check_store(self, writes, makes):
+    def look(self, writes, makes):
         """Looks at ROOT before the program is started, and tells whether it is empty."""
         self.need_root()
-        empty = store.is_empty(self.root, may_be_empty=makes, force=self.options.force)
+        empty = store.look(self.root, may_be_empty=makes, force=self.options.force)
         if writes:
             store.need_rights(self.root)
-        store.wait_for(self.root, self.options.wait)
         return empty
 
     @contextlib.contextmanager
-    def run(self, count=1, writes=False, makes=False, remote=None):
+    def run(self, count=1, writes=False, makes=False, remote=None, before=None):
         """A run of the program on ROOT, with so many sessions. A command that only reads is done on a store that can only be read.
-        One that makes a store leaves the book first, by which the folder is a store from then on, whatever comes."""
-        if self.check_store(writes, makes):
+        One that makes a store leaves the book first, by which the folder is a store from then on, whatever comes. `before` is called once
+        ROOT is held, before the program is started."""
+        if self.look(writes, makes):
             self.make_store()
-        with self.started(count, remote) as run:
-            yield run
-            self.end(run, writes)
+        with store.turn(self.root, self.options.wait):
+            if writes:
+                self.warn_of_clock()
+            if before:
+                before()
+            with self.started(count, remote) as run:
+                yield run
+                self.end(run, writes)
+
+    def warn_of_clock(self):
+        """Tells of a store that was used under a clock that was ahead."""
+        warning = store.clock_warning(self.root)
+        if warning:
+            self.report.warn(*warning)
 
     @contextlib.contextmanager
     def session(self, **how):

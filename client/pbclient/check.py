@@ -109,9 +109,7 @@ def read_data(call, needed, there, found):
 
 def look_at_state(call, talk):
     """Warns of a clock that went astray, and of a store that others may read."""
-    warning = store.clock_warning(call.root)
-    if warning:
-        call.report.warn(*warning)
+    call.warn_of_clock()
     for group, rows in queries.groups(queries.snapshots(talk)).items():
         at = s.time_of(rows[-1].snapshot)
         if at > time.time() + store.CLOCK_LEEWAY:

@@ -30,22 +30,21 @@ def chosen(options, root):
 
 def copy(call):
     """Copies the later snapshots of groups from another store into ROOT, which is made if it is not there."""
-    options, report, total = call.options, call.report, 0
+    options, report = call.options, call.report
     source = getattr(options, "from")
     call.need_root()
     if not source:
         raise mistyped("copy wants the store to copy from", "name it: --from FOLDER")
     if bool(options.group) == options.all:
         raise mistyped("copy wants either groups or --all", "name groups, as host/me, or give --all")
-    store.is_empty(source, force=options.force)
+    store.look(source, force=options.force)
     if os.path.lexists(call.root) and os.path.samefile(call.root, source):
         raise Failure("a store can't be copied into itself", "name another folder by -r")
-    store.wait_for(source, options.wait, fcntl.LOCK_SH)
-    groups = chosen(options, source)
-    call.make_folder()
-    with call.session(writes=True, makes=True, remote=source) as talk:
-        for group in groups:
-            total += copy_group(report, talk, group)
+    with store.turn(source, options.wait, fcntl.LOCK_SH):
+        groups = chosen(options, source)
+        call.make_folder()
+        with call.session(writes=True, makes=True, remote=source) as talk:
+            total = sum(copy_group(report, talk, group) for group in groups)
     report.note(f"{counted(total, 'snapshot')} copied, of {counted(len(groups), 'group')}", "copy_summary", snapshots=total, groups=len(groups))
 
 

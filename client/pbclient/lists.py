@@ -67,7 +67,7 @@ def details(report, facts):
     for it in facts["files"]:
         report.result("file", f"    {it['csum']}  {it['size']:15,}  {it['name']}")
     for name in ("paths", "notes"):
-        if name in facts:
+        if facts.get(name):
             report.result("noted", f"    {name}: {json.dumps(facts[name], ensure_ascii=False)}")
 
 

@@ -3,8 +3,8 @@ import importlib, os, signal, sys
 
 from . import words
 from .call import FAILURES, Call
-from .failures import FAILED, INTERRUPTED, TERMINATED, Failure, reason
-from .report import Report
+from .failures import FAILED, INTERRUPTED, TERMINATED, Failure
+from .report import Report, failure_of
 
 
 class Terminated(BaseException):
@@ -39,19 +39,16 @@ def main(given):
             print(options)
             return 0
         report = Report(options)
-    except Failure as failure:
+    except (Failure, OSError) as error:
+        failure = error if isinstance(error, Failure) else failure_of(error)
         print(f"pbclient: {failure.what}\n    {failure.advice}", file=sys.stderr)
         return failure.status
-    except OSError as error:
-        print(f"pbclient: {reason(error)}", file=sys.stderr)
-        return FAILED
     try:
         return do(command, options, report)
-    except KeyboardInterrupt:
-        report.failed(Failure("interrupted", "run again; no finished snapshot was lost", INTERRUPTED))
-        return INTERRUPTED
-    except Terminated:
-        report.failed(Failure("terminated", "run again; no finished snapshot was lost", TERMINATED))
-        return TERMINATED
+    except (KeyboardInterrupt, Terminated) as end:
+        what, status = ("interrupted", INTERRUPTED) if isinstance(end, KeyboardInterrupt) else ("terminated", TERMINATED)
+        report.failed(Failure(what, "run again; no finished snapshot was lost", status))
+        # (a thread may still wait for what it reads, and nothing of it is wanted any more)
+        os._exit(status)
     finally:
         report.close()

@@ -4,7 +4,7 @@ from datetime import datetime
 
 from . import chunks, queries, store
 from . import session as s
-from .failures import Failure, mistyped
+from .failures import DAMAGED, Failure, mistyped
 from .report import counted, size
 from .talk import Refused
 
@@ -95,11 +95,8 @@ def prune_one(call, talk, group, counts):
 
 def gc(call):
     """Takes out the chunks that nothing has used for a day."""
-    warning = store.clock_warning(call.root) if call.root else None
     with call.session(writes=True) as talk:
         collect(call, talk)
-    if warning:
-        call.report.warn(*warning)
 
 
 def collect(call, talk):
@@ -111,7 +108,7 @@ def collect(call, talk):
         if refused.name != "Unreadable":
             raise
         damaged = queries.group_of(refused.body[2:].decode())
-        raise Failure(str(refused), f"pbclient forget {damaged} gives it up; then gc works again") from None
+        raise Failure(str(refused), f"pbclient forget {damaged} gives it up; then gc works again", DAMAGED) from None
     after = chunks.sizes(call.root)
     freed, kept = sum(before.values()) - sum(after.values()), sum(after.values())
     touches = {digest: at for digest, at in store.book(call.root) if digest in after and at < start}

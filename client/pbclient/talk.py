@@ -112,8 +112,7 @@ class Talk:
 
     def __enter__(self):
         self.pipe = open(self.opened(), "wb", buffering=0)
-        os.unlink(self.path)
-        os.unlink(self.path + ".out")
+        self.unlink()
         os.set_blocking(self.replies.fileno(), True)
         return self
 
@@ -136,6 +135,13 @@ class Talk:
                     raise
                 time.sleep(0.001)
         raise self.run.ended()
+
+    def unlink(self):
+        """Takes the pipes' names away, and their folder with the last of them, so that nothing is left if this process is killed."""
+        os.unlink(self.path)
+        os.unlink(self.path + ".out")
+        with contextlib.suppress(OSError):
+            os.rmdir(self.run.work)
 
     def read(self, size):
         """So many bytes of the replies, once they are there."""

@@ -170,14 +170,27 @@ COMMANDS = (
 )
 
 
+def meant(name, known):
+    """A question that leads to what is spelled most alike, if anything is."""
+    near = difflib.get_close_matches(name, known, 1)
+    return f"did you mean {near[0]}? " if near else ""
+
+
 def command_named(name):
     """The row of a command."""
     for it in COMMANDS:
         if it.name == name:
             return it
-    near = difflib.get_close_matches(name, [it.name for it in COMMANDS], 1)
-    meant = f"did you mean {near[0]}? " if near else ""
-    raise mistyped(f"{name} is no command", f"{meant}pbclient help lists them")
+    raise mistyped(f"{name} is no command", f"{meant(name, [it.name for it in COMMANDS])}pbclient help lists them")
+
+
+def need_options(command, words):
+    """Refuses an option that the command has not, before its value is taken for something else."""
+    known = [name for it in (*command.options, *COMMON) for name in it.names]
+    for word in words[: words.index("--") if "--" in words else None]:
+        name = word.partition("=")[0]
+        if name.startswith("--") and name not in known:
+            raise mistyped(f"{name} is no option of {command.name}", f"{meant(name, known)}pbclient help {command.name} tells the words")
 
 
 class Parser(argparse.ArgumentParser):
@@ -243,6 +256,7 @@ def read(words):
     command = command_named(rest[0])
     if HELP & set(rest):
         return None, help_of_command(command)
+    need_options(command, rest)
     return command, parser_of(command).parse_intermixed_args(rest[1:], common_parser().parse_args(front))
 
 

@@ -156,6 +156,13 @@ class States(stores.WithStore):
         self.done("--wait", "20", "snapshots")
         holder.wait()
 
+    def test_many_calls_at_once_wait_for_each_other(self):
+        self.make()
+        words = [stores.CLIENT, "-r", self.root, "--wait", "100", "stats"]
+        calls = [subprocess.Popen(words, stdout=subprocess.DEVNULL, stderr=subprocess.PIPE) for _ in range(8)]
+        said = [it.communicate()[1] for it in calls]
+        self.assertEqual([it.returncode for it in calls], [0] * 8, said)
+
     @unittest.skipIf(os.getuid(), "this needs root, to become another user")
     def test_another_users(self):
         self.make()
