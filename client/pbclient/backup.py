@@ -290,11 +290,14 @@ def do_all(call, talks, jobs, damaged):
 def backup(call):
     """Backs up what the words name."""
     jobs, dry = jobs_of(call.options), call.options.dry_run
-    call.check_store(writes=not dry, makes=not dry)
     if call.options.reserve and not call.folder:
         raise mistyped("--reserve looks at the store's disk, which is a server's", "leave it out")
-    damaged = set() if dry else call.damaged()
-    with call.run(len(jobs), writes=not dry, makes=not dry) as run:
+    damaged = set()
+
+    def look_for_damage():
+        damaged.update(set() if dry else call.damaged())
+
+    with call.run(len(jobs), writes=not dry, makes=not dry, before=look_for_damage) as run:
         found = do_all(call, run.talks, jobs, damaged)
         if damaged and not any(isinstance(it, Exception) for it in found):
             call.settle_damaged()

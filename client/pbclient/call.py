@@ -2,13 +2,14 @@
 import contextlib, functools, os
 
 from . import damage, store
-from .failures import Failure, mistyped
+from .failures import DAMAGED, FAILED, Failure, mistyped
 from .report import failure_of
 from .served import dial, talks
 from .talk import Ended, NoProgram, Refused, Run, program
 
 # The status of the program for a fault of the disk, and the refusals that come of one.
 DISK_FAULT, DISK_REFUSALS = 3, ("DiskFault", "Halted")
+DAMAGES = ("Damaged", "Unreadable")
 ADVICE = {
     "GroupBusy": "wait for the other backup's end",
     "SnapshotBusy": "wait for the end of what uses it",
@@ -40,33 +41,38 @@ class Call:
             os.mkdir(self.root)
             self.report.detail(f"{self.root} is made")
 
-    def check_store(self, writes, makes):
+    def look(self, writes, makes):
         """Looks at ROOT before the program is started, and tells whether it is empty. A server does so itself."""
         if self.way:
             return False
-        empty = store.is_empty(self.root, may_be_empty=makes, force=self.options.force)
+        empty = store.look(self.root, may_be_empty=makes, force=self.options.force)
         if writes:
             store.need_rights(self.root)
-        store.wait_for(self.root, self.options.wait)
         return empty
 
     @contextlib.contextmanager
-    def run(self, count=1, writes=False, makes=False, remote=None):
+    def run(self, count=1, writes=False, makes=False, remote=None, before=None):
         """A run of the program on ROOT, with so many sessions. A command that only reads is done on a store that can only be read.
-        One that makes a store leaves the book first, by which the folder is a store from then on, whatever comes.
+        One that makes a store leaves the book first, by which the folder is a store from then on, whatever comes. `before` is called once
+        ROOT is held, before the program is started.
 
-        Where a server has the store, they are sessions of it."""
+        If a server has the store, they are sessions of it, and `before` is called first."""
         if self.way:
+            if before:
+                before()
             with self.served(count, remote) as run:
                 yield run
             return
-        if self.check_store(writes, makes):
+        if self.look(writes, makes):
             self.make_store()
-        if writes:
-            self.warn_of_clock()
-        with self.started(count, remote) as run:
-            yield run
-            self.end(run, writes)
+        with store.turn(self.root, self.options.wait):
+            if writes:
+                self.warn_of_clock()
+            if before:
+                before()
+            with self.started(count, remote) as run:
+                yield run
+                self.end(run, writes)
 
     @functools.cached_property
     def way(self):
@@ -149,7 +155,8 @@ class Call:
         if isinstance(error, OSError):
             return failure_of(error)
         if isinstance(error, Refused) and error.name not in DISK_REFUSALS:
-            return Failure(str(error), ADVICE.get(error.name, "look at the words; if they are right this is a fault of pbclient"))
+            advice = ADVICE.get(error.name, "look at the words; if they are right this is a fault of pbclient")
+            return Failure(str(error), advice, DAMAGED if error.name in DAMAGES else FAILED)
         if isinstance(error, Refused) and self.way:
             return Failure(f"the store's disk failed: {error}", "look at the server's log and at the store's disk, then run again")
         if isinstance(error, Refused) or error.status == DISK_FAULT:

@@ -3,7 +3,8 @@ import fcntl, os
 
 from . import queries, store
 from . import session as s
-from .failures import Failure, mistyped
+from .call import DAMAGES, DISK_REFUSALS
+from .failures import DAMAGED, DONE, FAILED, Failure, mistyped
 from .report import counted
 from .talk import Refused
 
@@ -30,7 +31,7 @@ def chosen(options, root):
 
 def copy(call):
     """Copies the later snapshots of groups from another store into ROOT, which is made if it is not there."""
-    options, report, total = call.options, call.report, 0
+    options, report = call.options, call.report
     source = getattr(options, "from")
     call.need_root()
     if call.way:
@@ -39,16 +40,27 @@ def copy(call):
         raise mistyped("copy wants the store to copy from", "name it: --from FOLDER")
     if bool(options.group) == options.all:
         raise mistyped("copy wants either groups or --all", "name groups, as host/me, or give --all")
-    store.is_empty(source, force=options.force)
+    store.look(source, force=options.force)
     if os.path.lexists(call.root) and os.path.samefile(call.root, source):
         raise Failure("a store can't be copied into itself", "name another folder by -r")
-    store.wait_for(source, options.wait, fcntl.LOCK_SH)
-    groups = chosen(options, source)
-    call.make_folder()
-    with call.session(writes=True, makes=True, remote=source) as talk:
-        for group in groups:
+    with store.turn(source, options.wait, fcntl.LOCK_SH):
+        groups = chosen(options, source)
+        call.make_folder()
+        with call.session(writes=True, makes=True, remote=source) as talk:
+            return copy_groups(report, talk, groups)
+
+
+def copy_groups(report, talk, groups):
+    """Copies group after group, also if one of them can't be read, and gives the status."""
+    total, status = 0, DONE
+    for group in groups:
+        try:
             total += copy_group(report, talk, group)
+        except Failure as failure:
+            report.failed(failure)
+            status = max(status, failure.status)
     report.note(f"{counted(total, 'snapshot')} copied, of {counted(len(groups), 'group')}", "copy_summary", snapshots=total, groups=len(groups))
+    return status
 
 
 def copy_by_server(call):
@@ -70,9 +82,11 @@ def copy_group(report, talk, group):
     try:
         copied = queries.names(talk, s.sync(group))
     except Refused as refused:
-        done = [it for it in queries.in_group(talk, group) if it not in before]
-        tell(report, done)
-        raise Failure(f"{group}: {refused}", f"look at the store that it comes from: pbclient check; {counted(len(done), 'snapshot')} copied") from None
+        if refused.name in DISK_REFUSALS:
+            raise
+        tell(report, [it for it in queries.in_group(talk, group) if it not in before])
+        status = DAMAGED if refused.name in DAMAGES else FAILED
+        raise Failure(f"{group}: {refused}", "pbclient check tells what is wrong with the store that it comes from", status) from None
     tell(report, copied)
     if not copied:
         report.note(f"{group}  has nothing later", "nothing_later", group=group)

@@ -19,7 +19,7 @@ NEAR, FAR = 768 << 10, 1280 << 10
 # The first of which one is in reach is taken. Each is common in some kind of data.
 MARKS = [b"\n", b"0"]
 # So many marks are compared at most, for the time that it takes.
-MARKS_COMPARED = 4096
+MARKS_COMPARED = 1024
 
 
 def draw(name):

@@ -8,7 +8,7 @@ from .talk import NoProgram, program
 def init(call):
     """Makes ROOT and an empty store in it."""
     call.make_folder()
-    if not call.check_store(writes=True, makes=True):
+    if not call.look(writes=True, makes=True):
         raise store.no_store(f"{call.root} has a store already", "use it as it is, or name another folder")
     call.make_store()
     call.report.result("store_made", f"{call.root} is a store now", root=call.root)

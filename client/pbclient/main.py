@@ -45,11 +45,10 @@ def main(given):
         return failure.status
     try:
         return do(command, options, report)
-    except KeyboardInterrupt:
-        report.failed(Failure("interrupted", "run again; no finished snapshot was lost", INTERRUPTED))
-        return INTERRUPTED
-    except Terminated:
-        report.failed(Failure("terminated", "run again; no finished snapshot was lost", TERMINATED))
-        return TERMINATED
+    except (KeyboardInterrupt, Terminated) as end:
+        what, status = ("interrupted", INTERRUPTED) if isinstance(end, KeyboardInterrupt) else ("terminated", TERMINATED)
+        report.failed(Failure(what, "run again; no finished snapshot was lost", status))
+        # (a thread may still wait for what it reads, and nothing of it is wanted any more)
+        os._exit(status)
     finally:
         report.close()

@@ -15,6 +15,7 @@ BESIDE = b".pbclient-%d.tmp" % os.getpid()
 # Zeros are looked for in blocks of so many bytes.
 ZERO_BLOCK = 64 << 10
 ZEROS = bytes(ZERO_BLOCK)
+NO_NAMES = {b"", b".", b".."}
 
 
 @lru_cache(maxsize=None)
@@ -36,7 +37,7 @@ def group_number(name, number):
 def parts_of(name):
     """The names on the way to a member; none for the folder `/`."""
     parts = [] if name == TOP else name.split(b"/")
-    if any(it in (b"", b".", b"..") or b"\0" in it for it in parts):
+    if not NO_NAMES.isdisjoint(parts) or b"\0" in name:
         raise Damaged(f"{os.fsdecode(name)!r} is no path of a backup")
     return parts
 

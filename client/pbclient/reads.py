@@ -1,5 +1,5 @@
 """What a snapshot has, read from the store."""
-import collections, json
+import bisect, collections, itertools, json
 from concurrent.futures import ThreadPoolExecutor
 
 from . import session as s
@@ -11,17 +11,27 @@ from .talk import Refused
 AHEAD = 3
 
 
-def stream(store, name, start, end):
-    """The bytes of an archive from one place to another, in blocks; its index was asked for before. A thread takes the replies."""
-    asked, at = collections.deque(), start
+def ranges(start, end, ends):
+    """The parts of an archive that are asked for one by one. They end where pieces do, so that no piece is read twice, if pieces are short."""
+    while start < end:
+        limit = min(start + s.RANGE_LIMIT, end)
+        place = bisect.bisect_right(ends, limit)
+        stop = ends[place - 1] if place and ends[place - 1] > start and limit < end else limit
+        yield start, stop - start
+        start = stop
+
+
+def stream(store, name, parts):
+    """The bytes of these parts of an archive, whose index was asked for before. A thread takes the replies."""
+    asked, parts = collections.deque(), iter(parts)
     with ThreadPoolExecutor(1) as worker:
         try:
-            while at < end or asked:
-                while at < end and len(asked) < AHEAD:
-                    size = min(s.RANGE_LIMIT, end - at)
-                    store.send(s.range_of(name, at, size))
+            while True:
+                for start, size in itertools.islice(parts, AHEAD - len(asked)):
+                    store.send(s.range_of(name, start, size))
                     asked.append(worker.submit(store.reply))
-                    at += size
+                if not asked:
+                    return
                 yield asked.popleft().result()
         finally:
             # (each reply is taken, so that the next command gets its own)
@@ -33,7 +43,7 @@ class Snapshot:
     """A snapshot that the session reads: `with Snapshot(store, name) as it`."""
 
     def __init__(self, store, name):
-        self.store, self.name, self.downloaded, self.texts = store, name, set(), {}
+        self.store, self.name, self.ends, self.texts = store, name, {}, {}
 
     def __enter__(self):
         self.sizes = {it.name: it.size for it in files_of(self.store, self.name)}
@@ -49,10 +59,10 @@ class Snapshot:
 
     def stream(self, name, start=0, end=None):
         """The bytes of an archive, in blocks."""
-        if name not in self.downloaded:
-            self.store.ask(s.download(name))
-            self.downloaded.add(name)
-        return stream(self.store, name, start, self.sizes[name] if end is None else end)
+        if name not in self.ends:
+            index = whole(self.store, s.download, name)
+            self.ends[name] = [end for end, _ in s.read_ends(name, index)]
+        return stream(self.store, name, ranges(start, self.sizes[name] if end is None else end, self.ends[name]))
 
     def catalogs(self):
         """The archives that have a catalog beside them, by their names without an ending."""

@@ -22,7 +22,8 @@ def path_in(text):
 
 
 class Stream:
-    """The bytes of an archive from one place on, to be read one behind another. `place` is where the member begins that is being read."""
+    """The bytes of an archive from one place on, to be read one behind another. `place` is where the member begins that is being read, or
+    the last one ended."""
 
     def __init__(self, blocks, start=0):
         self.blocks, self.held, self.at, self.before, self.place = iter(blocks), b"", 0, start, start
@@ -56,11 +57,13 @@ class Stream:
             member = tars.read_member(self.read)
             if member is None:
                 return
-            parts = self.parts(member.stored)
+            padding, parts = len(tars.padding(member.stored)), self.parts(member.stored)
+            end = self.before + self.at + member.stored + padding
             yield member, parts
+            self.place = end
             for _ in parts:
                 pass
-            self.read(len(tars.padding(member.stored)))
+            self.read(padding)
 
 
 class Part(NamedTuple):
@@ -122,7 +125,8 @@ class Restore:
         for entry in catalog.entries(self.snapshot.catalog(archive)):
             if entry.offset < place or entry.offset >= part.end:
                 continue
-            if self.until_damage(archive, Part(entry.offset, entry.end, part.name, part.target)) is not None:
+            place = self.until_damage(archive, Part(entry.offset, entry.end, part.name, part.target))
+            if place is not None and place < entry.end:
                 self.damaged += 1
                 self.place.tell(part.name or entry.name, "a chunk of it is damaged or missing")
             # (behind the damage the others come in one piece again)
@@ -135,11 +139,14 @@ class Restore:
         stream = Stream(self.snapshot.stream(archive + ARCHIVE, part.start, part.end), part.start)
         try:
             with Progress(self.report, archive) as progress:
+                shown = part.start
                 for member, parts in stream.members():
                     if part.name is not None:
                         member = member._replace(name=part.name, target=part.target or member.target)
                     self.place.put(member, parts)
-                    progress.show(stream.before - part.start, part.end - part.start)
+                    if stream.before != shown:
+                        shown = stream.before
+                        progress.show(shown - part.start, part.end - part.start)
         except Refused as refused:
             if refused.name != "Damaged" or archive not in self.snapshot.catalogs():
                 raise

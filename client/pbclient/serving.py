@@ -11,7 +11,7 @@ from .talk import program
 def serve(call):
     """Serves ROOT until a signal ends it."""
     options = call.options
-    store.is_empty(options.store, force=options.force)
+    store.look(options.store, force=options.force)
     options.root, options.program = os.path.abspath(options.store), program(options.program)
     options.name = options.name or name_of(options.root)
     options.socket = os.path.abspath(options.socket or default_socket(options.name))

@@ -8,7 +8,8 @@ import contextlib, fcntl, os, pwd, stat, struct, time
 from .failures import FULL, IN_USE, NO_STORE, Failure, printable
 from .session import BOOK_MAGIC
 
-BOOK = os.path.join(".chunks", "book")
+CHUNKS = ".chunks"
+BOOK = os.path.join(CHUNKS, "book")
 BOOK_HEAD, BOOK_ROW = 24, struct.Struct("<32sQ")
 TYPES = ["ct", "host", "vm"]
 # The client's own file in a store.
@@ -73,7 +74,7 @@ def owner(path):
         return f"user {number}"
 
 
-def is_empty(root, may_be_empty=False, force=False):
+def look(root, may_be_empty=False, force=False):
     """Refuses a folder that is no store, and tells whether it is empty. `force` opens one whose book is gone."""
     names = entries(root)
     for program, marks in REPOSITORIES.items():
@@ -96,18 +97,29 @@ def is_empty(root, may_be_empty=False, force=False):
 
 
 @contextlib.contextmanager
-def held(root, kind=fcntl.LOCK_EX):
-    """Holds the lock that a run of the program takes; gives whether it was free."""
-    folder = os.open(root, os.O_RDONLY | os.O_DIRECTORY)
+def opened(path):
+    """A folder's descriptor; what was locked by it is free again at the end."""
+    folder = os.open(path, os.O_RDONLY | os.O_DIRECTORY)
     try:
-        try:
-            fcntl.flock(folder, kind | fcntl.LOCK_NB)
-            free = True
-        except BlockingIOError:
-            free = False
-        yield free
+        yield folder
     finally:
         os.close(folder)
+
+
+def locks(folder, kind):
+    """Locks an open folder, if nobody else has it."""
+    try:
+        fcntl.flock(folder, kind | fcntl.LOCK_NB)
+        return True
+    except BlockingIOError:
+        return False
+
+
+@contextlib.contextmanager
+def held(root, kind=fcntl.LOCK_EX):
+    """Holds the lock that a run of the program takes; gives whether it was free."""
+    with opened(root) as folder:
+        yield locks(folder, kind)
 
 
 def is_locked(root, kind=fcntl.LOCK_EX):
@@ -116,14 +128,17 @@ def is_locked(root, kind=fcntl.LOCK_EX):
         return not free
 
 
-def wait_for(root, seconds, kind=fcntl.LOCK_EX):
-    """Waits so long until no other run has the folder."""
-    end = time.monotonic() + seconds
-    while is_locked(root, kind):
-        if time.monotonic() >= end:
-            waited = f" (waited {seconds:g} s)" if seconds else ""
-            raise Failure(f"{root} is in use by another run{waited}", "run again later, or wait for it: --wait SECONDS", IN_USE)
-        time.sleep(LOCK_PAUSE)
+@contextlib.contextmanager
+def turn(root, seconds, kind=fcntl.LOCK_EX):
+    """Waits up to so many seconds until no other run has ROOT, and holds it against other calls of the client from then on. The lock is on
+    `.chunks`, since the program locks ROOT itself."""
+    end, waited = time.monotonic() + seconds, f" (waited {seconds:g} s)" if seconds else ""
+    with opened(os.path.join(root, CHUNKS)) as folder:
+        while not locks(folder, kind) or is_locked(root, kind):
+            if time.monotonic() >= end:
+                raise Failure(f"{root} is in use by another run{waited}", "run again later, or wait for it: --wait SECONDS", IN_USE)
+            time.sleep(LOCK_PAUSE)
+        yield
 
 
 def is_read_only(root):

@@ -4,7 +4,7 @@ A header keeps what a file system has of a file: nanoseconds, extended attribute
 as such), holes. GNU tar and Python's `tarfile` read it. It is spelled here since `tarfile` writes records of bytes, such as a capability or a
 name that is not UTF-8, under a keyword that GNU tar does not know.
 """
-import errno, functools, os, re, stat, zlib
+import errno, functools, os, re, stat, struct, zlib
 from typing import NamedTuple
 
 from .failures import DAMAGED, Failure
@@ -20,6 +20,13 @@ XATTR = b"SCHILY.xattr."
 FILE, HARD_LINK, LINK, CHARACTER, DEVICE, FOLDER, PIPE = b"0", b"1", b"2", b"3", b"4", b"5", b"6"
 RECORDS, RECORDS_OF_ALL = b"x", b"g"
 KINDS = {stat.S_IFREG: FILE, stat.S_IFLNK: LINK, stat.S_IFCHR: CHARACTER, stat.S_IFBLK: DEVICE, stat.S_IFDIR: FOLDER, stat.S_IFIFO: PIPE}
+
+
+# The fields of a header: name, mode, uid, gid, size, mtime, checksum, kind, target, user, group, device, and what stands before the name.
+FIELDS = struct.Struct("100s8s8s8s12s12s8sc100s8x32s32s8s8s155s12x")
+SIZE, CHECKSUM, KIND = 4, 6, 7
+ZEROS_OF_CHECKSUM = bytes(8)
+RECORD, TIME = re.compile(b"([0-9]+) "), re.compile(rb"(-?)([0-9]+)(?:\.([0-9]*))?")
 
 
 class Damaged(Failure):
@@ -193,17 +200,23 @@ def number_of(field):
     """A number of a header: octal digits, or bytes behind a sign in the first as GNU tar writes large ones."""
     if field[0] in (0o200, 0o377):
         return int.from_bytes(field[1:], "big") - (256 ** (len(field) - 1) if field[0] == 0o377 else 0)
-    text = text_of(field).strip()
-    if not re.fullmatch(b"[0-7]*", text):
-        raise Damaged("a header has no number where one should be")
-    return int(text or b"0", 8)
+    return whole_number(field.strip(b" \0") or b"0", 8)
+
+
+def whole_number(digits, base=10):
+    try:
+        if digits.isdigit():
+            return int(digits, base)
+    except ValueError:
+        pass
+    raise Damaged("a header has no number where one should be")
 
 
 def read_records(data):
     """The records of a PAX header, by their keywords."""
     found, at = {}, 0
     while at < len(data):
-        length = re.compile(b"([0-9]+) ").match(data, at)
+        length = RECORD.match(data, at)
         end = at + int(length[1]) if length else 0
         keyword, sign, value = data[length.end() : end - 1].partition(b"=") if length else (b"", b"", b"")
         if not sign or end > len(data):
@@ -215,7 +228,7 @@ def read_records(data):
 
 def time_of(text):
     """Nanoseconds of seconds with a fraction."""
-    parts = re.fullmatch(rb"(-?)([0-9]+)(?:\.([0-9]*))?", text)
+    parts = TIME.fullmatch(text)
     if not parts:
         raise Damaged("a header has no time where one should be")
     value = int(parts[2]) * 10**9 + int((parts[3] or b"")[:9].ljust(9, b"0"))
@@ -234,23 +247,34 @@ def read_map(read, stored):
         return text.split(b"\n")
 
     text = b""
-    count = int(whole(1)[0])
-    numbers = [int(it) for it in whole(1 + 2 * count)[1 : 1 + 2 * count]]
+    count = whole_number(whole(1)[0])
+    numbers = [whole_number(it) for it in whole(1 + 2 * count)[1 : 1 + 2 * count]]
     return tuple(zip(numbers[::2], numbers[1::2])), len(text)
+
+
+def read_block(read):
+    """The fields of the next header; None where the stream has zeros in its place."""
+    head = read(BLOCK)
+    fields = FIELDS.unpack(head)
+    if fields[CHECKSUM] == ZEROS_OF_CHECKSUM and not any(head):
+        return None
+    # (of so few bytes a sum is the low half of their Adler-32)
+    found = sum_of(head[: BLOCK // 2]) + sum_of(head[BLOCK // 2 :]) - sum(fields[CHECKSUM]) + 8 * ord(" ")
+    if number_of(fields[CHECKSUM]) != found:
+        raise Damaged("a header has a wrong checksum")
+    return fields
 
 
 def read_member(read):
     """The next member of a stream, by a call that gives so many bytes of it; None at its end. Its file's bytes come next in the stream."""
     extra = {}
     while True:
-        head = read(BLOCK)
-        if not any(head):
+        fields = read_block(read)
+        if fields is None:
             return None
-        if number_of(head[148:156]) != sum(head) - sum(head[148:156]) + 8 * ord(" "):
-            raise Damaged("a header has a wrong checksum")
-        kind, size = head[156:157], number_of(head[124:136])
+        kind, size = fields[KIND], number_of(fields[SIZE])
         if kind not in (RECORDS, RECORDS_OF_ALL):
-            return with_records(head, kind if kind != b"\0" else FILE, extra, read)
+            return with_records(fields, FILE if kind == b"\0" else kind, extra, read)
         if size > RECORDS_LIMIT:
             raise Damaged("a header's records are too long")
         data = read(size + -size % BLOCK)[:size]
@@ -258,22 +282,26 @@ def read_member(read):
             extra = read_records(data)
 
 
-def with_records(head, kind, extra, read):
+def numbered(extra, keyword, field):
+    """A number of the records, or else of the header."""
+    return whole_number(extra[keyword]) if keyword in extra else number_of(field)
+
+
+def with_records(fields, kind, extra, read):
     """A member of its header and its records."""
-    prefix = text_of(head[345:500])
-    name = extra.get(b"path") or (prefix + b"/" if prefix else b"") + text_of(head[:100])
-    stored = int(extra.get(b"size", number_of(head[124:136]))) if kind == FILE else 0
+    name, mode, uid, gid, stored, mtime, _, _, target, user, group, major, minor, prefix = fields
+    stored = numbered(extra, b"size", stored) if kind == FILE else 0
+    name = extra.get(b"path") or (text_of(prefix) + b"/" if prefix[0] else b"") + text_of(name)
     size, segments = stored, None
     if extra.get(b"GNU.sparse.major") == b"1":
-        name, size = extra[b"GNU.sparse.name"], int(extra[b"GNU.sparse.realsize"])
+        name, size = extra.get(b"GNU.sparse.name", name), whole_number(extra.get(b"GNU.sparse.realsize", b""))
         segments, before = read_map(read, stored)
         stored -= before
-    xattrs = tuple(
+    xattrs = tuple([
         (os.fsdecode(key[len(XATTR) :].replace(b"%3D", b"=").replace(b"%25", b"%")), value)
-        for key, value in extra.items() if key.startswith(XATTR))
+        for key, value in extra.items() if key.startswith(XATTR)])
     return Member(
-        name.rstrip(b"/") if kind == FOLDER else name, kind, number_of(head[100:108]) & 0o7777,
-        int(extra.get(b"uid", number_of(head[108:116]))), int(extra.get(b"gid", number_of(head[116:124]))),
-        extra.get(b"uname", text_of(head[265:297])), extra.get(b"gname", text_of(head[297:329])), size, stored,
-        time_of(extra[b"mtime"]) if b"mtime" in extra else number_of(head[136:148]) * 10**9,
-        extra.get(b"linkpath", text_of(head[157:257])), (number_of(head[329:337]), number_of(head[337:345])), xattrs, segments)
+        name.rstrip(b"/") if kind == FOLDER else name, kind, number_of(mode) & 0o7777, numbered(extra, b"uid", uid),
+        numbered(extra, b"gid", gid), extra.get(b"uname") or text_of(user), extra.get(b"gname") or text_of(group), size, stored,
+        time_of(extra[b"mtime"]) if b"mtime" in extra else number_of(mtime) * 10**9, extra.get(b"linkpath") or text_of(target),
+        (number_of(major), number_of(minor)) if kind in (CHARACTER, DEVICE) else (0, 0), xattrs, segments)

@@ -156,6 +156,13 @@ class States(stores.WithStore):
         self.done("--wait", "20", "snapshots")
         holder.wait()
 
+    def test_many_calls_at_once_wait_for_each_other(self):
+        self.make()
+        words = [stores.CLIENT, "-r", self.root, "--wait", "100", "stats"]
+        calls = [subprocess.Popen(words, stdout=subprocess.DEVNULL, stderr=subprocess.PIPE) for _ in range(8)]
+        said = [it.communicate()[1] for it in calls]
+        self.assertEqual([it.returncode for it in calls], [0] * 8, said)
+
     @unittest.skipIf(os.getuid(), "this needs root, to become another user")
     def test_another_users(self):
         self.make()
@@ -245,6 +252,16 @@ class Ends(stores.WithStore):
     def test_no_program(self):
         self.make()
         self.fails(1, "is no program", "--program", "/nowhere/pbstore", "snapshots")
+
+    def test_a_log(self):
+        self.make()
+        log = os.path.join(self.work, "log")
+        self.done("--log", log, "-q", "prune", "--all", "--keep-last", "1")
+        self.fails(1, "has no snapshot", "--log", log, "check", "host/x")
+        with open(log) as it:
+            lines = [line.split(" ", 1)[1].rstrip() for line in it]
+        self.assertEqual((len(lines), lines[4]), (6, "pbclient: host/x has no snapshot"), lines)
+        self.fails(1, "No such file", "--log", os.path.join(log, "x", "y"), "check")
 
     def test_a_full_output(self):
         self.make()

@@ -1,10 +1,10 @@
 """Runs the program whenever clients are there, and ends it."""
-import os, shutil, time
+import contextlib, shutil, time
 
 from .. import damage, store
-from ..failures import Failure
+from ..failures import IN_USE, Failure
 from . import limits
-from .lending import IN_USE, OPENING
+from .lending import OPENING, OTHERS
 from .runs import NotOpened, Run, let_go
 
 STATUSES = {3: "its disk failed, or the folder is not there or in use", 6: "out of memory"}
@@ -25,48 +25,50 @@ class Keeper:
 
     def keep(self):
         while self.is_wanted():
-            run = self.begin()
-            if run:
-                self.await_over(run)
-                self.finish(run)
+            with contextlib.ExitStack() as turn:
+                run = self.begin(turn)
+                if run:
+                    self.await_over(run)
+                    self.finish(run)
 
     def is_wanted(self):
         with self.changed:
             self.changed.wait_for(lambda: self.lending.waits or self.lending.stopped_at)
             return not self.lending.stopped_at
 
-    def begin(self):
-        """The program, once it reads its sessions; None if it fails, which all who wait are told."""
+    def begin(self, turn):
+        """The program, once it reads its sessions; None if it fails, which all who wait are told. `turn` holds the store for it."""
+        root = self.options.root
         try:
-            if self.is_in_use():
-                return None
-            run = self.start()
+            # (each time: the folder may be another than it was, as of a disk that is not mounted)
+            store.look(root, force=self.options.force)
+            turn.enter_context(store.turn(root, 0))
+            with self.changed:
+                self.lending.state = OPENING
+            run = self.start(root)
         except NotOpened as not_opened:
             return self.fail(why(not_opened.status))
-        except (Failure, OSError) as failure:
-            return self.fail(failure)
+        except Failure as failure:
+            return self.await_other() if failure.status == IN_USE else self.fail(failure)
+        except OSError as error:
+            return self.fail(error)
         with self.changed:
             self.lending.open(run)
         return run
 
-    def is_in_use(self):
-        """Whether another program has the store, which is let go if it was a killed server's, and waited for."""
-        is_busy = store.is_locked(self.options.root)
+    def await_other(self):
+        """Another program has the store. If a server was killed as it opened the lanes, it is that server's, and is let go."""
         with self.changed:
-            self.lending.state = IN_USE if is_busy else OPENING
-            if is_busy:
-                let_go(self.work)
-                self.changed.wait(limits.TICK)
-        return is_busy
+            self.lending.state = OTHERS
+            let_go(self.work)
+            self.changed.wait(limits.TICK)
 
-    def start(self):
-        # (the folder may be another than it was: a disk that is not mounted)
-        store.is_empty(self.options.root, force=self.options.force)
-        damage.set_aside(self.options.root)
+    def start(self, root):
+        damage.set_aside(root)
         # (a killed server's)
         shutil.rmtree(self.work, ignore_errors=True)
         remote = ["--remote", self.options.remote] if self.options.remote else []
-        return Run([self.options.program, "run", self.options.root, *remote], self.options.lanes, self.work)
+        return Run([self.options.program, "run", root, *remote], self.options.lanes, self.work)
 
     def fail(self, cause):
         text = f"the store could not be opened: {cause}"

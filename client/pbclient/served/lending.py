@@ -4,7 +4,7 @@ import threading, time
 from . import limits
 from .hello import Refused
 
-NOBODY, OPENING, IN_USE = "closed, no client is there", "the store is being opened", "another program has the store"
+NOBODY, OPENING, OTHERS = "closed, no client is there", "the store is being opened", "another program has the store"
 ALL_LENT, CLOSING = "all lanes are in use", "the store is being closed, and opened anew"
 
 
