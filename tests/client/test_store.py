@@ -3,6 +3,7 @@ user's."""
 import fcntl, os, signal, stat, subprocess, time, unittest
 
 import stores
+from pbclient import store
 
 DAY = "2026-01-02T00:00:00Z"
 NOBODY = 65534
@@ -261,7 +262,7 @@ class Ends(stores.WithStore):
         with open(log) as it:
             lines = [line.split(" ", 1)[1].rstrip() for line in it]
         self.assertEqual((len(lines), lines[4]), (6, "pbclient: host/x has no snapshot"), lines)
-        self.fails(1, "No such file", "--log", os.path.join(log, "x", "y"), "check")
+        self.fails(1, "Not a directory", "--log", os.path.join(log, "x"), "check")
 
     def test_a_full_output(self):
         self.make()
@@ -284,7 +285,8 @@ class Ends(stores.WithStore):
         self.addCleanup(os.close, folder)
         fcntl.flock(folder, fcntl.LOCK_EX)
         client = subprocess.Popen([stores.CLIENT, "-r", self.root, "--wait", "60", "snapshots"], stderr=subprocess.PIPE)
-        time.sleep(1)
+        while not store.is_locked(os.path.join(self.root, store.CHUNKS)):
+            time.sleep(0.1)
         return client
 
     def test_signals(self):
