@@ -58,6 +58,7 @@ class Call:
         with store.turn(self.root, self.options.wait):
             if writes:
                 self.warn_of_clock()
+                self.warn(store.owner_warning(self.root))
             if before:
                 before()
             with self.started(count, remote) as run:
@@ -66,7 +67,9 @@ class Call:
 
     def warn_of_clock(self):
         """Tells of a store that was used under a clock that was ahead."""
-        warning = store.clock_warning(self.root)
+        self.warn(store.clock_warning(self.root))
+
+    def warn(self, warning):
         if warning:
             self.report.warn(*warning)
 

@@ -180,6 +180,21 @@ class States(stores.WithStore):
         for words in CHANGES:
             self.fails(1, "may not be written: it is root's", *words, **become)
 
+    @unittest.skipIf(os.getuid(), "this needs root, to become another user")
+    def test_what_root_made_in_another_users_store(self):
+        self.make()
+        os.chmod(self.work, 0o755)
+        subprocess.run(["chown", "-R", str(NOBODY), self.root], check=True)
+        become = {"become": lambda: os.setuid(NOBODY)}
+        self.done("gc", **become)
+        found = self.call("gc")
+        self.assertEqual((found[0], "ROOT is nobody's, who can't read what root makes" in found[2]), (0, True), found)
+        os.chown(os.path.join(self.root, ".chunks", "book"), NOBODY, NOBODY)
+        os.chown(os.path.join(self.root, "vm"), 0, 0)
+        os.chmod(os.path.join(self.root, "vm"), 0o700)
+        self.fails(1, "ROOT/vm may not be read or written: it is root's", "gc", **become)
+        self.assertNotIn("nobody's", self.call("snapshots")[2])
+
     @unittest.skipIf(os.getuid(), "this needs root, to mount")
     def test_mounted_read_only(self):
         self.make()
@@ -244,7 +259,7 @@ class States(stores.WithStore):
         subprocess.run(["chmod", "-R", "go+rX", self.root], check=True)
         self.fails(1, "has unfinished work", "snapshots", become=lambda: os.setuid(NOBODY))
         self.done("snapshots")
-        self.fails(1, "ROOT/.chunks/book may not be read", "snapshots", become=lambda: os.setuid(NOBODY))
+        self.fails(1, "ROOT/.chunks/book may not be read or written", "snapshots", become=lambda: os.setuid(NOBODY))
 
 
 class Ends(stores.WithStore):
