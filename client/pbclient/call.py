@@ -106,6 +106,8 @@ class Call:
             return error
         if isinstance(error, NoProgram):
             return Failure(str(error), "build it by ./build-pbstore, or name it: --program FILE or PBSTORE")
+        if isinstance(error, PermissionError) and self.root and str(error.filename).startswith(self.root):
+            return store.closed(error.filename, self.root)
         if isinstance(error, OSError):
             return failure_of(error)
         if isinstance(error, Refused) and error.name not in DISK_REFUSALS:

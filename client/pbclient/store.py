@@ -215,13 +215,21 @@ def clock_warning(root):
     return f"{root} was used at {at}, which is ahead of the clock: until then gc frees nothing", advice
 
 
+def closed(path, root):
+    """The failure of a path in ROOT that this user has no right to."""
+    at = path
+    while at != root and not os.access(os.path.dirname(at), os.X_OK):
+        at = os.path.dirname(at)
+    return Failure(f"{path} may not be read or written: it is {owner(at)}'s", f"run as {owner(at)}, or give it to {owner(root)}: chown")
+
+
 def why_ended(root, error):
     """The failure behind a status of the program that says that the disk failed."""
     if is_locked(root):
         return Failure(f"{root} is in use by another run", "run again later, or wait for it: --wait SECONDS", IN_USE)
-    closed = next((it for it in paths_below(root) if not may_use(it, may_write(root))), None)
-    if closed:
-        return Failure(f"{closed} may not be read or written: it is {owner(closed)}'s", f"run as {owner(closed)}, or give it to {owner(root)}: chown")
+    path = next((it for it in paths_below(root) if not may_use(it, may_write(root))), None)
+    if path:
+        return closed(path, root)
     if is_read_only(root) or not may_write(root):
         what = f"{root} can only be read, and has unfinished work of an interrupted run in it"
         return Failure(what, "run any command once where it can be written")
