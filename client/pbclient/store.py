@@ -220,7 +220,8 @@ def closed(path, root):
     at = path
     while at != root and not os.access(os.path.dirname(at), os.X_OK):
         at = os.path.dirname(at)
-    return Failure(f"{path} may not be read or written: it is {owner(at)}'s", f"run as {owner(at)}, or give it to {owner(root)}: chown")
+    advice = f"run as {owner(at)}" + (f", or give it to {owner(root)}: chown" if owner(at) != owner(root) else "")
+    return Failure(f"{path} may not be read or written: it is {owner(at)}'s", advice)
 
 
 def why_ended(root, error):
