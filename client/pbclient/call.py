@@ -68,6 +68,7 @@ class Call:
         with store.turn(self.root, self.options.wait):
             if writes:
                 self.warn_of_clock()
+                self.warn(store.owner_warning(self.root))
             if before:
                 before()
             with self.started(count, remote) as run:
@@ -115,7 +116,9 @@ class Call:
 
     def warn_of_clock(self):
         """Tells of a store that was used under a clock that was ahead."""
-        warning = store.clock_warning(self.root)
+        self.warn(store.clock_warning(self.root))
+
+    def warn(self, warning):
         if warning:
             self.report.warn(*warning)
 
@@ -152,6 +155,8 @@ class Call:
             return error
         if isinstance(error, NoProgram):
             return Failure(str(error), "build it by ./build-pbstore, or name it: --program FILE or PBSTORE")
+        if isinstance(error, PermissionError) and self.root and str(error.filename).startswith(self.root):
+            return store.closed(error.filename, self.root)
         if isinstance(error, OSError):
             return failure_of(error)
         if isinstance(error, Refused) and error.name not in DISK_REFUSALS:

@@ -125,9 +125,11 @@ def verify(call):
     """Reads snapshots whole, by the program."""
     with call.session() as talk:
         rows, found, pieces, total = chosen(talk, call.options.snapshot), Damage(), 0, 0
-        for snapshot in rows:
-            entries, count = verify_one(call, talk, snapshot, found)
-            pieces, total = pieces + entries, total + count
+        with Progress(call.report, "verify") as progress:
+            for done, snapshot in enumerate(rows):
+                progress.show(total, more=f", {done} of {counted(len(rows), 'snapshot')}")
+                entries, count = verify_one(call, talk, snapshot, found)
+                pieces, total = pieces + entries, total + count
         told = f"{counted(len(rows), 'snapshot')}, {counted(pieces, 'piece')}, {size(total)} in them"
         return tell(call, talk, found, "verify", told, snapshots=len(rows), pieces=pieces, size=total)
 

@@ -51,14 +51,17 @@ def snapshot(text):
 
 
 def exact_snapshot(text):
-    """A snapshot whose group is named."""
+    """A snapshot of which the group and the time are named."""
     if "/" not in snapshot(text):
         raise argparse.ArgumentTypeError("latest alone could be any group's; say it as host/me/latest")
+    if GROUP_FORM.fullmatch(text):
+        raise argparse.ArgumentTypeError(f"{text} is a group; say which of its snapshots, as {text}/latest")
     return text
 
 
 def group_or_snapshot(text):
-    return snapshot(text) if text != "latest" else exact_snapshot(text)
+    """A group, or a snapshot of which the group and the time are named."""
+    return text if GROUP_FORM.fullmatch(text) else exact_snapshot(text)
 
 
 def named(text, what, ending):
