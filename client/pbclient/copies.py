@@ -34,6 +34,8 @@ def copy(call):
     options, report = call.options, call.report
     source = getattr(options, "from")
     call.need_root()
+    if call.way:
+        return copy_by_server(call)
     if not source:
         raise mistyped("copy wants the store to copy from", "name it: --from FOLDER")
     if bool(options.group) == options.all:
@@ -59,6 +61,19 @@ def copy_groups(report, talk, groups):
             status = max(status, failure.status)
     report.note(f"{counted(total, 'snapshot')} copied, of {counted(len(groups), 'group')}", "copy_summary", snapshots=total, groups=len(groups))
     return status
+
+
+def copy_by_server(call):
+    """The server copies from the store that it was given, whose groups it does not tell."""
+    options, total = call.options, 0
+    if getattr(options, "from"):
+        raise mistyped("a server copies from the store that it was given as it was started", "leave out --from")
+    if options.all or not options.group:
+        raise mistyped("a server does not tell which groups the other store has", "name groups, as host/me")
+    with call.session(writes=True) as talk:
+        for group in dict.fromkeys(options.group):
+            total += copy_group(call.report, talk, group)
+    call.report.note(f"{counted(total, 'snapshot')} copied", "copy_summary", snapshots=total, groups=len(set(options.group)))
 
 
 def copy_group(report, talk, group):
