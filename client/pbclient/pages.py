@@ -1,8 +1,8 @@
-"""What client/install makes of the table of words: the man page, the completion for bash, and the units of the nightly timer."""
+"""What client/install makes of the table of words: the man page, the completion for bash, and the units of a nightly timer and of servers."""
 from . import VERSION, words
 from .failures import MEANINGS
 
-CONFIG = "/etc/pbclient.conf"
+CONFIG, SERVED = "/etc/pbclient.conf", "/etc/pbclient-serve"
 ENVIRONMENT = (("PBSTORE_ROOT", "the store's folder, if -r names none"), ("PBSTORE", "the program pbstore, if --program names none"))
 EXAMPLES = (
     "export PBSTORE_ROOT=/srv/store", "pbclient init", "pbclient backup host/web /etc /srv/web --exclude '*.tmp'", "pbclient snapshots",
@@ -10,7 +10,8 @@ EXAMPLES = (
     "pbclient check --read-data",
 )
 FILES = (
-    (CONFIG, "what the timer does each night, by run-config"),
+    (CONFIG, "what pbclient.timer does each night, by run-config"),
+    (f"{SERVED}/NAME", "a line STORE=FOLDER for pbclient-serve@NAME.service, a server, and perhaps a line OPTIONS= with options of serve"),
     ("ROOT/damaged-chunks", "the damaged chunks that were found and that no backup has sent again yet"),
 )
 
@@ -103,8 +104,8 @@ complete -o filenames -F _pbclient pbclient
 """
 
 
-def service(program):
-    """The unit of a night."""
+def service(command):
+    """The unit of a night, by pbclient's path."""
     return f"""[Unit]
 Description=Backups by {CONFIG}
 Documentation=man:pbclient(1)
@@ -112,7 +113,7 @@ ConditionPathExists={CONFIG}
 
 [Service]
 Type=oneshot
-ExecStart={program} --quiet run-config {CONFIG}
+ExecStart={command} --quiet run-config {CONFIG}
 UMask=0077
 Nice=10
 """
@@ -130,6 +131,31 @@ Persistent=true
 
 [Install]
 WantedBy=timers.target
+"""
+
+
+def server(command):
+    """The unit of a server, for a store whose name stands behind the @. A file has its folder."""
+    return f"""[Unit]
+Description=The store %i, served
+Documentation=man:pbclient(1)
+ConditionPathExists={SERVED}/%i
+
+[Service]
+# (the file has a line STORE=/srv/store, and perhaps one OPTIONS=--group backup)
+EnvironmentFile={SERVED}/%i
+ExecStart={command} serve --name %i $OPTIONS ${{STORE}}
+ExecReload=kill -HUP $MAINPID
+RuntimeDirectory=pbstore
+RuntimeDirectoryPreserve=yes
+UMask=0077
+KillMode=mixed
+# (longer than --grace and --stop-limit together)
+TimeoutStopSec=700
+Restart=on-failure
+
+[Install]
+WantedBy=multi-user.target
 """
 
 

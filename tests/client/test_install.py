@@ -47,7 +47,8 @@ class Installed(stores.WithStore):
 
     @unittest.skipUnless(shutil.which("systemd-analyze"), "systemd is not here")
     def test_units(self):
-        units = [self.path("lib", "systemd", "system", f"pbclient.{it}") for it in ("service", "timer")]
+        units = [self.path("lib", "systemd", "system", it) for it in ("pbclient.service", "pbclient.timer", "pbclient-serve@.service")]
+        units[-1] = shutil.copy(units[-1], self.path("pbclient-serve@main.service"))
         done = subprocess.run(["systemd-analyze", "verify", "--man=no", *units], stdout=subprocess.PIPE, stderr=subprocess.STDOUT)
         self.assertNotIn(b"pbclient", done.stdout)
 
