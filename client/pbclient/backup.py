@@ -2,7 +2,7 @@
 import os, re, sys, threading, time
 from typing import NamedTuple
 
-from . import VERSION, chunks, damage, image, session as s, store as folder
+from . import VERSION, chunks, image, session as s, store as folder
 from .call import FAILURES
 from .catalog import ARCHIVE, CATALOG, FIRST, Past
 from .cut import Pieces
@@ -67,7 +67,7 @@ class Backup:
     """A backup of a group under way, in one session."""
 
     def __init__(self, call, store, job, damaged=()):
-        self.store, self.options, self.report, self.root = store, call.options, call.report, call.root
+        self.store, self.options, self.report, self.root = store, call.options, call.report, call.folder
         self.group, self.archives, self.damaged = job.group, job.archives, damaged
         self.rules, self.left_out, self.excluded, self.counts = rules_of(call.options), [], 0, Counts()
         self.began, self.begun = time.monotonic(), time.time_ns()
@@ -290,15 +290,17 @@ def do_all(call, talks, jobs, damaged):
 def backup(call):
     """Backs up what the words name."""
     jobs, dry = jobs_of(call.options), call.options.dry_run
+    if call.options.reserve and not call.folder:
+        raise mistyped("--reserve looks at the store's disk, which is a server's", "leave it out")
     damaged = set()
 
     def look_for_damage():
-        damaged.update(set() if dry else damage.set_aside(call.root))
+        damaged.update(set() if dry else call.damaged())
 
     with call.run(len(jobs), writes=not dry, makes=not dry, before=look_for_damage) as run:
         found = do_all(call, run.talks, jobs, damaged)
         if damaged and not any(isinstance(it, Exception) for it in found):
-            damage.settle(call.root)
+            call.settle_damaged()
     failed = [(job, it) for job, it in zip(jobs, found) if isinstance(it, Exception)]
     if failed and len(jobs) == 1:
         raise found[0]

@@ -1,13 +1,15 @@
 """A call of the client: its options, what it says, and the store that it is on."""
-import contextlib, os
+import contextlib, functools, os
 
-from . import store
-from .failures import Failure, mistyped
+from . import damage, store
+from .failures import DAMAGED, FAILED, Failure, mistyped
 from .report import failure_of
+from .served import dial, talks
 from .talk import Ended, NoProgram, Refused, Run, program
 
 # The status of the program for a fault of the disk, and the refusals that come of one.
 DISK_FAULT, DISK_REFUSALS = 3, ("DiskFault", "Halted")
+DAMAGES = ("Damaged", "Unreadable")
 ADVICE = {
     "GroupBusy": "wait for the other backup's end",
     "SnapshotBusy": "wait for the end of what uses it",
@@ -35,13 +37,14 @@ class Call:
     def make_folder(self):
         """Makes ROOT where it is not there, in a folder that is."""
         self.need_root()
-        if not os.path.lexists(self.root):
+        if not self.way and not os.path.lexists(self.root):
             os.mkdir(self.root)
             self.report.detail(f"{self.root} is made")
 
     def look(self, writes, makes):
-        """Looks at ROOT before the program is started, and tells whether it is empty."""
-        self.need_root()
+        """Looks at ROOT before the program is started, and tells whether it is empty. A server does so itself."""
+        if self.way:
+            return False
         empty = store.look(self.root, may_be_empty=makes, force=self.options.force)
         if writes:
             store.need_rights(self.root)
@@ -51,21 +54,71 @@ class Call:
     def run(self, count=1, writes=False, makes=False, remote=None, before=None):
         """A run of the program on ROOT, with so many sessions. A command that only reads is done on a store that can only be read.
         One that makes a store leaves the book first, by which the folder is a store from then on, whatever comes. `before` is called once
-        ROOT is held, before the program is started."""
+        ROOT is held, before the program is started.
+
+        If a server has the store, they are sessions of it, and `before` is called first."""
+        if self.way:
+            if before:
+                before()
+            with self.served(count, remote) as run:
+                yield run
+            return
         if self.look(writes, makes):
             self.make_store()
         with store.turn(self.root, self.options.wait):
             if writes:
                 self.warn_of_clock()
+                self.warn(store.owner_warning(self.root))
             if before:
                 before()
             with self.started(count, remote) as run:
                 yield run
                 self.end(run, writes)
 
+    @functools.cached_property
+    def way(self):
+        """How the server is reached that has the store; None for a folder that no server has."""
+        self.need_root()
+        try:
+            return dial.way_to(self.root)
+        except ValueError as error:
+            raise mistyped(str(error), "one is as unix:/run/pbstore/main.sock or ssh://backup@vault/main") from None
+
+    @property
+    def folder(self):
+        """The store's folder, to look into; None of a served store if it is not here, or this account may not read it."""
+        is_here = not dial.is_address(self.root) and os.access(os.path.join(self.root, ".chunks"), os.R_OK | os.X_OK)
+        return self.root if is_here or not self.way else None
+
+    def damaged(self):
+        """The chunks that a backup must send though the store has files of them. It is asked before a run."""
+        return talks.damaged(self.way) if self.way else damage.set_aside(self.root)
+
+    def note_damaged(self, digests):
+        """Has damaged chunks sent again by the next backup that has their pieces."""
+        if self.way:
+            talks.damaged(self.way, digests)
+        else:
+            damage.add(self.root, digests)
+
+    def settle_damaged(self):
+        """Notes no more those chunks that are whole again. A server does so as it opens the store."""
+        if not self.way:
+            damage.settle(self.root)
+
+    def served(self, count, remote):
+        if remote:
+            raise mistyped("a served store pulls from the folder that its server was given", "leave it out, or end the server first")
+        return talks.ServedRun(self.root, self.way, count, self.tell_waiting, self.options.wait)
+
+    def tell_waiting(self, why):
+        self.report.note(f"waiting: {why}", "waiting", why=why)
+
     def warn_of_clock(self):
         """Tells of a store that was used under a clock that was ahead."""
-        warning = store.clock_warning(self.root)
+        self.warn(store.clock_warning(self.root))
+
+    def warn(self, warning):
         if warning:
             self.report.warn(*warning)
 
@@ -102,10 +155,15 @@ class Call:
             return error
         if isinstance(error, NoProgram):
             return Failure(str(error), "build it by ./build-pbstore, or name it: --program FILE or PBSTORE")
+        if isinstance(error, PermissionError) and self.root and str(error.filename).startswith(self.root):
+            return store.closed(error.filename, self.root)
         if isinstance(error, OSError):
             return failure_of(error)
         if isinstance(error, Refused) and error.name not in DISK_REFUSALS:
-            return Failure(str(error), ADVICE.get(error.name, "look at the words; if they are right this is a fault of pbclient"))
+            advice = ADVICE.get(error.name, "look at the words; if they are right this is a fault of pbclient")
+            return Failure(str(error), advice, DAMAGED if error.name in DAMAGES else FAILED)
+        if isinstance(error, Refused) and self.way:
+            return Failure(f"the store's disk failed: {error}", "look at the server's log and at the store's disk, then run again")
         if isinstance(error, Refused) or error.status == DISK_FAULT:
             return store.why_ended(self.root, error)
         return Failure(f"the store ended: {error}", "run again; no finished snapshot was lost")

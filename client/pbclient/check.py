@@ -2,9 +2,9 @@
 import struct, time
 from typing import NamedTuple
 
-from . import chunks, damage, queries, store
+from . import chunks, queries, store
 from . import session as s
-from .failures import DAMAGED, DONE
+from .failures import DAMAGED, DONE, Failure
 from .report import Progress, counted, size
 from .talk import Refused
 
@@ -70,6 +70,8 @@ def chosen(talk, words):
 def check(call):
     """Looks at snapshots, their files, and whether each chunk is there with its size; with --read-data at each chunk's bytes too."""
     with call.session() as talk:
+        if not call.folder:
+            raise Failure(f"check looks into the store's folder, and {call.root} is a server's", "pbclient verify reads snapshots whole by the server")
         rows, found = chosen(talk, call.options.snapshot), Damage()
         look_at_state(call, talk)
         there, needed = chunks.sizes(call.root), {}
@@ -123,9 +125,11 @@ def verify(call):
     """Reads snapshots whole, by the program."""
     with call.session() as talk:
         rows, found, pieces, total = chosen(talk, call.options.snapshot), Damage(), 0, 0
-        for snapshot in rows:
-            entries, count = verify_one(call, talk, snapshot, found)
-            pieces, total = pieces + entries, total + count
+        with Progress(call.report, "verify") as progress:
+            for done, snapshot in enumerate(rows):
+                progress.show(total, more=f", {done} of {counted(len(rows), 'snapshot')}")
+                entries, count = verify_one(call, talk, snapshot, found)
+                pieces, total = pieces + entries, total + count
         told = f"{counted(len(rows), 'snapshot')}, {counted(pieces, 'piece')}, {size(total)} in them"
         return tell(call, talk, found, "verify", told, snapshots=len(rows), pieces=pieces, size=total)
 
@@ -142,20 +146,25 @@ def verify_one(call, talk, snapshot, found):
     _, entries, count, faults = struct.unpack("<BQQB", reply[:18])
     for name, fault in queries.texts_in(reply[18:], faults, 33):
         if fault[0] == BAD_CHUNK:
-            add_bad_chunks(call, talk, snapshot, name, found)
+            found.chunks[fault[1:]] = "is damaged"
+            found.chunks.update(bad_chunks(talk, snapshot, name))
         else:
             found.files[f"{snapshot}/{name}"] = FAULTS[fault[0]]
     call.report.detail(f"{snapshot}: {counted(entries, 'piece')}, {size(count)}: {'not whole' if faults else 'whole'}")
     return entries, count
 
 
-def add_bad_chunks(call, talk, snapshot, name, found):
-    """A VERIFY tells the first damaged chunk of an archive: this finds the others."""
+def bad_chunks(talk, snapshot, name):
+    """What is wrong with each chunk of an archive that can't be read. (A VERIFY tells the first alone.)"""
     talk.ask(s.open_reader(snapshot))
-    pieces = index_of(talk, snapshot, name).pieces
+    for digest in index_of(talk, snapshot, name).pieces:
+        try:
+            talk.ask(s.get_chunk(digest))
+        except Refused as refused:
+            if refused.name != "Damaged":
+                raise
+            yield digest, "is damaged" if refused.body[1 + len(digest)] else "is missing"
     talk.ask(s.close_reader())
-    for digest in chunks.bad_of(call.root, pieces):
-        found.chunks[digest] = "is damaged" if chunks.is_there(call.root, digest) else "is missing"
 
 
 def hurt(talk, digests):
@@ -173,7 +182,7 @@ def note(call, found):
     if not found.chunks:
         return
     try:
-        damage.add(call.root, found.chunks.keys())
+        call.note_damaged(found.chunks.keys())
         call.report.note("the next backup that has the pieces of a damaged chunk sends them again")
     except OSError as error:
         call.report.warn(f"the damaged chunks can't be noted: {error.strerror}", "pbclient backup --resend sends all pieces again")

@@ -1,4 +1,4 @@
-"""The files of chunks in a store, looked at while a session of the client's own keeps other runs away."""
+"""The files of chunks in a store, looked at while a session of the client's own keeps other runs away, or beside those of a server."""
 import hashlib, os, re, struct, zlib
 from concurrent.futures import ThreadPoolExecutor
 
@@ -25,8 +25,17 @@ def sizes(root):
     for folder in os.scandir(top):
         if folder.is_dir(follow_symlinks=False):
             with os.scandir(folder.path) as files:
-                found.update((bytes.fromhex(it.name), it.stat().st_size) for it in files if NAME.fullmatch(it.name))
+                found.update(size_of(it) for it in files if NAME.fullmatch(it.name))
+    found.pop(None, None)
     return found
+
+
+def size_of(entry):
+    """A chunk's digest and its file's size; no digest if a collection has just taken it out."""
+    try:
+        return bytes.fromhex(entry.name), entry.stat().st_size
+    except FileNotFoundError:
+        return None, 0
 
 
 def is_good(root, digest):

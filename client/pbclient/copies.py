@@ -3,7 +3,8 @@ import fcntl, os
 
 from . import queries, store
 from . import session as s
-from .failures import Failure, mistyped
+from .call import DAMAGES, DISK_REFUSALS
+from .failures import DAMAGED, DONE, FAILED, Failure, mistyped
 from .report import counted
 from .talk import Refused
 
@@ -33,6 +34,8 @@ def copy(call):
     options, report = call.options, call.report
     source = getattr(options, "from")
     call.need_root()
+    if call.way:
+        return copy_by_server(call)
     if not source:
         raise mistyped("copy wants the store to copy from", "name it: --from FOLDER")
     if bool(options.group) == options.all:
@@ -44,8 +47,33 @@ def copy(call):
         groups = chosen(options, source)
         call.make_folder()
         with call.session(writes=True, makes=True, remote=source) as talk:
-            total = sum(copy_group(report, talk, group) for group in groups)
+            return copy_groups(report, talk, groups)
+
+
+def copy_groups(report, talk, groups):
+    """Copies group after group, also if one of them can't be read, and gives the status."""
+    total, status = 0, DONE
+    for group in groups:
+        try:
+            total += copy_group(report, talk, group)
+        except Failure as failure:
+            report.failed(failure)
+            status = max(status, failure.status)
     report.note(f"{counted(total, 'snapshot')} copied, of {counted(len(groups), 'group')}", "copy_summary", snapshots=total, groups=len(groups))
+    return status
+
+
+def copy_by_server(call):
+    """The server copies from the store that it was given, whose groups it does not tell."""
+    options, total = call.options, 0
+    if getattr(options, "from"):
+        raise mistyped("a server copies from the store that it was given as it was started", "leave out --from")
+    if options.all or not options.group:
+        raise mistyped("a server does not tell which groups the other store has", "name groups, as host/me")
+    with call.session(writes=True) as talk:
+        for group in dict.fromkeys(options.group):
+            total += copy_group(call.report, talk, group)
+    call.report.note(f"{counted(total, 'snapshot')} copied", "copy_summary", snapshots=total, groups=len(set(options.group)))
 
 
 def copy_group(report, talk, group):
@@ -54,9 +82,11 @@ def copy_group(report, talk, group):
     try:
         copied = queries.names(talk, s.sync(group))
     except Refused as refused:
-        done = [it for it in queries.in_group(talk, group) if it not in before]
-        tell(report, done)
-        raise Failure(f"{group}: {refused}", f"look at the store that it comes from: pbclient check; {counted(len(done), 'snapshot')} copied") from None
+        if refused.name in DISK_REFUSALS:
+            raise
+        tell(report, [it for it in queries.in_group(talk, group) if it not in before])
+        status = DAMAGED if refused.name in DAMAGES else FAILED
+        raise Failure(f"{group}: {refused}", "pbclient check tells what is wrong with the store that it comes from", status) from None
     tell(report, copied)
     if not copied:
         report.note(f"{group}  has nothing later", "nothing_later", group=group)

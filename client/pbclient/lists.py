@@ -71,21 +71,26 @@ def details(report, facts):
             report.result("noted", f"    {name}: {json.dumps(facts[name], ensure_ascii=False)}")
 
 
+def stats_of_folder(folder, logical):
+    """How much the chunks take, and how much is free: as lines, and as what is told by names."""
+    stored, free = chunks.sizes(folder), store.room(folder)
+    used = sum(stored.values())
+    factor = round(logical / used, 1) if used else None
+    less = f", {factor} times less than without sharing" if factor and factor > 1 else ""
+    lines = f"\n{counted(len(stored), 'chunk')}, {size(used)} on the disk{less}\n{size(free)} free"
+    return lines, {"chunks": len(stored), "stored": used, "factor": factor, "free": free}
+
+
 def stats(call):
     """How much the store has, how full it is, and how old each group's last snapshot is."""
     report = call.report
     with call.session() as talk:
         groups = queries.groups(queries.snapshots(talk))
         logical = sum(facts_of(talk, it)["size"] for rows in groups.values() for it in rows)
-        stored, free = chunks.sizes(call.root), store.room(call.root)
-    used = sum(stored.values())
-    factor = round(logical / used, 1) if used else None
-    report.result(
-        "stats",
-        f"{counted(sum(map(len, groups.values())), 'snapshot')} in {counted(len(groups), 'group')}, {size(logical)} in them\n"
-        f"{counted(len(stored), 'chunk')}, {size(used)} on the disk{f', {factor} times less than without sharing' if factor and factor > 1 else ''}\n{size(free)} free",
-        snapshots=sum(map(len, groups.values())), groups=len(groups), size=logical, chunks=len(stored), stored=used, factor=factor, free=free,
-    )
+        text, facts = stats_of_folder(call.folder, logical) if call.folder else ("", {})
+    count = sum(map(len, groups.values()))
+    text = f"{counted(count, 'snapshot')} in {counted(len(groups), 'group')}, {size(logical)} in them{text}"
+    report.result("stats", text, snapshots=count, groups=len(groups), size=logical, **facts)
     for group, rows in groups.items():
         age = int(time.time() - s.time_of(rows[-1].snapshot))
         text = f"{group}: {counted(len(rows), 'snapshot')}, the last {f'{span(age)} ago' if age >= 0 else 'of the future'}"

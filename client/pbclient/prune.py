@@ -100,8 +100,8 @@ def gc(call):
 
 
 def collect(call, talk):
-    """A garbage collection, told with how many bytes it freed and what may go next."""
-    before = chunks.sizes(call.root)
+    """A garbage collection, told with how many bytes it freed and what may go next, if the store's folder is here."""
+    before = chunks.sizes(call.folder) if call.folder else {}
     try:
         start, _, used, pending, removed = struct.unpack("<5Q", talk.ask(s.gc()))
     except Refused as refused:
@@ -109,9 +109,12 @@ def collect(call, talk):
             raise
         damaged = queries.group_of(refused.body[2:].decode())
         raise Failure(str(refused), f"pbclient forget {damaged} gives it up; then gc works again", DAMAGED) from None
-    after = chunks.sizes(call.root)
+    if not call.folder:
+        text = f"{counted(removed, 'chunk')} removed; {counted(used + pending, 'chunk')} are left, of which {counted(pending, 'chunk')} may go later"
+        return call.report.result("gc", text, removed=removed, used=used, pending=pending)
+    after = chunks.sizes(call.folder)
     freed, kept = sum(before.values()) - sum(after.values()), sum(after.values())
-    touches = {digest: at for digest, at in store.book(call.root) if digest in after and at < start}
+    touches = {digest: at for digest, at in store.book(call.folder) if digest in after and at < start}
     waiting, next_at = sum(after[it] for it in touches), min(touches.values(), default=0) + CUTOFF
     text = f"freed {size(freed)} in {counted(removed, 'chunk')}; {size(kept)} in {counted(used + pending, 'chunk')} are left"
     if pending:

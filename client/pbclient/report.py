@@ -86,8 +86,8 @@ class Report:
                 if self.on_terminal and self.lines:
                     write_all(CLEAR.encode(), 2)
                 write_all(f"{text}\n".encode(errors="surrogateescape"), to)
-                if self.log:
-                    print(time.strftime("%Y-%m-%dT%H:%M:%S"), printable(text), file=self.log, flush=True)
+                for line in text.split("\n") if self.log else []:
+                    print(time.strftime("%Y-%m-%dT%H:%M:%S"), printable(line), file=self.log, flush=True)
         except OSError as error:
             raise Failure(f"{'standard output' if to == 1 else 'standard error'}: {error.strerror}", "look at where it goes to") from None
 

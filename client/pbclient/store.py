@@ -157,6 +157,13 @@ def need_rights(root):
         raise Failure(f"{root} may not be written: it is {owner(root)}'s", f"run as {owner(root)}")
 
 
+def owner_warning(root):
+    """What to say where root writes to another user's store; else nothing."""
+    if os.geteuid() or os.stat(root).st_uid == 0:
+        return None
+    return f"{root} is {owner(root)}'s, who can't read what root makes in it", f"run as {owner(root)}, or give it to root: chown -R root {root}"
+
+
 def room(root):
     """The bytes that are free for this user."""
     found = os.statvfs(root)
@@ -208,14 +215,23 @@ def clock_warning(root):
     return f"{root} was used at {at}, which is ahead of the clock: until then gc frees nothing", advice
 
 
+def closed(path, root):
+    """The failure of a path in ROOT that this user has no right to."""
+    at = path
+    while at != root and not os.access(os.path.dirname(at), os.X_OK):
+        at = os.path.dirname(at)
+    advice = f"run as {owner(at)}" + (f", or give it to {owner(root)}: chown" if owner(at) != owner(root) else "")
+    return Failure(f"{path} may not be read or written: it is {owner(at)}'s", advice)
+
+
 def why_ended(root, error):
     """The failure behind a status of the program that says that the disk failed."""
     if is_locked(root):
         return Failure(f"{root} is in use by another run", "run again later, or wait for it: --wait SECONDS", IN_USE)
+    path = next((it for it in paths_below(root) if not may_use(it, may_write(root))), None)
+    if path:
+        return closed(path, root)
     if is_read_only(root) or not may_write(root):
-        closed = next((it for it in paths_below(root) if not os.access(it, os.R_OK)), None)
-        if closed:
-            return Failure(f"{closed} may not be read: it is {owner(closed)}'s", f"run as {owner(closed)}")
         what = f"{root} can only be read, and has unfinished work of an interrupted run in it"
         return Failure(what, "run any command once where it can be written")
     if room(root) < 1 << 16:
@@ -230,6 +246,13 @@ def paths_below(root):
     """Each path below a folder."""
     for at, folders, files in os.walk(root):
         yield from (os.path.join(at, name) for name in folders + files)
+
+
+def may_use(path, writes):
+    """Whether a file may be read, or a folder be gone through, and written where the store is to be."""
+    if not os.path.isdir(path):
+        return os.access(path, os.R_OK)
+    return os.access(path, os.R_OK | os.X_OK | (os.W_OK if writes else 0))
 
 
 def is_plain(path):

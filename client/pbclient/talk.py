@@ -109,10 +109,41 @@ def widen(pipe):
 
 
 class Talk:
-    """A session of a run: `with it as store: store.ask(command)` gives the reply's fields, or raises Refused."""
+    """A session: `with it as store: store.ask(command)` gives the reply's fields, or raises Refused. `read`, `write` and `close` are its way
+    to the store."""
+
+    def __init__(self, run):
+        self.run, self.root = run, run.root
+
+    def __exit__(self, *cause):
+        try:
+            if cause[0] is None:
+                self.ask(bye())
+        finally:
+            self.close()
+
+    def send(self, command):
+        """Sends a command without waiting for its reply. Replies come in the order of the commands."""
+        self.write(frame(command))
+
+    def reply(self):
+        """The fields of the next reply."""
+        body = self.read(struct.unpack("<I", self.read(4))[0])
+        if body[0]:
+            raise Refused(bytes(body))
+        return bytes(memoryview(body)[1:])
+
+    def ask(self, command):
+        self.send(command)
+        return self.reply()
+
+
+class PipedTalk(Talk):
+    """A session of a run of the program here."""
 
     def __init__(self, run, path):
-        self.run, self.root, self.path, self.pipe = run, run.root, path, None
+        super().__init__(run)
+        self.path, self.pipe = path, None
         os.mkfifo(path)
         os.mkfifo(path + ".out")
         # (each end of a pipe waits for the other: the store opens that of the replies first)
@@ -125,13 +156,6 @@ class Talk:
         widen(self.pipe)
         widen(self.replies)
         return self
-
-    def __exit__(self, *cause):
-        try:
-            if cause[0] is None:
-                self.ask(bye())
-        finally:
-            self.close()
 
     def opened(self):
         """The session's pipe, once the store reads it."""
@@ -172,21 +196,6 @@ class Talk:
         except BrokenPipeError:
             raise self.run.ended() from None
 
-    def send(self, command):
-        """Sends a command without waiting for its reply. Replies come in the order of the commands."""
-        self.write(frame(command))
-
-    def reply(self):
-        """The fields of the next reply."""
-        body = self.read(struct.unpack("<I", self.read(4))[0])
-        if body[0]:
-            raise Refused(bytes(body))
-        return bytes(memoryview(body)[1:])
-
-    def ask(self, command):
-        self.send(command)
-        return self.reply()
-
     def close(self):
         for it in (self.pipe, self.replies):
             if it:
@@ -203,7 +212,7 @@ class Run:
         beside = ["--remote", remote] if remote else []
         try:
             for number in range(count):
-                self.talks.append(Talk(self, os.path.join(self.work, f"session-{number}")))
+                self.talks.append(PipedTalk(self, os.path.join(self.work, f"session-{number}")))
             words = [path, "run", root, *beside, *(it.path for it in self.talks)]
             # (what it says on standard error is its status in one word)
             self.process = subprocess.Popen(words, stdin=subprocess.DEVNULL, stdout=subprocess.DEVNULL, stderr=subprocess.DEVNULL)

@@ -1,5 +1,5 @@
 """How the values of words are read: sizes, times, groups, snapshots, names."""
-import argparse, re
+import argparse, grp, pwd, re
 
 GROUP_FORM = re.compile(r"(ct|host|vm)/[A-Za-z0-9_][A-Za-z0-9_.-]{0,63}", re.ASCII)
 TIME_FORM = re.compile(r"\d{4}-\d\d-\d\dT\d\d:\d\d:\d\dZ", re.ASCII)
@@ -51,14 +51,17 @@ def snapshot(text):
 
 
 def exact_snapshot(text):
-    """A snapshot whose group is named."""
+    """A snapshot of which the group and the time are named."""
     if "/" not in snapshot(text):
         raise argparse.ArgumentTypeError("latest alone could be any group's; say it as host/me/latest")
+    if GROUP_FORM.fullmatch(text):
+        raise argparse.ArgumentTypeError(f"{text} is a group; say which of its snapshots, as {text}/latest")
     return text
 
 
 def group_or_snapshot(text):
-    return snapshot(text) if text != "latest" else exact_snapshot(text)
+    """A group, or a snapshot of which the group and the time are named."""
+    return text if GROUP_FORM.fullmatch(text) else exact_snapshot(text)
 
 
 def named(text, what, ending):
@@ -96,3 +99,30 @@ def moment(text):
     if not TIME_FORM.fullmatch(text):
         raise argparse.ArgumentTypeError(f"{text} is no time; one is as 2020-01-15T06:30:03Z, in UTC")
     return text
+
+
+def lane_count(text):
+    found = number(text)
+    if not 1 <= found <= 64:
+        raise argparse.ArgumentTypeError(f"{text} is not from 1 to 64")
+    return found
+
+
+def rights(text):
+    if not re.fullmatch(r"[0-7]{3}", text, re.ASCII):
+        raise argparse.ArgumentTypeError(f"{text} is no mode, as 660 is")
+    return int(text, 8)
+
+
+def account(text):
+    try:
+        return int(text) if text.isdigit() else pwd.getpwnam(text).pw_uid
+    except KeyError:
+        raise argparse.ArgumentTypeError(f"{text} is no account") from None
+
+
+def system_group(text):
+    try:
+        return int(text) if text.isdigit() else grp.getgrnam(text).gr_gid
+    except KeyError:
+        raise argparse.ArgumentTypeError(f"{text} is no group of this machine") from None

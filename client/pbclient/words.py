@@ -4,7 +4,7 @@ import argparse, difflib, re
 from typing import Callable, NamedTuple, Tuple
 
 from .failures import MEANINGS, mistyped
-from .values import exact_snapshot, group, group_or_snapshot, image, keep_count, moment, note, seconds, size, snapshot, stream
+from .values import account, exact_snapshot, group, group_or_snapshot, image, keep_count, lane_count, moment, note, rights, seconds, size, snapshot, stream, system_group
 
 
 class Option(NamedTuple):
@@ -40,7 +40,7 @@ class Command(NamedTuple):
 
 
 COMMON = (
-    Option(("-r", "--root"), "the store's folder; else PBSTORE_ROOT", "ROOT"),
+    Option(("-r", "--root"), "the store: its folder, unix:SOCKET, or ssh://ACCOUNT@HOST/NAME; else PBSTORE_ROOT", "ROOT"),
     Option(("--wait",), "if the store is in use, wait up to so many seconds", "SECONDS", seconds, default=0.0),
     Option(("--json",), "print one JSON object a line, each with its message_type"),
     Option(("-q", "--quiet"), "print results and failures alone"),
@@ -58,6 +58,35 @@ SNAPSHOTS = Operand("SNAPSHOT", "snapshots, as host/me/latest, or groups for all
 KEEPS = tuple(
     Option((f"--keep-{name}",), f"keep the last snapshot of each of the last N {what}" if name != "last" else "keep the last N snapshots", "N", keep_count)
     for name, what in [("last", ""), ("hourly", "hours"), ("daily", "days"), ("weekly", "weeks"), ("monthly", "months"), ("yearly", "years")]
+)
+
+SERVING = (
+    Command(
+        "serve", "serve ROOT to clients that come and go, of this machine and others", "serving.serve",
+        operands=(Operand("STORE", "the store's folder"),),
+        options=(
+            Option(("--name",), "the store's name, by which clients ask for it; else the folder's", "NAME"),
+            Option(("--socket",), "where clients connect; else /run/pbstore/NAME.sock", "PATH"),
+            Option(("--group",), "the group whose accounts may connect", "GROUP", system_group),
+            Option(("--mode",), "the rights to the socket", "OCTAL", rights, default=0o660),
+            Option(("--trust",), "an account that may say for which user it speaks, as ssh's does; may come again", "ACCOUNT", account, many=True),
+            Option(("--remote",), "the folder that copy reads", "ROOT2"),
+            Option(("--lanes",), "sessions at once, 64 at most", "N", lane_count, default=64),
+            Option(("--linger",), "seconds without a client, after which the program ends", "SECONDS", seconds, default=60.0),
+            Option(("--idle",), "seconds after which a client that sends or takes nothing is left", "SECONDS", seconds, default=3600.0),
+            Option(("--grace",), "seconds that sessions have when the server is stopped", "SECONDS", seconds, default=60.0),
+            Option(("--stop-limit",), "seconds after which a program that does not end then is killed", "SECONDS", seconds, default=600.0),
+        ),
+        text="""Serves the store to up to 64 clients at once, until SIGTERM. SIGHUP has the store opened anew.
+
+Clients of this machine come by -r STORE or -r unix:SOCKET, those of others by -r ssh://ACCOUNT@HOST/NAME.""",
+    ),
+    Command(
+        "connect", "join standard input and output to a server: the forced command of ssh", "serving.connect",
+        operands=(Operand("STORE", "the store's name, or its socket's path"),),
+        options=(Option(("--user",), "for whom; else this account", "USER"),),
+    ),
+    Command("status", "tell who has a lane of the server, and who waits", "serving.status"),
 )
 
 COMMANDS = (
@@ -166,6 +195,7 @@ COMMANDS = (
         "    [gc]\n\n    [check]\n    read-data = yes\n\n"
         "All of it is read before anything is done. A command that fails does not keep the others from being done.",
     ),
+    *SERVING,
     Command("version", "tell the versions of the client and of the program", "keep.version"),
 )
 

@@ -79,6 +79,14 @@ class Told(stores.WithStore):
         self.assertIn(f"{THIRD}/{NAME}: ", self.lines("check")[0])
         self.assertEqual(self.call("gc")[0], 13)
 
+    def test_a_copy_of_what_is_damaged(self):
+        os.remove(self.chunk(b"three"))
+        copy = os.path.join(self.work, "copy")
+        found = self.call("copy", "--from", self.root, "--all", root=copy)
+        self.assertEqual((found[0], found[1].splitlines()), (13, [f"{FIRST}  copied", f"{OTHER}  copied"]), found)
+        self.assertIn(f"host/a: the chunk {stores.digest(b'three').hex()} is damaged", found[2])
+        self.assertIn("nothing is damaged", self.done("verify", root=copy))
+
     def test_a_damaged_manifest(self):
         change(os.path.join(self.root, FIRST, "index.json.blob"))
         for words in (["check"], ["verify"], ["snapshots"]):

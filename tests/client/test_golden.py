@@ -11,7 +11,7 @@ import stores
 GOLDEN = os.path.join(stores.HERE, "golden")
 COMMANDS = [
     "snapshots", "--json snapshots", "-v snapshots host/a", "-q snapshots", "check", "--json check", "check --read-data host/a", "verify",
-    "--json verify vm/b", "-v verify host/a/latest", "stats", "--json stats", "forget --dry-run host/a vm/b/latest", "forget host/a/latest",
+    "--json verify vm/b", "-v verify host/a/latest", "stats", "--json stats", "forget --dry-run host/a/latest vm/b/latest", "forget host/a/latest",
     "--json forget host/a/latest", "prune --all --keep-last 1 --dry-run", "prune host/a --keep-daily 1 --keep-yearly 2",
     "--json prune host/a --keep-last 1 --gc", "gc", "--json gc", "-v copy --from OTHER --all", "--json copy --from OTHER vm/b",
     "--json init", "init", "run-config NIGHT", "--json run-config NIGHT", "help prune", "prune --help",

@@ -3,6 +3,7 @@ user's."""
 import fcntl, os, signal, stat, subprocess, time, unittest
 
 import stores
+from pbclient import store
 
 DAY = "2026-01-02T00:00:00Z"
 NOBODY = 65534
@@ -179,6 +180,21 @@ class States(stores.WithStore):
         for words in CHANGES:
             self.fails(1, "may not be written: it is root's", *words, **become)
 
+    @unittest.skipIf(os.getuid(), "this needs root, to become another user")
+    def test_what_root_made_in_another_users_store(self):
+        self.make()
+        os.chmod(self.work, 0o755)
+        subprocess.run(["chown", "-R", str(NOBODY), self.root], check=True)
+        become = {"become": lambda: os.setuid(NOBODY)}
+        self.done("gc", **become)
+        found = self.call("gc")
+        self.assertEqual((found[0], "ROOT is nobody's, who can't read what root makes" in found[2]), (0, True), found)
+        os.chown(os.path.join(self.root, ".chunks", "book"), NOBODY, NOBODY)
+        os.chown(os.path.join(self.root, "vm"), 0, 0)
+        os.chmod(os.path.join(self.root, "vm"), 0o700)
+        self.fails(1, "ROOT/vm may not be read or written: it is root's", "gc", **become)
+        self.assertNotIn("nobody's", self.call("snapshots")[2])
+
     @unittest.skipIf(os.getuid(), "this needs root, to mount")
     def test_mounted_read_only(self):
         self.make()
@@ -243,7 +259,7 @@ class States(stores.WithStore):
         subprocess.run(["chmod", "-R", "go+rX", self.root], check=True)
         self.fails(1, "has unfinished work", "snapshots", become=lambda: os.setuid(NOBODY))
         self.done("snapshots")
-        self.fails(1, "ROOT/.chunks/book may not be read", "snapshots", become=lambda: os.setuid(NOBODY))
+        self.fails(1, "ROOT/.chunks/book may not be read or written", "snapshots", become=lambda: os.setuid(NOBODY))
 
 
 class Ends(stores.WithStore):
@@ -252,6 +268,16 @@ class Ends(stores.WithStore):
     def test_no_program(self):
         self.make()
         self.fails(1, "is no program", "--program", "/nowhere/pbstore", "snapshots")
+
+    def test_a_log(self):
+        self.make()
+        log = os.path.join(self.work, "log")
+        self.done("--log", log, "-q", "prune", "--all", "--keep-last", "1")
+        self.fails(1, "has no snapshot", "--log", log, "check", "host/x")
+        with open(log) as it:
+            lines = [line.split(" ", 1)[1].rstrip() for line in it]
+        self.assertEqual((len(lines), lines[4]), (6, "pbclient: host/x has no snapshot"), lines)
+        self.fails(1, "Not a directory", "--log", os.path.join(log, "x"), "check")
 
     def test_a_full_output(self):
         self.make()
@@ -274,7 +300,8 @@ class Ends(stores.WithStore):
         self.addCleanup(os.close, folder)
         fcntl.flock(folder, fcntl.LOCK_EX)
         client = subprocess.Popen([stores.CLIENT, "-r", self.root, "--wait", "60", "snapshots"], stderr=subprocess.PIPE)
-        time.sleep(1)
+        while not store.is_locked(os.path.join(self.root, store.CHUNKS)):
+            time.sleep(0.1)
         return client
 
     def test_signals(self):

@@ -30,7 +30,10 @@ class Values(unittest.TestCase):
     def test_snapshots(self):
         self.taken(values.snapshot, "latest", "host/me", "host/me/latest", "host/me/2020-01-15T06:30:03Z")
         self.refused(values.snapshot, "last", "host/me/lates", "host/me/2020-01-15", "host/latest/", "/host/me/latest")
-        self.refused(values.exact_snapshot, "latest")
+        self.taken(values.exact_snapshot, "host/me/latest", "host/me/2020-01-15T06:30:03Z")
+        self.refused(values.exact_snapshot, "latest", "host/me")
+        self.taken(values.group_or_snapshot, "host/me", "host/me/latest")
+        self.refused(values.group_or_snapshot, "latest", "me")
 
     def test_counts(self):
         self.assertEqual(self.taken(values.keep_count, "1", "1000"), [1, 1000])
