@@ -70,7 +70,7 @@ class Backup:
         self.store, self.options, self.report, self.root = store, call.options, call.report, call.folder
         self.group, self.archives, self.damaged = job.group, job.archives, damaged
         self.rules, self.left_out, self.excluded, self.counts = rules_of(call.options), [], 0, Counts()
-        self.began, self.begun = time.monotonic(), time.time_ns()
+        self.began, self.begun, self.is_of_future = time.monotonic(), time.time_ns(), False
 
     def run(self):
         """Backs up, tells what was done, and gives the status."""
@@ -98,7 +98,8 @@ class Backup:
         last = in_group(self.store, self.group)[-1:]
         at = max([int(time.time()), *(s.time_of(it) + 1 for it in last)])
         snapshot = f"{self.group}/{self.options.time or time.strftime('%Y-%m-%dT%H:%M:%SZ', time.gmtime(at))}"
-        if s.time_of(snapshot) > time.time() + folder.CLOCK_LEEWAY:
+        self.is_of_future = s.time_of(snapshot) > time.time() + folder.CLOCK_LEEWAY
+        if self.is_of_future:
             advice = "its group takes no earlier one as long as it is there: forget it, and later ones, if the clock was wrong"
             self.report.warn(f"{snapshot} is of the future", advice)
         return snapshot, self.store.ask(s.open_writer(snapshot))[1:].decode()
@@ -233,7 +234,7 @@ class Backup:
             self.report.note(f"left out: {line_of(it)}", "left_out", path=os.fsdecode(it.path), why=it.why, wanted=it.wanted)
         if len(shown) < len(self.left_out):
             self.report.note(f"and {len(self.left_out) - len(shown):,} more paths; -v tells them all")
-        return LEFT_OUT if any(it.wanted for it in self.left_out) else 0
+        return LEFT_OUT if self.is_of_future or any(it.wanted for it in self.left_out) else 0
 
 
 def line_of(left_out):

@@ -9,7 +9,7 @@ MEANINGS = {
     DONE: "done",
     FAILED: "it failed, as two lines say: what happened, and what to do",
     MISTYPED: "the words are mistyped",
-    LEFT_OUT: "the backup is finished, without some paths that could not be read",
+    LEFT_OUT: "done, but for paths that could not be read or restored as they were, which are listed; or into a snapshot of the future",
     NO_STORE: "ROOT is not there, or is no store",
     IN_USE: "ROOT is in use by another run",
     FULL: "ROOT is full",

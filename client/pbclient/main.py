@@ -30,6 +30,8 @@ def terminate(*_):
 def main(given):
     """Does what the words say, and gives the status."""
     os.umask(0o077)
+    # (seconds: a thread that sends or takes replies is not to wait long for one that walks through files)
+    sys.setswitchinterval(0.0005)
     signal.signal(signal.SIGTERM, terminate)
     try:
         if sys.stdout is None or sys.stderr is None:

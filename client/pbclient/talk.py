@@ -2,7 +2,7 @@
 
 A session and its replies go through two named pipes, so that neither takes room on the disk. Their names go as soon as both ends are open.
 """
-import contextlib, errno, os, shutil, struct, subprocess, tempfile, time
+import contextlib, errno, fcntl, os, shutil, struct, subprocess, tempfile, time
 
 from .session import REFUSALS, bye, frame
 
@@ -51,6 +51,8 @@ WORDS = {
 }
 # So long a run is waited for whose sessions have all ended.
 END_SECONDS = 5
+# (`fcntl.F_SETPIPE_SZ` is in Python from 3.10 on)
+SET_PIPE_SIZE, PIPE_SIZE = 1031, 1 << 20
 
 
 class Refused(Exception):
@@ -100,6 +102,12 @@ def program(named=None):
     raise NoProgram(f"{asked} is no program" if asked else "the program pbstore is not built, and not on the path")
 
 
+def widen(pipe):
+    """Gives a pipe room for a large piece, if the system has that (Linux), so that neither end waits for the other as often."""
+    with contextlib.suppress(OSError):
+        fcntl.fcntl(pipe.fileno(), SET_PIPE_SIZE, PIPE_SIZE)
+
+
 class Talk:
     """A session: `with it as store: store.ask(command)` gives the reply's fields, or raises Refused. `read`, `write` and `close` are its way
     to the store."""
@@ -145,6 +153,8 @@ class PipedTalk(Talk):
         self.pipe = open(self.opened(), "wb", buffering=0)
         self.unlink()
         os.set_blocking(self.replies.fileno(), True)
+        widen(self.pipe)
+        widen(self.replies)
         return self
 
     def opened(self):

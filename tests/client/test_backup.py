@@ -1,5 +1,5 @@
 """Tests of what backs up, looks and restores, with the program: random trees, nights, files that change as they are read, damage."""
-import contextlib, hashlib, json, os, random, shutil, stat, subprocess, tempfile, time, unittest
+import os, random, shutil, subprocess, tempfile, time, unittest
 
 import stores
 import trees
@@ -172,6 +172,9 @@ class Nights(WithTree):
         row, = self.objects("snapshots")
         self.assertEqual((row["snapshot"], row["notes"]), ("host/a/2020-01-15T06:30:03Z", {"why": "before the move"}))
         self.fails(1, "as late", "backup", "host/a", self.top, "--time", "2020-01-15T06:30:03Z")
+        found = self.call("backup", "host/a", self.top, "--time", "9000-01-01T00:00:00Z")
+        self.assertEqual(found[0], 3)
+        self.assertIn("is of the future", found[2])
 
     def test_sockets_do_not_make_a_status(self):
         trees.Tree(self.write("a/b")[: -len("/b")], 0).add_socket(os.fsencode(os.path.join(self.top, "a", "s")))
@@ -272,7 +275,7 @@ class Damage(WithTree):
         super().setUp()
         chance = random.Random(5)
         for number in range(40):
-            self.write(f"file-{number:02}", chance.randbytes(200_000))
+            self.write(f"file-{number:02}", trees.drawn(chance, 200_000))
         time.sleep(0.2)
         self.backup()
 
@@ -462,7 +465,7 @@ class Images(WithTree):
     def make_image(self, size=10_000_000):
         path = self.write("disk.img", b"")
         with open(path, "wb") as it:
-            it.write(random.Random(7).randbytes(3_000_000))
+            it.write(trees.drawn(random.Random(7), 3_000_000))
             it.truncate(size)
         return path
 
@@ -519,7 +522,7 @@ class Images(WithTree):
             subprocess.run(["losetup", "-d", device], check=True)
 
     def test_standard_input(self):
-        data = random.Random(8).randbytes(3_000_000)
+        data = trees.drawn(random.Random(8), 3_000_000)
 
         def become():
             reading, writing = os.pipe()

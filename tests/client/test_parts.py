@@ -173,7 +173,7 @@ class Walks(unittest.TestCase):
 class Cuts(unittest.TestCase):
     def test_pieces_are_the_stream(self):
         chance = random.Random(3)
-        for data in (b"", b"a", chance.randbytes(5 << 20), bytes(3 << 20), b"line %d\n" * 400_000):
+        for data in (b"", b"a", trees.drawn(chance, 5 << 20), bytes(3 << 20), b"line %d\n" * 400_000):
             found = []
             pieces = cut.Pieces(found.append)
             at = 0

@@ -16,6 +16,11 @@ XATTRS = [("user.colour", b"blue"), ("user.odd=name%", bytes(range(256))), ("use
 IS_ROOT = os.geteuid() == 0
 
 
+def drawn(chance, size):
+    """So many random bytes. (`randbytes` is in Python from 3.9 on)"""
+    return chance.getrandbits(8 * size).to_bytes(size, "little") if size else b""
+
+
 class Tree:
     """A random tree in a folder, by a seed."""
 
@@ -45,7 +50,7 @@ class Tree:
         self.chance.choice(kinds + [self.add_device] * IS_ROOT)(path)
 
     def content(self, size):
-        return self.chance.randbytes(size) if self.chance.random() < 0.5 else (b"%d\n" % self.chance.randrange(99) * size)[:size]
+        return drawn(self.chance, size) if self.chance.random() < 0.5 else (b"%d\n" % self.chance.randrange(99) * size)[:size]
 
     def add_file(self, path):
         with open(path, "wb") as it:
