@@ -143,7 +143,7 @@ ConditionPathExists={SERVED}/%i
 
 [Service]
 User=pbstore
-# (the file has a line STORE=/srv/store, and perhaps one OPTIONS=--group backup-ssh --trust backup-ssh)
+# (the file has a line STORE=/srv/store, and perhaps one OPTIONS="--group backup-ssh --trust backup-ssh")
 EnvironmentFile={SERVED}/%i
 ExecStart={command} serve --name %i $OPTIONS ${{STORE}}
 ExecReload=/bin/kill -HUP $MAINPID
