@@ -92,14 +92,18 @@ class Call:
 
     def damaged(self):
         """The chunks that a backup must send though the store has files of them. It is asked before a run."""
-        return talks.damaged(self.way) if self.way else damage.set_aside(self.root)
+        return self.ask_damaged() if self.way else damage.set_aside(self.root)
 
     def note_damaged(self, digests):
         """Has damaged chunks sent again by the next backup that has their pieces."""
         if self.way:
-            talks.damaged(self.way, digests)
+            self.ask_damaged(digests)
         else:
             damage.add(self.root, digests)
+
+    def ask_damaged(self, digests=()):
+        """Tells the server of damaged chunks, and gives all that it knows of."""
+        return talks.soon(lambda: dial.damaged(self.way, digests), self.options.wait)
 
     def settle_damaged(self):
         """Notes no more those chunks that are whole again. A server does so as it opens the store."""

@@ -184,8 +184,9 @@ def note(call, found):
     try:
         call.note_damaged(found.chunks.keys())
         call.report.note("the next backup that has the pieces of a damaged chunk sends them again")
-    except OSError as error:
-        call.report.warn(f"the damaged chunks can't be noted: {error.strerror}", "pbclient backup --resend sends all pieces again")
+    except (Failure, OSError) as error:
+        why = error.strerror if isinstance(error, OSError) else error
+        call.report.warn(f"the damaged chunks can't be noted: {why}", "pbclient backup --resend sends all pieces again")
 
 
 def tell(call, talk, found, kind, told, **fields):

@@ -51,10 +51,7 @@ def status(call):
     call.need_root()
     if not call.way:
         raise Failure(f"no server has {call.root}", "start one: pbclient serve STORE")
-    try:
-        state, *rows, waiting = dial.status(call.way)
-    except hello.Refused as refused:
-        raise talks.failure_of(refused) from None
+    state, *rows, waiting = talks.soon(lambda: dial.status(call.way), call.options.wait)
     call.report.result("server", state, state=state, waiting=int(waiting.split()[0]))
     for row in rows:
         lane, user, seconds, commands, size = hello.row_of(row)

@@ -34,7 +34,7 @@ def noise(seed, size):
     return random.Random(seed).getrandbits(8 * size).to_bytes(size, "little")
 
 
-def wait_until(holds, seconds=30):
+def wait_until(holds, seconds=120):
     end = time.monotonic() + seconds
     while not holds():
         if time.monotonic() > end:

@@ -142,8 +142,8 @@ class Folders(Served):
 
     def test_a_server_that_comes_later(self):
         self.server.stop()
-        words = [sys.executable, "-B", PBCLIENT, "-r", self.address, "--wait", "60", "snapshots"]
-        with subprocess.Popen(words, stdout=subprocess.DEVNULL) as client:
+        words = [sys.executable, "-B", PBCLIENT, "-q", "-r", self.address, "--wait", "60", "backup", "host/web", self.tree("web")]
+        with subprocess.Popen(words) as client:
             time.sleep(1)
             self.server.start()
             self.assertEqual(client.wait(60), 0)
@@ -179,6 +179,23 @@ class Damage(Served):
         self.assertTrue(os.path.exists(f"{chunk}.0.bad"))
         # (the snapshot before has the chunk too)
         self.done("verify")
+
+    def test_a_store_that_cannot_be_written(self):
+        """What a verify finds is told, though it cannot be noted; and the store is served with a damaged chunk that is noted."""
+        self.done("backup", "host/web", self.tree("web"))
+        wait_until(lambda: not self.server.programs())
+        self.break_chunk()
+        note = os.path.join(self.server.root, "damaged-chunks")
+        # (a folder in the file's place: nothing can be noted, nor be read of what is)
+        os.mkdir(f"{note}.new")
+        found = self.run_client("verify")
+        self.assertEqual((found.returncode, "can't be noted" in found.stderr), (DAMAGED, True), found.stderr)
+        os.rmdir(f"{note}.new")
+        self.done("verify", status=DAMAGED)
+        wait_until(lambda: not self.server.programs())
+        os.mkdir(f"{note}.new")
+        self.assertEqual(len(self.objects("snapshots")), 1)
+        self.assertIn("damaged chunks stay where they are", self.server.said())
 
     def break_chunk(self):
         """Changes a byte of the largest chunk's file."""

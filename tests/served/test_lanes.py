@@ -106,12 +106,16 @@ class UsedUp(Served):
             program = self.server.programs()
 
     def test_the_program_ends_with_its_last_lane(self):
-        """What the client is told is told already as the program ends."""
-        slow = "import time; from pbclient.served import sessions; rest = sessions.Session.rest"
-        server = self.serve("--lanes", "1", patch=f"{slow}; sessions.Session.rest = lambda it: (time.sleep(0.5), rest(it))")
-        with server.client() as it:
-            it.stream.write(s.frame(b""))
-            self.assertEqual(it.rest(), s.frame(s.bad_frame(0)))
+        """What the client is told may be on its way as the program ends, or be told already."""
+        slow = "import time; from pbclient.served import sessions; "
+        for patch in (
+            "rest = sessions.Session.rest; sessions.Session.rest = lambda it: (time.sleep(0.5), rest(it))",
+            "reply = lanes.Lane.reply; lanes.Lane.reply = lambda *words: (time.sleep(0.5), reply(*words))",
+        ):
+            server = self.serve("--lanes", "1", patch=slow + patch)
+            with self.subTest(patch), server.client() as it:
+                it.stream.write(s.frame(b""))
+                self.assertEqual(it.rest(), s.frame(s.bad_frame(0)))
 
     def test_a_session_that_is_too_long(self):
         server = self.serve("--lanes", "1", patch="limits.LANE_BYTES, limits.LANE_FULL = 5000, 100")

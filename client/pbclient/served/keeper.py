@@ -64,11 +64,18 @@ class Keeper:
             self.changed.wait(limits.TICK)
 
     def start(self, root):
-        damage.set_aside(root)
+        self.set_aside(root)
         # (a killed server's)
         shutil.rmtree(self.work, ignore_errors=True)
         remote = ["--remote", self.options.remote] if self.options.remote else []
         return Run([self.options.program, "run", root, *remote], self.options.lanes, self.work)
+
+    def set_aside(self, root):
+        """Damaged chunks go out of the way of those that are sent again. A store that can only be read is served with them."""
+        try:
+            damage.set_aside(root)
+        except (Failure, OSError) as error:
+            self.say(f"damaged chunks stay where they are: {error}")
 
     def fail(self, cause):
         text = f"the store could not be opened: {cause}"
@@ -104,7 +111,8 @@ class Keeper:
             return None
         limit = min(limit or now + seconds, now + seconds)
         for session in self.lending.sessions:
-            if now >= limit:
+            # (replies of a program that ended may still be on their way)
+            if now >= limit and (run.is_alive() or not session.owed):
                 session.end(reason)
             if now >= limit + limits.LAST_REPLIES and (session.is_stuck or not run.is_alive()):
                 session.cut()

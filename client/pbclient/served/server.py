@@ -154,7 +154,10 @@ class Server:
             told += some
         with self.changed:
             before = damage.noted(self.options.root)
-            damage.add(self.options.root, hello.digests_of(told))
+            try:
+                damage.add(self.options.root, hello.digests_of(told))
+            except OSError as error:
+                raise Refused("opening", f"the store's folder can't be written: {error.strerror}") from None
             found = damage.noted(self.options.root)
             if found != before:
                 self.lending.renew()

@@ -32,12 +32,16 @@ def ended(text):
     return Failure(f"the server ended the session: {text}", "run again; no finished snapshot was lost")
 
 
-def damaged(way, digests=()):
-    """The damaged chunks that a server knows of, these among them."""
-    try:
-        return dial.damaged(way, digests)
-    except hello.Refused as refused:
-        raise failure_of(refused) from None
+def soon(call, seconds=0):
+    """What a call of a server gives. One that is not there yet is tried again for so many seconds."""
+    end = time.monotonic() + seconds
+    while True:
+        try:
+            return call()
+        except hello.Refused as refused:
+            if refused.cause not in PASSING or time.monotonic() >= end:
+                raise failure_of(refused) from None
+            time.sleep(PAUSE)
 
 
 class ServedTalk(Talk):
@@ -90,8 +94,7 @@ class ServedRun:
     """So many sessions of the server that is found by `way`, each of which may wait for a lane; `told` takes why."""
 
     def __init__(self, root, way, count=1, told=lambda text: None, seconds=0):
-        self.root, self.way, self.told = root, way, told
-        self.end_of_waiting = time.monotonic() + seconds
+        self.root, self.way, self.told, self.seconds = root, way, told, seconds
         self.talks = [ServedTalk(self) for _ in range(count)]
 
     def __enter__(self):
@@ -101,14 +104,8 @@ class ServedRun:
         self.close()
 
     def connected(self):
-        """A stream that is ready for frames. A server that is not there yet is waited for."""
-        while True:
-            try:
-                return dial.begin(self.way, self.told)[0]
-            except hello.Refused as refused:
-                if refused.cause not in PASSING or time.monotonic() > self.end_of_waiting:
-                    raise failure_of(refused) from None
-                time.sleep(PAUSE)
+        """A stream that is ready for frames."""
+        return soon(lambda: dial.begin(self.way, self.told)[0], self.seconds)
 
     def end(self):
         """The server's program goes on."""
