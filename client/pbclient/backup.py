@@ -1,5 +1,5 @@
 """Backs up folders, images and standard input into a group."""
-import os, re, sys, threading, time
+import os, re, stat, sys, threading, time
 from typing import NamedTuple
 
 from . import VERSION, chunks, image, session as s, store as folder
@@ -39,6 +39,17 @@ def archive_names(paths):
     if len(set(names)) < len(names):
         raise mistyped("two of the paths would have one name in the snapshot", "name each path once, or back them up in two groups")
     return dict(zip(names, paths))
+
+
+def why_not(path):
+    """Why a path that is named can't be backed up, if it can't."""
+    try:
+        mode = os.stat(path).st_mode
+    except OSError as error:
+        return error.strerror
+    if stat.S_ISBLK(mode):
+        return "a device: back it up by --image NAME=DEVICE"
+    return None if stat.S_ISDIR(mode) or stat.S_ISREG(mode) else "neither a folder nor a file"
 
 
 def rules_of(options):
@@ -139,10 +150,9 @@ class Backup:
 
     def planned(self, name, path):
         """What is found at a path, as it is planned."""
-        try:
-            os.stat(path)
-        except OSError as error:
-            self.left_out.append(LeftOut(os.fsencode(path), error.strerror))
+        why = why_not(path)
+        if why:
+            self.left_out.append(LeftOut(os.fsencode(path), why))
             return
         walk, planner = Walk(self.rules, self.root, self.left_out), self.planner(name)
         for found in walk.through(path):

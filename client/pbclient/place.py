@@ -15,6 +15,7 @@ BESIDE = b".pbclient-%d.tmp" % os.getpid()
 # Zeros are looked for in blocks of so many bytes.
 ZERO_BLOCK = 64 << 10
 ZEROS = bytes(ZERO_BLOCK)
+SET_IDS = stat.S_ISUID | stat.S_ISGID
 NO_NAMES = {b"", b".", b".."}
 
 
@@ -231,7 +232,8 @@ class Place:
             os.chown(file, *self.owner_of(member))
         for name, value in member.xattrs:
             self.set_xattr(file, member, name, value)
-        os.chmod(file, member.mode)
+        # (a program that is to run as its owner is not to run as another)
+        os.chmod(file, member.mode if self.owners or stat.S_ISDIR(os.fstat(file).st_mode) else member.mode & ~SET_IDS)
         os.utime(file, ns=(member.mtime, member.mtime))
 
     def set_rights_at(self, folder, member):

@@ -163,6 +163,21 @@ class Walks(unittest.TestCase):
             with self.assertRaises(OSError):
                 walk.opened(found)
 
+    def test_a_link_that_takes_a_folders_place_is_not_followed(self):
+        it = walk.Walk(walk.Rules())
+        for found in it.through(self.top):
+            if found.path == os.fsencode(os.path.join(self.top, "a", "deep")):
+                os.rename(found.path, found.path + b"-moved")
+                os.symlink("/etc", found.path)
+        (path, why, wanted), = it.left_out
+        self.assertEqual((path, wanted), (os.fsencode(os.path.join(self.top, "a", "deep")), True))
+        self.assertTrue(why)
+
+    def test_a_pipe_in_place_of_a_caches_tag(self):
+        os.unlink(os.path.join(self.top, "cache/CACHEDIR.TAG"))
+        os.mkfifo(os.path.join(self.top, "cache/CACHEDIR.TAG"))
+        self.assertEqual(self.names(caches=True)[1].excluded, 0)
+
     def test_a_folder_that_may_not_be_read_is_told(self):
         with mock.patch("os.scandir", side_effect=PermissionError(13, "Permission denied")):
             it = walk.Walk(walk.Rules())
