@@ -110,7 +110,7 @@ COMMANDS = (
          Option(("--note",), "keep this with the snapshot", "KEY=VALUE", note, many=True),
          Option(("--reread",), "read all files, also those that look unchanged"),
          Option(("--resend",), "read and send all, also what the last snapshot has"),
-         Option(("--reserve",), "stop while so much is free on the store's disk", "SIZE", size),
+         Option(("--reserve",), "stop when less than SIZE is free on the store's disk", "SIZE", size),
          DRY_RUN),
         text="Makes a snapshot of folders and files, images and standard input. What has not changed since the group's last snapshot, by "
         "size, times and inode, is neither read nor sent.",
@@ -295,6 +295,11 @@ def spelled(option):
     return ", ".join(option.names) + (f" {option.value}" if option.value else "")
 
 
+def told(option):
+    """What an option does, with the words that it may have."""
+    return option.help + (f" ({', '.join(option.choices)})" if option.choices else "")
+
+
 def listed(rows):
     """Lines of names with their texts beside them."""
     width = max(len(name) for name, _ in rows) + 2
@@ -309,7 +314,7 @@ def usage(command):
 
 
 def help_of_command(command):
-    rows = [(it.name, it.help) for it in command.operands] + [(spelled(it), it.help) for it in command.options]
+    rows = [(it.name, it.help) for it in command.operands] + [(spelled(it), told(it)) for it in command.options]
     lines = [f"usage: {usage(command)}", "", command.text or f"{command.summary.capitalize()}."]
     return "\n".join([*lines, *(["", *listed(rows)] if rows else []), "", "pbclient help tells the options of all commands."])
 

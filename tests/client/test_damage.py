@@ -158,7 +158,7 @@ class Killed(stores.WithStore):
         self.addCleanup(client.stdin.close)
         client.stdin.write(random.Random(2).getrandbits(8 * 10 * MIB).to_bytes(10 * MIB, "little"))
         client.stdin.flush()
-        for _ in range(300):
+        for _ in range(3000):
             if self.count() > before:
                 found = subprocess.run(["pgrep", "-P", str(client.pid)], stdout=subprocess.PIPE, check=True).stdout.split()
                 return client, int(found[-1])

@@ -30,6 +30,43 @@ def tree(top):
     return found
 
 
+class Waits(stores.WithStore):
+    """Calls that wait for a store that is in use."""
+
+    def setUp(self):
+        super().setUp()
+        self.make()
+
+    def waiting(self):
+        """A call that waits for the store, and the lock that it waits for."""
+        lock = os.open(self.root, os.O_RDONLY)
+        fcntl.flock(lock, fcntl.LOCK_EX)
+        words = [stores.CLIENT, "-r", self.root, "--wait", "300", "-q", "snapshots"]
+        client = subprocess.Popen(words, stdout=subprocess.DEVNULL, stderr=subprocess.PIPE)
+        while not store.is_locked(os.path.join(self.root, store.CHUNKS)):
+            time.sleep(0.1)
+        return client, lock
+
+    def test_waits(self):
+        client, lock = self.waiting()
+        os.close(lock)
+        self.assertEqual((client.communicate()[1], client.returncode), (b"", 0))
+
+    def test_many_calls_at_once_wait_for_each_other(self):
+        words = [stores.CLIENT, "-r", self.root, "--wait", "300", "stats"]
+        calls = [subprocess.Popen(words, stdout=subprocess.DEVNULL, stderr=subprocess.PIPE) for _ in range(8)]
+        said = [it.communicate()[1] for it in calls]
+        self.assertEqual([it.returncode for it in calls], [0] * 8, said)
+
+    def test_signals(self):
+        for number, status, word in [(signal.SIGINT, 130, b"interrupted"), (signal.SIGTERM, 143, b"terminated")]:
+            client, lock = self.waiting()
+            client.send_signal(number)
+            said = client.communicate()[1]
+            self.assertEqual((client.returncode, word in said), (status, True), said)
+            os.close(lock)
+
+
 class NoStore(stores.WithStore):
     """Folders that are no store."""
 
@@ -149,20 +186,6 @@ class States(stores.WithStore):
         finally:
             os.close(folder)
         self.done("snapshots")
-
-    def test_waits(self):
-        self.make()
-        holder = subprocess.Popen(["flock", self.root, "sleep", "1"])
-        time.sleep(0.3)
-        self.done("--wait", "20", "snapshots")
-        holder.wait()
-
-    def test_many_calls_at_once_wait_for_each_other(self):
-        self.make()
-        words = [stores.CLIENT, "-r", self.root, "--wait", "100", "stats"]
-        calls = [subprocess.Popen(words, stdout=subprocess.DEVNULL, stderr=subprocess.PIPE) for _ in range(8)]
-        said = [it.communicate()[1] for it in calls]
-        self.assertEqual([it.returncode for it in calls], [0] * 8, said)
 
     @unittest.skipIf(os.getuid(), "this needs root, to become another user")
     def test_another_users(self):
@@ -292,26 +315,6 @@ class Ends(stores.WithStore):
         found = subprocess.run([stores.CLIENT, "-r", self.root, "snapshots"], stdout=writer, stderr=subprocess.PIPE)
         os.close(writer)
         self.assertEqual((found.returncode, b"standard output: Broken pipe" in found.stderr), (1, True), found)
-
-    def waiting(self):
-        """A call that waits for the store, which is in use."""
-        self.make()
-        folder = os.open(self.root, os.O_RDONLY)
-        self.addCleanup(os.close, folder)
-        fcntl.flock(folder, fcntl.LOCK_EX)
-        client = subprocess.Popen([stores.CLIENT, "-r", self.root, "--wait", "60", "snapshots"], stderr=subprocess.PIPE)
-        while not store.is_locked(os.path.join(self.root, store.CHUNKS)):
-            time.sleep(0.1)
-        return client
-
-    def test_signals(self):
-        for number, status, word in [(signal.SIGINT, 130, b"interrupted"), (signal.SIGTERM, 143, b"terminated")]:
-            client = self.waiting()
-            client.send_signal(number)
-            said = client.communicate()[1]
-            self.assertEqual((client.returncode, word in said), (status, True), said)
-            self.doCleanups()
-            self.setUp()
 
 
 if __name__ == "__main__":

@@ -105,6 +105,14 @@ class UsedUp(Served):
                 self.assertEqual(it.ask(LIST), NOTHING)
             program = self.server.programs()
 
+    def test_the_program_ends_with_its_last_lane(self):
+        """What the client is told is told already as the program ends."""
+        slow = "import time; from pbclient.served import sessions; rest = sessions.Session.rest"
+        server = self.serve("--lanes", "1", patch=f"{slow}; sessions.Session.rest = lambda it: (time.sleep(0.5), rest(it))")
+        with server.client() as it:
+            it.stream.write(s.frame(b""))
+            self.assertEqual(it.rest(), s.frame(s.bad_frame(0)))
+
     def test_a_session_that_is_too_long(self):
         server = self.serve("--lanes", "1", patch="limits.LANE_BYTES, limits.LANE_FULL = 5000, 100")
         with server.client() as it:

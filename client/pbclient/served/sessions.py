@@ -64,7 +64,9 @@ class Session:
 
     def end(self, reason=None):
         """Passes no more commands. Replies that are owed are passed still."""
-        self.reason = self.reason or reason
+        # (a lane that is used up owes nothing more, and a program whose lanes all are ends by itself)
+        if not self.lane.is_used_up:
+            self.reason = self.reason or reason
         self.pass_no_more()
         self.shut(socket.SHUT_RD)
 
