@@ -2,6 +2,8 @@
 import errno, os, re, stat
 from typing import NamedTuple
 
+from .failures import mistyped
+
 CACHE_TAG, CACHE_SIGNATURE = b"CACHEDIR.TAG", b"Signature: 8a477f597d28d172789f06886806bc55"
 # File systems that have no files of their own: what the system tells of itself. Their folders are kept empty.
 NO_FILES = {
@@ -9,6 +11,9 @@ NO_FILES = {
     "nsfs", "proc", "pstore", "rpc_pipefs", "securityfs", "selinuxfs", "sysfs", "tracefs"}
 
 
+# The signs of a pattern: `*`, `?` and `[..]` are of one name, `**` goes over names.
+TOKEN = re.compile(rb"(\*\*/|\*\*|\*|\?|\[!?[^\]/]+\])")
+SIGNS = {b"**/": b"(?:.*/)?", b"**": b".*", b"*": b"[^/]*", b"?": b"[^/]"}
 # The name of the folder `/` in an archive.
 TOP = b"."
 
@@ -29,13 +34,14 @@ class LeftOut(NamedTuple):
     wanted: bool = True
 
 
-def expression(pattern):
-    """A pattern as a regular expression of a path. `*`, `?` and `[..]` are of one name, `**` goes over names."""
-    spelled = {b"**/": b"(?:.*/)?", b"**": b".*", b"*": b"[^/]*", b"?": b"[^/]"}
-    parts = re.split(rb"(\*\*/|\*\*|\*|\?|\[!?[^\]/]+\])", pattern)
-    return b"".join(
-        spelled.get(it) or (it.replace(b"[!", b"[^") if it.startswith(b"[") and it.endswith(b"]") and len(it) > 2 else re.escape(it).replace(b"/", b"/(?=[^/])"))
-        for it in parts)
+def spelled(part):
+    """A part of a pattern, as TOKEN parts it, as a regular expression. (No name is empty, so `*` behind a `/` is one sign at least.)"""
+    if part in SIGNS:
+        return SIGNS[part]
+    if TOKEN.fullmatch(part):
+        inside = re.sub(rb"[\\\[&~|^]", rb"\\\g<0>", part[1:-1].lstrip(b"!"))
+        return (b"[^/" if part.startswith(b"[!") else b"[") + inside + b"]"
+    return re.escape(part).replace(b"/", b"/(?=[^/])")
 
 
 def compiled(patterns):
@@ -43,9 +49,13 @@ def compiled(patterns):
     begins with `/` is a whole path; another may begin at any name. One that ends with `/` is of folders alone."""
     rows = []
     for pattern in patterns:
-        end = b"/" if pattern.endswith(b"/") else b"/?"
-        body = expression(pattern.strip(b"/"))
-        rows.append((b"/" if pattern.startswith(b"/") else b"(?:.*/)?") + body + end)
+        body = b"".join(map(spelled, TOKEN.split(pattern.strip(b"/"))))
+        row = (b"/" if pattern.startswith(b"/") else b"(?:.*/)?") + body + (b"/" if pattern.endswith(b"/") else b"/?")
+        try:
+            re.compile(row)
+        except re.error:
+            raise mistyped(f"{os.fsdecode(pattern)} is no pattern", "look at what stands in [ ]") from None
+        rows.append(row)
     return re.compile(b"(?s:" + b"|".join(rows) + rb")\Z") if rows else None
 
 

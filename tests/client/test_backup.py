@@ -3,8 +3,7 @@ import os, random, shutil, subprocess, tempfile, time, unittest
 
 import stores
 import trees
-from pbclient import backup, look, members, queries, restore, tars, walk  # (a child that is another user may not be able to import them)
-from stores import s
+from pbclient import backup, look, members, queries, restore, tars, walk  # (some for a child, which may not be able to import them)
 
 SEEDS, AT_ONCE = range(50), 10
 IS_ROOT = os.geteuid() == 0
@@ -489,6 +488,7 @@ class Images(WithTree):
         self.assertEqual(self.read(out), self.read(path))
         self.assertLess(os.stat(out).st_blocks * 512, 5_000_000)
         self.fails(1, "is there already", "restore", "host/a", "disk.fidx", "--image", out)
+        self.fails(1, "has no folders, but disk.fidx", "restore", "host/a", "--target", self.out)
         self.done("restore", "host/a", "disk.fidx", "--image", out, "--overwrite", "always")
         self.assertEqual(Trees.dumped(self, "host/a", "disk"), self.read(path))
         with open(path, "r+b") as it:
