@@ -1,5 +1,5 @@
 """Backs up folders, images and standard input into a group."""
-import os, re, sys, threading, time
+import os, re, stat, sys, threading, time
 from typing import NamedTuple
 
 from . import VERSION, chunks, image, session as s, store as folder
@@ -21,6 +21,8 @@ UNREADABLE = ("NoFile", "NoSnapshot", "Damaged", "Unreadable")
 NAME_LIMIT = 64
 LINES_OF_LEFT_OUT = 20
 STREAM = ".didx"
+# (a path is an archive and its catalog)
+FILES_LIMIT = 63
 
 
 def clean(text):
@@ -39,6 +41,17 @@ def archive_names(paths):
     if len(set(names)) < len(names):
         raise mistyped("two of the paths would have one name in the snapshot", "name each path once, or back them up in two groups")
     return dict(zip(names, paths))
+
+
+def why_not(path):
+    """Why a path that is named can't be backed up, if it can't."""
+    try:
+        mode = os.stat(path).st_mode
+    except OSError as error:
+        return error.strerror
+    if stat.S_ISBLK(mode):
+        return "a device: back it up by --image NAME=DEVICE"
+    return None if stat.S_ISDIR(mode) or stat.S_ISREG(mode) else "neither a folder nor a file"
 
 
 def rules_of(options):
@@ -139,10 +152,9 @@ class Backup:
 
     def planned(self, name, path):
         """What is found at a path, as it is planned."""
-        try:
-            os.stat(path)
-        except OSError as error:
-            self.left_out.append(LeftOut(os.fsencode(path), error.strerror))
+        why = why_not(path)
+        if why:
+            self.left_out.append(LeftOut(os.fsencode(path), why))
             return
         walk, planner = Walk(self.rules, self.root, self.left_out), self.planner(name)
         for found in walk.through(path):
@@ -193,7 +205,7 @@ class Backup:
                 if not it.past:
                     read += it.found.status.st_size if it.kind == b"0" else 0
                     self.report.detail(f"would read {printable(os.fsdecode(it.found.path))}")
-        self.report.result("dry_run", f"would read {size_text(read)}\n{self.files_line()}", read=read, **self.files())
+        self.report.result("dry_run", f"would read {size_text(read)}\n{self.files_line()}", group=self.group, read=read, **self.files())
         return self.tell_left_out()
 
     def manifest(self, snapshot, facts):
@@ -212,7 +224,8 @@ class Backup:
             "left_out": len(self.left_out), "excluded": self.excluded}
 
     def files_line(self):
-        return "files: " + ", ".join(f"{count:,} {what.replace('_', ' ')}" for what, count in self.files().items() if count or what != "excluded")
+        rows = {what.replace("_", " "): count for what, count in self.files().items() if count or what != "excluded"}
+        return "files: " + ", ".join(f"{count:,} {what}" for what, count in rows.items())
 
     def tell(self, snapshot):
         """The lines at the end."""
@@ -231,7 +244,8 @@ class Backup:
         """Says what the backup is without, and gives the status."""
         shown = self.left_out if self.options.verbose or self.options.json else self.left_out[:LINES_OF_LEFT_OUT]
         for it in shown:
-            self.report.note(f"left out: {line_of(it)}", "left_out", path=os.fsdecode(it.path), why=it.why, wanted=it.wanted)
+            path = os.fsdecode(it.path)
+            self.report.note(f"left out: {line_of(it)}", "left_out", always=it.wanted, path=path, why=it.why, wanted=it.wanted)
         if len(shown) < len(self.left_out):
             self.report.note(f"and {len(self.left_out) - len(shown):,} more paths; -v tells them all")
         return LEFT_OUT if self.is_of_future or any(it.wanted for it in self.left_out) else 0
@@ -264,6 +278,8 @@ def jobs_of(options):
             raise mistyped(f"after `and` a group of its own is to follow, not {group or 'nothing'}", "say it as: host/a PATH and host/b PATH")
         if not paths and not options.image and not options.stdin:
             raise mistyped(f"nothing is named that is to be backed up into {group}", "name folders or files, --image or --stdin")
+        if 2 * len(paths) + len(options.image) + bool(options.stdin) > FILES_LIMIT:
+            raise mistyped(f"{len(paths)} paths are too many for a snapshot", "name folders above them, or back up into several groups")
         jobs.append(Job(group, archive_names(paths)))
     return jobs
 
@@ -273,7 +289,7 @@ def do(call, talk, job, damaged, found):
     try:
         with talk as store:
             found.append(Backup(call, store, job, damaged).run())
-    except FAILURES as error:
+    except Exception as error:
         found.append(error)
 
 
@@ -303,8 +319,8 @@ def backup(call):
         if damaged and not any(isinstance(it, Exception) for it in found):
             call.settle_damaged()
     failed = [(job, it) for job, it in zip(jobs, found) if isinstance(it, Exception)]
-    if failed and len(jobs) == 1:
-        raise found[0]
     for job, it in failed:
+        if len(jobs) == 1 or not isinstance(it, FAILURES):
+            raise it
         call.report.failed(call.failure(it), job.group)
     return max(FAILED if isinstance(it, Exception) else it for it in found)

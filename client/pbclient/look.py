@@ -64,11 +64,18 @@ def ls(call):
             list_tops(call, snapshot)
             return
         path, met = path_in(options.path), False
-        for it in entries_at(snapshot, path):
-            is_folder = it.kind == tars.FOLDER
-            if options.recursive or is_directly_in(it.name, path) or it.name == path and not is_folder:
-                show(call, it)
+        for archive in snapshot.catalogs():
+            rows = catalog.below(snapshot.catalog(archive), path)
+            first = next(rows, None)
+            if first is None:
+                continue
             met = True
+            # (what is on top of an archive is shown where the folders above it are looked at)
+            if options.recursive or first.kind != tars.FOLDER or first.name != path:
+                show(call, first)
+            for it in rows:
+                if options.recursive or is_directly_in(it.name, path):
+                    show(call, it)
         need_all([path], {path} if met else ())
 
 

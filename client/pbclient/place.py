@@ -15,6 +15,7 @@ BESIDE = b".pbclient-%d.tmp" % os.getpid()
 # Zeros are looked for in blocks of so many bytes.
 ZERO_BLOCK = 64 << 10
 ZEROS = bytes(ZERO_BLOCK)
+SET_IDS = stat.S_ISUID | stat.S_ISGID
 NO_NAMES = {b"", b".", b".."}
 
 
@@ -193,7 +194,7 @@ class Place:
     def write(self, file, member, parts):
         """Writes a file's bytes at their places; holes stay holes."""
         segments = [(0, member.size)] if member.segments is None else member.segments
-        left = iter(segments)
+        left, write = iter(segments), write_sparse if self.options.sparse else write_all
         at = end = 0
         for part in parts:
             view = memoryview(part)
@@ -202,21 +203,12 @@ class Place:
                     at, length = next(left)
                     end = at + length
                 some = view[: end - at]
-                self.write_at(file, some, at)
+                write(file, some, at)
                 at += len(some)
                 view = view[len(some) :]
         if member.segments is not None or self.options.sparse:
             os.truncate(file, member.size)
         self.bytes += member.size
-
-    def write_at(self, file, data, at):
-        if not self.options.sparse:
-            write_all(file, data, at)
-            return
-        for place in range(0, len(data), ZERO_BLOCK):
-            block = data[place : place + ZERO_BLOCK]
-            if bytes(block) != ZEROS[: len(block)]:
-                write_all(file, block, at + place)
 
     # Rights
 
@@ -231,7 +223,8 @@ class Place:
             os.chown(file, *self.owner_of(member))
         for name, value in member.xattrs:
             self.set_xattr(file, member, name, value)
-        os.chmod(file, member.mode)
+        # (a program that is to run as its owner is not to run as another)
+        os.chmod(file, member.mode if self.owners or stat.S_ISDIR(os.fstat(file).st_mode) else member.mode & ~SET_IDS)
         os.utime(file, ns=(member.mtime, member.mtime))
 
     def set_rights_at(self, folder, member):
@@ -262,3 +255,11 @@ def write_all(file, data, at):
         size = os.pwrite(file, data, at)
         at += size
         data = data[size:]
+
+
+def write_sparse(file, data, at):
+    """Writes what is not zeros; the others are to become holes."""
+    for place in range(0, len(data), ZERO_BLOCK):
+        block = data[place : place + ZERO_BLOCK]
+        if bytes(block) != ZEROS[: len(block)]:
+            write_all(file, block, at + place)

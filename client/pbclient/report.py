@@ -101,9 +101,9 @@ class Report:
         elif text is not None:
             self.put(text)
 
-    def note(self, text, kind="note", **fields):
-        """What was done; with --quiet nothing."""
-        if self.quiet:
+    def note(self, text, kind="note", always=False, **fields):
+        """What was done; with --quiet nothing, unless it is to be said always."""
+        if self.quiet and not always:
             return
         if self.json:
             self.put_object(kind, fields or {"text": text})

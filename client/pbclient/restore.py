@@ -6,10 +6,11 @@ from . import catalog, tars
 from .catalog import ARCHIVE
 from .failures import DAMAGED, LEFT_OUT, Failure, mistyped, printable
 from .image import IMAGE
-from .place import ALWAYS, ZERO_BLOCK, ZEROS, Place, write_all
+from .place import ALWAYS, Place, write_all, write_sparse
 from .queries import resolve
 from .reads import Snapshot
 from .report import Progress, counted, size as size_text, span
+from .session import MANIFEST
 from .talk import Refused
 from .walk import TOP
 
@@ -99,7 +100,7 @@ class Restore:
 
     def whole(self):
         """Restores all archives."""
-        for archive in archives_of(self.snapshot):
+        for archive in need_archives(self.snapshot):
             self.part(archive, Part(0, self.snapshot.sizes[archive + ARCHIVE]))
 
     def paths(self, paths):
@@ -154,9 +155,14 @@ class Restore:
         return None
 
 
-def archives_of(snapshot):
-    """The archives of folders that a snapshot has, by their names without an ending."""
-    return [name[: -len(ARCHIVE)] for name in snapshot.sizes if name.endswith(ARCHIVE)]
+def need_archives(snapshot):
+    """The archives of folders that a snapshot has, by their names without an ending. It is to have some."""
+    found = [name[: -len(ARCHIVE)] for name in snapshot.sizes if name.endswith(ARCHIVE)]
+    if not found:
+        others = ", ".join(it for it in snapshot.sizes if it != MANIFEST)
+        advice = "take an image by restore --image FILE, other files by dump"
+        raise Failure(f"{snapshot.name} has no folders, but {others or 'nothing'}", advice)
+    return found
 
 
 def need_all(paths, met):
@@ -169,6 +175,7 @@ def need_all(paths, met):
 def plan(call, snapshot, paths):
     """Tells what a restore would do."""
     met, rows = set(), []
+    need_archives(snapshot)
     for archive in snapshot.catalogs():
         for path in paths or [TOP]:
             found = list(catalog.below(snapshot.catalog(archive), path))
@@ -201,7 +208,7 @@ def tell(call, told):
     shown = told if call.options.verbose or call.options.json else told[:LINES_OF_TOLD]
     for name, why in shown:
         path = os.fsdecode(name)
-        call.report.note(f"not as it was: {printable(path)} ({why})", "not_restored", path=path, why=why)
+        call.report.note(f"not as it was: {printable(path)} ({why})", "not_restored", always=True, path=path, why=why)
     if len(shown) < len(told):
         call.report.note(f"and {len(told) - len(shown):,} more paths; -v tells them all")
 
@@ -240,17 +247,14 @@ def restore_image(call, snapshot, name):
 
 
 def write_image(call, snapshot, name, path, sparse):
-    size, at = snapshot.sizes[name], 0
+    size, at, write = snapshot.sizes[name], 0, write_sparse if sparse else write_all
     file = os.open(path, os.O_WRONLY | os.O_CLOEXEC | (0 if os.path.exists(path) else os.O_CREAT | os.O_EXCL), 0o600)
     try:
         if stat.S_ISBLK(os.fstat(file).st_mode) and os.lseek(file, 0, os.SEEK_END) < size:
             raise Failure(f"{path} is smaller than the image, which has {size_text(size)}", "name a device that is as large")
         with Progress(call.report, name) as progress:
             for block in snapshot.stream(name):
-                for place in range(0, len(block), ZERO_BLOCK):
-                    part = block[place : place + ZERO_BLOCK]
-                    if not sparse or part != ZEROS[: len(part)]:
-                        write_all(file, part, at + place)
+                write(file, block, at)
                 at += len(block)
                 progress.show(at, size)
         if stat.S_ISREG(os.fstat(file).st_mode):

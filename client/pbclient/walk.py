@@ -2,6 +2,8 @@
 import errno, os, re, stat
 from typing import NamedTuple
 
+from .failures import mistyped
+
 CACHE_TAG, CACHE_SIGNATURE = b"CACHEDIR.TAG", b"Signature: 8a477f597d28d172789f06886806bc55"
 # File systems that have no files of their own: what the system tells of itself. Their folders are kept empty.
 NO_FILES = {
@@ -9,6 +11,9 @@ NO_FILES = {
     "nsfs", "proc", "pstore", "rpc_pipefs", "securityfs", "selinuxfs", "sysfs", "tracefs"}
 
 
+# The signs of a pattern: `*`, `?` and `[..]` are of one name, `**` goes over names.
+TOKEN = re.compile(rb"(\*\*/|\*\*|\*|\?|\[!?[^\]/]+\])")
+SIGNS = {b"**/": b"(?:.*/)?", b"**": b".*", b"*": b"[^/]*", b"?": b"[^/]"}
 # The name of the folder `/` in an archive.
 TOP = b"."
 
@@ -29,13 +34,14 @@ class LeftOut(NamedTuple):
     wanted: bool = True
 
 
-def expression(pattern):
-    """A pattern as a regular expression of a path. `*`, `?` and `[..]` are of one name, `**` goes over names."""
-    spelled = {b"**/": b"(?:.*/)?", b"**": b".*", b"*": b"[^/]*", b"?": b"[^/]"}
-    parts = re.split(rb"(\*\*/|\*\*|\*|\?|\[!?[^\]/]+\])", pattern)
-    return b"".join(
-        spelled.get(it) or (it.replace(b"[!", b"[^") if it.startswith(b"[") and it.endswith(b"]") and len(it) > 2 else re.escape(it).replace(b"/", b"/(?=[^/])"))
-        for it in parts)
+def spelled(part):
+    """A part of a pattern, as TOKEN parts it, as a regular expression. (No name is empty, so `*` behind a `/` is one sign at least.)"""
+    if part in SIGNS:
+        return SIGNS[part]
+    if TOKEN.fullmatch(part):
+        inside = re.sub(rb"[\\\[&~|^]", rb"\\\g<0>", part[1:-1].lstrip(b"!"))
+        return (b"[^/" if part.startswith(b"[!") else b"[") + inside + b"]"
+    return re.escape(part).replace(b"/", b"/(?=[^/])")
 
 
 def compiled(patterns):
@@ -43,9 +49,13 @@ def compiled(patterns):
     begins with `/` is a whole path; another may begin at any name. One that ends with `/` is of folders alone."""
     rows = []
     for pattern in patterns:
-        end = b"/" if pattern.endswith(b"/") else b"/?"
-        body = expression(pattern.strip(b"/"))
-        rows.append((b"/" if pattern.startswith(b"/") else b"(?:.*/)?") + body + end)
+        body = b"".join(map(spelled, TOKEN.split(pattern.strip(b"/"))))
+        row = (b"/" if pattern.startswith(b"/") else b"(?:.*/)?") + body + (b"/" if pattern.endswith(b"/") else b"/?")
+        try:
+            re.compile(row)
+        except re.error:
+            raise mistyped(f"{os.fsdecode(pattern)} is no pattern", "look at what stands in [ ]") from None
+        rows.append(row)
     return re.compile(b"(?s:" + b"|".join(rows) + rb")\Z") if rows else None
 
 
@@ -74,13 +84,30 @@ def kinds_of_file_systems():
     return {tuple(map(int, row[0].split()[2].split(":"))): row[1].split()[0] for row in rows if len(row) == 2}
 
 
-def is_cache(path):
-    """Whether a folder says that what it holds is a cache."""
+def is_cache(folder):
+    """Whether an open folder says that what it holds is a cache."""
     try:
-        with open(os.path.join(path, CACHE_TAG), "rb") as it:
-            return it.read(len(CACHE_SIGNATURE)) == CACHE_SIGNATURE
+        file = os.open(CACHE_TAG, os.O_RDONLY | os.O_NOFOLLOW | os.O_NONBLOCK | os.O_CLOEXEC, dir_fd=folder)
     except OSError:
         return False
+    try:
+        return os.read(file, len(CACHE_SIGNATURE)) == CACHE_SIGNATURE
+    except OSError:
+        return False
+    finally:
+        os.close(file)
+
+
+def opened(found, flags=0):
+    """What was found, open, and what the system says of it then, if it is still that. No link is followed that took its place, and nothing
+    waits at a pipe that did."""
+    file = os.open(found.path, os.O_RDONLY | os.O_NOFOLLOW | os.O_NONBLOCK | os.O_CLOEXEC | flags)
+    status = os.fstat(file)
+    # (a number of an inode may come again)
+    if not os.path.samestat(status, found.status) or stat.S_IFMT(status.st_mode) != stat.S_IFMT(found.status.st_mode):
+        os.close(file)
+        raise OSError(errno.ESTALE, "another took its place as it was read", os.fsdecode(found.path))
+    return file, status
 
 
 class Walk:
@@ -93,9 +120,9 @@ class Walk:
 
     def through(self, top):
         """What is found at a path and below it. A link is followed at the path itself alone."""
-        top = os.path.abspath(os.fsencode(top))
-        status = os.stat(top)
-        waiting = [(Found(top, top.lstrip(b"/") or TOP, status), status.st_dev)]
+        path, name = os.path.realpath(os.fsencode(top)), os.path.abspath(os.fsencode(top)).lstrip(b"/") or TOP
+        status = os.stat(path)
+        waiting = [(Found(path, name, status), status.st_dev)]
         while waiting:
             found, device = waiting.pop()
             yield found
@@ -105,36 +132,44 @@ class Walk:
     def below(self, folder):
         """What a folder holds and the backup has, by names."""
         try:
-            with os.scandir(folder.path) as entries:
-                entries = sorted(entries, key=lambda it: it.name)
+            file, _ = opened(folder, os.O_DIRECTORY)
         except OSError as error:
             self.leave_out(folder.path, error)
             return []
-        if self.rules.caches and is_cache(folder.path):
-            self.excluded += len(entries) - 1
-            entries = [it for it in entries if it.name == CACHE_TAG]
-        front = b"" if folder.name == TOP else folder.name + b"/"
-        found = []
-        for entry in entries:
-            try:
-                status = entry.stat(follow_symlinks=False)
-            except OSError as error:
-                self.leave_out(entry.path, error)
-            else:
-                if self.is_kept(entry.path, status):
-                    found.append(Found(entry.path, front + entry.name, status))
-        return found
+        try:
+            with os.scandir(file) as entries:
+                entries = sorted([(os.fsencode(it.name), it) for it in entries])
+                if self.rules.caches and is_cache(file):
+                    self.excluded += len(entries) - 1
+                    entries = [it for it in entries if it[0] == CACHE_TAG]
+                return [it for it in [self.entry(folder, *entry) for entry in entries] if it]
+        except OSError as error:
+            self.leave_out(folder.path, error)
+            return []
+        finally:
+            os.close(file)
 
-    def is_kept(self, path, status):
-        mode = status.st_mode
+    def entry(self, folder, name, entry):
+        """An entry of a folder, if the backup has it."""
+        path = os.path.join(folder.path, name)
+        try:
+            status = entry.stat(follow_symlinks=False)
+        except OSError as error:
+            self.leave_out(path, error)
+            return None
+        found = Found(path, name if folder.name == TOP else folder.name + b"/" + name, status)
+        return found if self.is_kept(found) else None
+
+    def is_kept(self, found):
+        status, mode = found.status, found.status.st_mode
         if stat.S_ISSOCK(mode):
-            self.left_out.append(LeftOut(path, "a socket", wanted=False))
+            self.left_out.append(LeftOut(found.path, "a socket", wanted=False))
             return False
         if self.store and os.path.samestat(status, self.store):
-            self.left_out.append(LeftOut(path, "the store itself", wanted=False))
+            self.left_out.append(LeftOut(found.path, "the store itself", wanted=False))
             return False
         large = self.rules.largest is not None and stat.S_ISREG(mode) and status.st_size > self.rules.largest
-        if large or self.pattern and self.pattern.match(path + b"/" if stat.S_ISDIR(mode) else path):
+        if large or self.pattern and self.pattern.match(b"/" + found.name + (b"/" if stat.S_ISDIR(mode) else b"")):
             self.excluded += 1
             return False
         return True
@@ -147,13 +182,3 @@ class Walk:
 
     def leave_out(self, path, error):
         self.left_out.append(LeftOut(path, "vanished as it was read" if error.errno == errno.ENOENT else error.strerror))
-
-
-def opened(found):
-    """A file that was found, open, if it is still that file. No link is followed, and nothing waits at a pipe that took its place."""
-    file = os.open(found.path, os.O_RDONLY | os.O_NOFOLLOW | os.O_NONBLOCK | os.O_CLOEXEC)
-    status = os.fstat(file)
-    if not stat.S_ISREG(status.st_mode) or not os.path.samestat(status, found.status):
-        os.close(file)
-        raise OSError(errno.ESTALE, "another took its place as it was read", found.path)
-    return file, status

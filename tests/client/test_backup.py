@@ -3,8 +3,7 @@ import os, random, shutil, subprocess, tempfile, time, unittest
 
 import stores
 import trees
-from pbclient import backup, look, members, queries, restore, tars, walk  # (a child that is another user may not be able to import them)
-from stores import s
+from pbclient import backup, look, members, queries, restore, tars, walk  # (some for a child, which may not be able to import them)
 
 SEEDS, AT_ONCE = range(50), 10
 IS_ROOT = os.geteuid() == 0
@@ -165,6 +164,7 @@ class Nights(WithTree):
         self.assertEqual(self.backup(self.top, "/nowhere/at/all", status=3)["left_out"], 1)
         self.fails(1, "nothing could be read", "backup", "host/b", "/nowhere/at/all")
         self.fails(2, "nothing is named", "backup", "host/b")
+        self.fails(1, "nothing could be read", "backup", "host/b", "/dev/null")
 
     def test_notes_and_time(self):
         self.write("a")
@@ -366,6 +366,14 @@ class Restores(WithTree):
         self.assertFalse(os.path.exists(self.out))
         self.fails(1, "the snapshot has no x", "restore", "host/a", "x", "--target", self.out, "-n")
 
+    @unittest.skipUnless(IS_ROOT, "this is not root, whose restores alone set owners")
+    def test_no_program_becomes_anothers(self):
+        path = self.write("program")
+        os.chmod(path, 0o4755)
+        self.backup()
+        self.done("restore", "host/a", "--target", self.out, "--no-owner")
+        self.assertEqual(os.stat(self.restored(path)).st_mode & 0o7777, 0o755)
+
     def test_words(self):
         self.fails(2, "where it is restored to", "restore", "host/a")
         self.fails(2, "one image", "restore", "host/a", "--image", "x")
@@ -440,6 +448,8 @@ class Restores(WithTree):
         names = [it["path"] for it in self.objects("ls", "host/a", self.top)]
         self.assertEqual(names, [f"{self.top}/{it}"[1:] for it in ("etc", "web")])
         self.assertEqual(len(self.objects("ls", "-R", "host/a")), 9)
+        for above in ("/", os.path.dirname(self.top)):
+            self.assertEqual([it["path"] for it in self.objects("ls", "host/a", above)], [self.top[1:]])
         self.fails(1, "the snapshot has no x", "ls", "host/a", "x")
         found = [it["path"] for it in self.objects("find", "host/a", "etc/*")]
         self.assertEqual(found, [f"{self.top}/etc/{it}"[1:] for it in ("hosts", "sub")])
@@ -478,6 +488,7 @@ class Images(WithTree):
         self.assertEqual(self.read(out), self.read(path))
         self.assertLess(os.stat(out).st_blocks * 512, 5_000_000)
         self.fails(1, "is there already", "restore", "host/a", "disk.fidx", "--image", out)
+        self.fails(1, "has no folders, but disk.fidx", "restore", "host/a", "--target", self.out)
         self.done("restore", "host/a", "disk.fidx", "--image", out, "--overwrite", "always")
         self.assertEqual(Trees.dumped(self, "host/a", "disk"), self.read(path))
         with open(path, "r+b") as it:

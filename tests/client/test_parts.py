@@ -131,6 +131,15 @@ class Walks(unittest.TestCase):
             with self.subTest(patterns=patterns):
                 self.assertEqual(everything - self.names(*patterns)[0], gone)
 
+    def test_odd_patterns(self):
+        for pattern, name, matches in [
+                (b"[[]x]", b"/[x]", True), (b"[a&&b]", b"/&", True), (b"[^a]", b"/b", False), (b"[^a]", b"/^", True), (b"[!a]", b"/b", True),
+                (b"a.b", b"/axb", False), (b"a\\b", b"/a\\b", True), (b"[x", b"/[x", True), (b"\xff*", b"/\xff\xfe", True),
+                (b"a\nb", b"/c/a\nb/", True), (b"**", b"/a/b", True)]:
+            self.assertEqual(bool(walk.compiled([pattern]).match(name)), matches, pattern)
+        self.assertRaises(Failure, walk.compiled, [b"[z-a]"])
+        self.assertIsNone(walk.compiled([]))
+
     def test_caches_and_large_files(self):
         everything, _ = self.names()
         found, it = self.names(caches=True)
@@ -162,6 +171,21 @@ class Walks(unittest.TestCase):
             put()
             with self.assertRaises(OSError):
                 walk.opened(found)
+
+    def test_a_link_that_takes_a_folders_place_is_not_followed(self):
+        it = walk.Walk(walk.Rules())
+        for found in it.through(self.top):
+            if found.path == os.fsencode(os.path.join(self.top, "a", "deep")):
+                os.rename(found.path, found.path + b"-moved")
+                os.symlink("/etc", found.path)
+        (path, why, wanted), = it.left_out
+        self.assertEqual((path, wanted), (os.fsencode(os.path.join(self.top, "a", "deep")), True))
+        self.assertTrue(why)
+
+    def test_a_pipe_in_place_of_a_caches_tag(self):
+        os.unlink(os.path.join(self.top, "cache/CACHEDIR.TAG"))
+        os.mkfifo(os.path.join(self.top, "cache/CACHEDIR.TAG"))
+        self.assertEqual(self.names(caches=True)[1].excluded, 0)
 
     def test_a_folder_that_may_not_be_read_is_told(self):
         with mock.patch("os.scandir", side_effect=PermissionError(13, "Permission denied")):
@@ -278,6 +302,7 @@ class Words(unittest.TestCase):
             return [(it.group, list(it.archives.values())) for it in jobs_of(mock.Mock(group=group, path=list(path), image=image, stdin=stdin))]
 
         self.assertEqual(jobs("host/a", "/x", "and", "host/b", "/y", "/z"), [("host/a", ["/x"]), ("host/b", ["/y", "/z"])])
+        self.assertRaises(Failure, jobs, "host/a", *(f"/x{number}" for number in range(32)))
         for words in (["host/a"], ["host/a", "/x", "and"], ["host/a", "/x", "and", "/y"], ["host/a", "/x", "and", "host/a", "/y"]):
             self.assertRaises(Failure, jobs, *words)
         self.assertRaises(Failure, jobs, "host/a", "/x", "and", "host/b", "/y", stdin="n")
