@@ -7,9 +7,8 @@ from .report import failure_of
 from .served import dial, talks
 from .talk import Ended, NoProgram, Refused, Run, program
 
-# The status of the program for a fault of the disk, and the refusals that come of one.
-DISK_FAULT, DISK_REFUSALS = 3, ("DiskFault", "Halted")
-DAMAGES = ("Damaged", "Unreadable")
+# The status of the program for a fault of the disk.
+DISK_FAULT = 3
 ADVICE = {
     "GroupBusy": "wait for the other backup's end",
     "SnapshotBusy": "wait for the end of what uses it",
@@ -159,9 +158,9 @@ class Call:
             return store.closed(error.filename, self.root)
         if isinstance(error, OSError):
             return failure_of(error)
-        if isinstance(error, Refused) and error.name not in DISK_REFUSALS:
+        if isinstance(error, Refused) and not error.is_disk:
             advice = ADVICE.get(error.name, "look at the words; if they are right this is a fault of pbclient")
-            return Failure(str(error), advice, DAMAGED if error.name in DAMAGES else FAILED)
+            return Failure(str(error), advice, DAMAGED if error.is_damage else FAILED)
         if isinstance(error, Refused) and self.way:
             return Failure(f"the store's disk failed: {error}", "look at the server's log and at the store's disk, then run again")
         if isinstance(error, Refused) or error.status == DISK_FAULT:

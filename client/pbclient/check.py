@@ -29,6 +29,12 @@ class Damage:
     def __bool__(self):
         return bool(self.files or self.chunks)
 
+    def add(self, path, refused):
+        """Notes why a snapshot or a file of it can't be read. A refusal of another kind goes on."""
+        if not refused.is_damage:
+            raise refused
+        self.files[path] = str(refused)
+
 
 def index_of(talk, snapshot, name):
     """The archive's index, read from the store. The session has a reader of the snapshot."""
@@ -45,14 +51,14 @@ def indexes_of(talk, snapshot, found):
         files = queries.files_of(talk, snapshot)
         talk.ask(s.open_reader(snapshot))
     except Refused as refused:
-        found.files[snapshot] = str(refused)
+        found.add(snapshot, refused)
         return
     for it in files:
         if it.name.endswith(ARCHIVES):
             try:
                 yield index_of(talk, snapshot, it.name)
             except Refused as refused:
-                found.files[f"{snapshot}/{it.name}"] = str(refused)
+                found.add(f"{snapshot}/{it.name}", refused)
     talk.ask(s.close_reader())
 
 
@@ -139,9 +145,7 @@ def verify_one(call, talk, snapshot, found):
     try:
         reply = talk.ask(s.verify(snapshot))
     except Refused as refused:
-        if refused.name != "Unreadable":
-            raise
-        found.files[snapshot] = str(refused)
+        found.add(snapshot, refused)
         return 0, 0
     _, entries, count, faults = struct.unpack("<BQQB", reply[:18])
     for name, fault in queries.texts_in(reply[18:], faults, 33):

@@ -3,7 +3,6 @@ import fcntl, os
 
 from . import queries, store
 from . import session as s
-from .call import DAMAGES, DISK_REFUSALS
 from .failures import DAMAGED, DONE, FAILED, Failure, mistyped
 from .report import counted
 from .talk import Refused
@@ -82,10 +81,10 @@ def copy_group(report, talk, group):
     try:
         copied = queries.names(talk, s.sync(group))
     except Refused as refused:
-        if refused.name in DISK_REFUSALS:
+        if refused.is_disk:
             raise
         tell(report, [it for it in queries.in_group(talk, group) if it not in before])
-        status = DAMAGED if refused.name in DAMAGES else FAILED
+        status = DAMAGED if refused.is_damage else FAILED
         raise Failure(f"{group}: {refused}", "pbclient check tells what is wrong with the store that it comes from", status) from None
     tell(report, copied)
     if not copied:

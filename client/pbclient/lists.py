@@ -19,6 +19,8 @@ def facts_of(talk, row):
         files = [it for it in queries.files_of(talk, row.snapshot) if it.name != s.MANIFEST]
         noted = queries.read_manifest(talk, row.snapshot).get("unprotected")
     except (Refused, ValueError) as error:
+        if isinstance(error, Refused) and not error.is_damage:
+            raise
         return {**facts, "damaged": True, "fault": str(error)}
     facts["files"] = [{"name": it.name, "size": it.size, "csum": it.csum.hex()} for it in files]
     facts["size"] = sum(it.size for it in files)

@@ -142,17 +142,26 @@ Documentation=man:pbclient(1)
 ConditionPathExists={SERVED}/%i
 
 [Service]
-# (the file has a line STORE=/srv/store, and perhaps one OPTIONS=--group backup)
+User=pbstore
+# (the file has a line STORE=/srv/store, and perhaps one OPTIONS="--group backup-ssh --trust backup-ssh")
 EnvironmentFile={SERVED}/%i
 ExecStart={command} serve --name %i $OPTIONS ${{STORE}}
-ExecReload=kill -HUP $MAINPID
+ExecReload=/bin/kill -HUP $MAINPID
 RuntimeDirectory=pbstore
+RuntimeDirectoryMode=0755
+# (another store's server may have its socket there)
 RuntimeDirectoryPreserve=yes
 UMask=0077
+# (the program ends by itself, once its sessions have ended, and saves its book)
 KillMode=mixed
 # (longer than --grace and --stop-limit together)
 TimeoutStopSec=700
 Restart=on-failure
+LimitNOFILE=4096
+NoNewPrivileges=yes
+ProtectSystem=full
+PrivateTmp=yes
+RestrictAddressFamilies=AF_UNIX
 
 [Install]
 WantedBy=multi-user.target

@@ -49,6 +49,8 @@ WORDS = {
     "NoRemote": "there is no second store to pull from",
     "RemoteFault": "the second store's disk failed",
 }
+# The refusals of a disk that failed, and those of what is damaged on it.
+DISK_REFUSALS, DAMAGES = ("DiskFault", "Halted"), ("Damaged", "Unreadable")
 # So long a run is waited for whose sessions have all ended.
 END_SECONDS = 5
 # (`fcntl.F_SETPIPE_SZ` is in Python from 3.10 on)
@@ -61,6 +63,16 @@ class Refused(Exception):
     def __init__(self, body):
         self.body, self.number, self.name = body, body[0], REFUSALS.get(body[0], "?")
         super().__init__(f"{self.words(body[1:])} ({self.name}, {self.number})")
+
+    @property
+    def is_damage(self):
+        """Whether a file of the store is missing or damaged; the run goes on."""
+        return self.name in DAMAGES
+
+    @property
+    def is_disk(self):
+        """Whether the disk failed; the run does nothing more."""
+        return self.name in DISK_REFUSALS
 
     def words(self, fields):
         if self.name == "WrongState":

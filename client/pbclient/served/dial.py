@@ -2,7 +2,7 @@
 
     unix:/run/pbstore/main.sock       a socket of this machine
     ssh://USER@HOST[:PORT]/NAME       the store NAME of another machine, by ssh
-    /srv/store                        a folder of this machine; None where no server has it
+    /srv/store                        a folder of this machine; None if no server has it
 """
 import contextlib, os, re, shlex, socket, subprocess
 from typing import Callable, NamedTuple

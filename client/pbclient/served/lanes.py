@@ -1,6 +1,6 @@
 """A lane of the running program: two named pipes, which serve one client after another.
 
-A lane is *at rest* where it has no session, owes no reply and has no frame begun. It then answers as a new one does, but that it counts the
+A lane is *at rest* if it has no session, owes no reply and has no frame begun. It then answers as a new one does, but that it counts the
 offsets of BadFrame from its own first byte; `reply` counts them from the client's.
 """
 import fcntl, os, select, struct, time
@@ -11,7 +11,7 @@ from . import limits
 # A pipe's, in bytes; and of a reply so many are read at once.
 PIPE_SIZE = PART = 1 << 18
 SET_PIPE_SIZE = 1031
-# LIST behind the last name that there can be: legal in any state, and tells nothing.
+# LIST after the last name that there can be: legal in any state, and tells nothing.
 LOOK = s.list_after("vm/" + "z" * 64 + "/9999-12-31T23:59:59Z")
 JOBS = {s.PRUNE, s.VERIFY, s.SYNC, s.GC}
 BAD_FRAME, DISK_FAULT, HALTED, NO_MEMORY = 1, 26, 27, 28
@@ -30,7 +30,7 @@ def wait_for(pipe, event, seconds):
 
 
 def widen(pipe):
-    """A longer pipe takes fewer turns; where the system gives none, it stays."""
+    """A longer pipe takes fewer turns; if the system gives none, it stays."""
     try:
         fcntl.fcntl(pipe, SET_PIPE_SIZE, PIPE_SIZE)
     except OSError:
@@ -104,7 +104,7 @@ class Lane:
             give(part)
 
     def fill(self, view, limit=None):
-        """Reads as many bytes as there is room for. Where they do not begin to come in time, the lane has ended."""
+        """Reads as many bytes as there is room for. If they do not begin to come in time, the lane has ended."""
         if limit and not wait_for(self.replies, select.POLLIN, limit):
             raise LaneEnded
         while view:

@@ -17,7 +17,7 @@ HELLO = 10
 # The program keeps the order of a run in memory, 32 bytes a command, and saves its book of touches at the run's end. So a run of so many
 # commands, or so old, is ended and the store opened anew.
 RUN_COMMANDS, RUN_AGE = 2_500_000, 86_400
-# New clients wait so long for the sessions of a run that is to end. Where some go on then, it is tried again in so long.
+# New clients wait so long for the sessions of a run that is to end. If some go on then, it is tried again in so long.
 RENEWAL, NEXT_RENEWAL = 120, 21_600
 # Sessions of a run whose disk failed are ended after this time, and a client that does not take its last replies is left after this one.
 HALTED, LAST_REPLIES = 60, 10

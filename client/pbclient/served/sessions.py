@@ -1,5 +1,5 @@
 """A client on a lane: its frames go to the lane, the lane's replies to it. One thread does the first, another the second, and each waits
-where the other side does not take: so a slow client holds its own lane alone, and no more than a frame of it is held in memory.
+while the other side does not take: so a slow client holds its own lane alone, and no more than a frame of it is held in memory.
 """
 import collections, contextlib, mmap, socket, struct, threading, time
 
