@@ -7,6 +7,7 @@ import contextlib, errno, grp, os, pwd, stat
 from functools import lru_cache
 
 from . import tars
+from .failures import Failure
 from .tars import Damaged
 from .walk import TOP
 
@@ -15,6 +16,8 @@ BESIDE = b".pbclient-%d.tmp" % os.getpid()
 # Zeros are looked for in blocks of so many bytes.
 ZERO_BLOCK = 64 << 10
 ZEROS = bytes(ZERO_BLOCK)
+# With these errors of the system no other member can be restored either.
+NO_USE = {errno.ENOSPC, errno.EDQUOT, errno.EROFS}
 SET_IDS = stat.S_ISUID | stat.S_ISGID
 NO_NAMES = {b"", b".", b".."}
 
@@ -62,9 +65,13 @@ class Place:
 
     def start(self):
         """Opens the folder, and makes it if it is not there."""
-        os.makedirs(self.target, exist_ok=True)
+        try:
+            os.makedirs(self.target, exist_ok=True)
+            top = os.open(self.target, os.O_RDONLY | os.O_DIRECTORY)
+        except OSError as error:
+            raise Failure(f"{self.target} is no folder to restore into: {error.strerror}", "name a folder, or one that can be made") from None
         # The folders that are open: of each its name, its number, and the member whose rights it gets as it is left.
-        self.open.append((None, os.open(self.target, os.O_RDONLY | os.O_DIRECTORY), None))
+        self.open.append((None, top, None))
 
     def __exit__(self, kind, *cause):
         while self.open:
@@ -87,6 +94,8 @@ class Place:
                 self.kept.add(member.name)
                 self.tell(member.name, str(kept))
         except OSError as error:
+            if error.errno in NO_USE:
+                raise Failure(f"{self.target}: {error.strerror}", "make room there, then restore again with --overwrite if-changed") from None
             self.tell(member.name, error.strerror)
 
     # Folders

@@ -374,6 +374,16 @@ class Restores(WithTree):
         self.done("restore", "host/a", "--target", self.out, "--no-owner")
         self.assertEqual(os.stat(self.restored(path)).st_mode & 0o7777, 0o755)
 
+    def test_a_target_that_can_be_none(self):
+        self.fails(1, "is no folder to restore into", "restore", "host/a", "--target", self.write("web/index"))
+
+        def no_room(*_):
+            raise OSError(28, "No space left on device")
+
+        self.fails(1, "No space left on device", "restore", "host/a", "--target", self.out, become=lambda: setattr(os, "pwrite", no_room))
+        self.assertFalse([it for _, _, files in os.walk(self.out) for it in files])
+        self.done("restore", "host/a", "--target", self.out, "--overwrite", "if-changed")
+
     def test_words(self):
         self.fails(2, "where it is restored to", "restore", "host/a")
         self.fails(2, "one image", "restore", "host/a", "--image", "x")
