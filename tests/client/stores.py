@@ -1,5 +1,5 @@
 """Small stores for the tests of the client: snapshots of set times, made by sessions of commands; and calls of the client on them."""
-import json, os, sys, tempfile, time, traceback, unittest
+import json, os, signal, sys, tempfile, time, traceback, unittest
 
 HERE = os.path.dirname(os.path.abspath(__file__))
 TOP = os.path.dirname(os.path.dirname(HERE))
@@ -18,6 +18,11 @@ NAME = "root.didx"
 HOUR = 3600
 # (a store in memory, since a run syncs often)
 FAST = "/dev/shm"
+
+
+def heeds_interrupts():
+    """In a child: an interrupt ends it, also where the tests run in a shell's background, which has it ignored."""
+    signal.signal(signal.SIGINT, signal.SIG_DFL)
 
 
 def digest(piece):

@@ -154,6 +154,7 @@ class Killed(stores.WithStore):
         """A backup of standard input under way, some of which is stored, and its program's process."""
         words = [stores.CLIENT, "-r", self.root, "backup", "host/me", "--stdin", "data"]
         more = {"env": {**os.environ, "TMPDIR": self.places}, "stdin": subprocess.PIPE, "stdout": subprocess.PIPE, "stderr": subprocess.PIPE}
+        more["preexec_fn"] = stores.heeds_interrupts
         client, before = subprocess.Popen(words, **more), self.count()
         self.addCleanup(client.stdin.close)
         client.stdin.write(random.Random(2).getrandbits(8 * 10 * MIB).to_bytes(10 * MIB, "little"))

@@ -42,7 +42,7 @@ class Waits(stores.WithStore):
         lock = os.open(self.root, os.O_RDONLY)
         fcntl.flock(lock, fcntl.LOCK_EX)
         words = [stores.CLIENT, "-r", self.root, "--wait", "300", "-q", "snapshots"]
-        client = subprocess.Popen(words, stdout=subprocess.DEVNULL, stderr=subprocess.PIPE)
+        client = subprocess.Popen(words, stdout=subprocess.DEVNULL, stderr=subprocess.PIPE, preexec_fn=stores.heeds_interrupts)
         while not store.is_locked(os.path.join(self.root, store.CHUNKS)):
             time.sleep(0.1)
         return client, lock
