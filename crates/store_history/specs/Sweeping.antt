@@ -213,7 +213,7 @@ names_key (Some named) key = same_key key named
 -- a FORGET of the snapshot was done
 abbrev pub takes_key : OnList → Option Reply → SnapshotKey → Bool
 takes_key (takes_out text) (Some Done) key = names_key (key_of text) key
-takes_key list reply key = false
+takes_key other reply key = false
 
 abbrev pub forgets : Act → Option Reply → SnapshotKey → Bool
 forgets act reply key = takes_key (profile act).list reply key
