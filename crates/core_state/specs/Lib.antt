@@ -33,6 +33,7 @@ pub mod Catalogued
 pub mod Changes
 pub mod Listing
 pub mod Unreadables
+pub mod Damages
 pub mod Calls
 pub mod Stops
 pub mod Remotes
@@ -40,6 +41,7 @@ pub mod Wanted
 pub mod PassedTests
 pub mod Commands
 pub mod FromState
+pub mod Tells
 pub mod Passes
 pub mod Applies
 pub mod Recovers
