@@ -289,6 +289,7 @@ module _ {D E C : Type 0} (d : Ghosts D) (clock : clocks.Ghosts C) where
         listed = ap (λ p. p.catalogue.listed) parts ∙ sym (ap (λ r. listed_by act r answer.place (kept_at old.parts lane)) is
             ∙ unlisted act refusal answer.place (kept_at old.parts lane));
         admin = λ _. (ap (λ p. p.sessions.items) parts, ap (λ p. p.locks) parts);
+        others = λ i _. ap (λ p. session_at p i) parts;
         ended = λ _. undone answer refusal is;
         rows = λ i _. ap (λ p. row_at p i) parts;
         halted = where_some _ _ (refused_same d clock.readings old new lane answer refuses);
@@ -410,6 +411,7 @@ module _ {D E C : Type 0} (d : Ghosts D) (clock : clocks.Ghosts C) where
             ∙ ap (λ n. listed_by act (Some (reply_by (told result))) n (kept_at old.parts at.lane)) (number ∙ sym (settles.place ∙ ap (λ j. length j.entries.items) rest.journal))
             ∙ ap (λ r. listed_by act r answer.place (kept_at old.parts at.lane)) (sym reply);
         admin = λ is. (ap (λ p. p.sessions.items) settles.parts ∙ (leaves.admin is).0 ∙ ap (λ p. p.sessions.items) before, ap (λ p. p.locks) settles.parts ∙ (leaves.admin is).1 ∙ ap (λ p. p.locks) before);
+        others = λ i other. ap (λ p. session_at p i) settles.parts ∙ leaves.others i other ∙ ap (λ p. session_at p i) before;
         ended = λ ends done. subst (λ p. HasEnded p at.lane) (sym settles.parts) (done_told _ result (leaves.ended ends) (if_plain answer.reply _ reply done));
         rows = λ i keeps. ap (λ p. row_at p i) settles.parts ∙ leaves.rows i (λ is. row_told act result does.plain (sym (ap (λ r. row_stays_by r act) reply) ∙ keeps is)) ∙ ap (λ p. row_at p i) before;
         halted = where_none _ _ ready.no_fault;

@@ -221,6 +221,7 @@ module _ {D E C : Type 0} (d : Ghosts D) (e : Ghosts E) (clock : clocks.Ghosts C
         firm = λ _ _. subst (IsFirm d (old.parts).disk (new.parts).disk) (sym change) tt;
         listed = ap (λ p. p.catalogue.listed) parts ∙ sym (remote_lists answer.reply answer.place (kept_at old.parts k) act remotes);
         admin = λ _. (ap (λ p. p.sessions.items) parts, ap (λ p. p.locks) parts);
+        others = λ i _. ap (λ p. session_at p i) parts;
         ended = λ ends. absurd (remote_ends act remotes ends);
         rows = λ i _. ap (λ p. row_at p i) parts;
         halted = where_none _ _ ready.no_fault;

@@ -80,6 +80,7 @@ module _ {D E C : Type 0} (d : Ghosts D) (clock : clocks.Ghosts C) (old mid new 
         firm = λ _ _. tt;
         listed = ap (λ p. p.catalogue.listed) parts;
         admin = λ _. (ap (λ p. p.sessions.items) parts, ap (λ p. p.locks) parts);
+        others = λ i _. ap (λ p. session_at p i) parts;
         ended = λ ends. absurd (false_true ends);
         rows = λ i _. ap (λ p. row_at p i) parts;
         halted = where_none _ _ ready.no_fault;
@@ -155,6 +156,7 @@ module _ {D E C : Type 0} (d : Ghosts D) (clock : clocks.Ghosts C) (old mid new 
         listed = ap (λ p. p.catalogue.listed) kept ∙ sym (ap (λ r. listed_by act r answer.place (kept_at old.parts k)) reply_is
             ∙ unlisted act refusal answer.place (kept_at old.parts k));
         admin = λ _. (ap (λ p. p.sessions.items) kept, ap (λ p. p.locks) kept);
+        others = λ i _. ap (λ p. session_at p i) kept;
         ended = λ _. undone answer refusal reply_is;
         rows = λ i _. ap (λ p. row_at p i) kept;
         halted = where_none _ _ ready.no_fault;

@@ -1,15 +1,19 @@
 -- What an act tells, behind its entry: by how its command ended, and where it was refused before it was done.
-use Rattle.std.proofs.Common.{◌≡◌, ◌≤◌, ◌+◌, ℕ, List, Option, Some, None, IfSome, IsSomeAnd, Result, Ok, Err, IfOk, refl, sym, ap, subst, ◌∙◌, arith}
+use Rattle.std.proofs.Common.{◌≡◌, ◌≤◌, ◌+◌, ℕ, List, Option, Some, None, IfSome, IsSomeAnd, Result, Ok, Err, IfOk, IsTrue, true, false, refl, sym, ap, subst, ◌∙◌, arith}
 use Rattle.disk_trait.specs.declared.disk.Disk.{Ghosts}
 use Rattle.disk_trait.specs.declared.disk.DiskError.{DiskError}
 use Rattle.disk_trait.specs.declared.disk.DiskError.TheVariants as disks
 use Rattle.disk_trait.specs.Files.{Files}
 use Rattle.index_pages.specs.Calls.{CallsAtMost}
 use Rattle.port_traits.specs.Readings.{Readings}
+use Rattle.store_types.specs.declared.names.Digest32.{Digest32}
 use Rattle.store_types.specs.declared.order.TheConstants.{COMMAND_KIND, FAULT_KIND, MEMORY_KIND}
+use Rattle.store_types.specs.declared.refusal.ChunkFault.{ChunkFault}
+use Rattle.store_types.specs.declared.refusal.Refusal.{Refusal}
 use Rattle.store_types.specs.declared.refusal.Refusal.TheVariants as refusals
 use Rattle.wire_commands.specs.declared.reply.Reply.{Reply}
 use Rattle.wire_commands.specs.declared.reply.Reply.TheVariants as replies
+use Rattle.store_history.specs.declared.act.Act.{Act}
 use Rattle.store_history.specs.declared.act.Answer.{Answer}
 use Rattle.store_stops.specs.declared.stop.Stop.{Stop}
 use Rattle.store_stops.specs.declared.stop.Stop.TheVariants.{Refused, NoMemory, DiskFailed}
@@ -20,14 +24,18 @@ use Rattle.core_state.specs.Begins.{IsAdmitted, Refuses, short as is_out_of_memo
 use Rattle.core_state.specs.Calls.{CallsForAsked}
 use Rattle.core_state.specs.Commands.{IsNoRefusal}
 use Rattle.core_state.specs.Damages.{TellsDamaged}
-use Rattle.core_state.specs.Kept.{kept_at}
+use Rattle.core_state.specs.Kept.{KeptAt, kept_at}
+use Rattle.core_state.specs.Replies.{may_answer}
 use Rattle.core_state.specs.Settles.{Settles, kind_by, reply_by}
 use Rattle.core_state.specs.Stops.{ended_by, told}
-use Rattle.core_state.specs.Tells.{ActTells, CallsBy, CoreTells, Words, asked_calls}
+use Rattle.core_state.specs.Tells.{ActTells, CallsBy, CoreTells, Words, asked_calls, plain_words}
 use Rattle.core_state.specs.Unreadables.{Asked, TellsUnreadable, Way, as_listing, at_entry, from_offset, known, read_with}
-use Rattle.core_state.proofs.DamageLemmas.{damages_none, damages_stopped, halted_undamaged, memory_undamaged}
+use Rattle.core_state.proofs.DamageLemmas.{damages_failed, damages_none, damages_stopped, halted_undamaged, memory_undamaged}
 use Rattle.core_state.proofs.FromState.{undone_kind}
-use Rattle.core_state.proofs.Unreadables.{tells_refused}
+use Rattle.core_state.proofs.Unreadables.{tells_failed, tells_other, tells_refused}
+
+false_true : false ≡ true → ⊥
+false_true e = cc
 
 -- ---- how often the disk was called
 
@@ -123,3 +131,33 @@ module _ {D E C : Type 0} (words : Words D) (d : Ghosts D) (readings : C → Opt
       damages_refused (is_halted is) =
           let kind : (answer.entry).kind ≡ FAULT_KIND = ap (λ x. x.kind) (is.entered).entry in
           damages_stopped d (old.parts).disk _ _ _ answer.reply (λ digest f e. halted_undamaged is.first digest f (sym (is.entered).reply_is ∙ e)) (λ k. absurd (omega (arith, k, kind)))
+
+-- ---- an act that asks for no file, and needs no chunk
+
+module _ {D : Type 0} (d : Ghosts D) (old new : Parts D) (at : Place) (act : Act) (answers : Ghosts D → D → KeptAt → Reply → Type 0) where
+  -- none of its replies names one
+  pub plain_tells : (result : Result Reply Stop) → ((name : List ℕ) → may_answer act (replies.Refused (refusals.Unreadable name)) ≡ false)
+      → ((digest : Digest32) (found : ChunkFault) → may_answer act (replies.Refused (refusals.Damaged digest found)) ≡ false)
+      → IfOk (told result) (λ reply. IsTrue (may_answer act reply)) → IfOk (told result) (answers d old.disk (kept_at old at.lane)) → ActTells (plain_words answers) d old new at result
+  plain_tells result unread undamaged may so = record {
+    answers = so;
+    unreadable = by_outcome (told result) may;
+    damaged = undamaged_by (told result) may;
+    calls = λ honest. tt;
+    notes = tt;
+  }
+    where
+      same : (r : Reply) (refusal : Refusal) → Some r ≡ Some (replies.Refused refusal) → r ≡ replies.Refused refusal
+      same r refusal e = cc
+
+      never : (r : Reply) (refusal : Refusal) → IsTrue (may_answer act r) → may_answer act (replies.Refused refusal) ≡ false → Some r ≡ Some (replies.Refused refusal) → ⊥
+      never r refusal may none e = false_true (sym none ∙ ap (may_answer act) (sym (same r refusal e)) ∙ may)
+
+      by_outcome : (outcome : Result Reply DiskError) → IfOk outcome (λ reply. IsTrue (may_answer act reply)) → TellsUnreadable d old.disk None (kind_by outcome) (Some (reply_by outcome))
+      by_outcome (Ok reply) may = tells_other d old.disk None 0 (Some reply) (λ name. never reply (refusals.Unreadable name) may (unread name)) refl
+      by_outcome (Err e) may = tells_failed d old.disk None e
+
+      undamaged_by : (outcome : Result Reply DiskError) → IfOk outcome (λ reply. IsTrue (may_answer act reply))
+          → TellsDamaged d old.disk (λ digest. ⊥) (λ files. None) (kind_by outcome) (Some (reply_by outcome))
+      undamaged_by (Ok reply) may = damages_none d old.disk (λ digest. ⊥) (λ files. None) 0 (Some reply) (λ digest found. never reply (refusals.Damaged digest found) may (undamaged digest found)) (λ honest. refl)
+      undamaged_by (Err e) may = damages_failed d old.disk (λ digest. ⊥) (λ files. None) e

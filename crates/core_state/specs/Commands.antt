@@ -102,6 +102,10 @@ row_stays_by reply act = keeps_row act
 abbrev pub RowsStay : {D : Type 0} → Parts D → Parts D → ℕ → Bool → Type 0
 RowsStay old new lane stays = (i : ℕ) → (i ≡ lane → stays ≡ true) → row_at new i ≡ row_at old i
 
+-- no other lane's session has changed
+abbrev pub OthersStay : {D : Type 0} → Parts D → Parts D → ℕ → Type 0
+OthersStay old new lane = (i : ℕ) → (i ≡ lane → ⊥) → session_at new i ≡ session_at old i
+
 -- so it is after an act that was done
 abbrev pub LeavesRows : {D : Type 0} → Parts D → Parts D → ℕ → Act → Type 0
 LeavesRows old new lane act = RowsStay old new lane (keeps_row act)
@@ -146,6 +150,7 @@ pub record ActLeaves {D : Type 0} (d : Ghosts D) (old new : Parts D) (at : Place
   pub closed : closes act (session_at old at.lane) ≡ true → HasClosed new at.lane (told result)
   pub ended : ends_session act ≡ true → IfOk result (λ _. HasEnded new at.lane)
   pub writes : leaves_writer act ≡ true → IfOk result (λ _. is_writer (session_at new at.lane) ≡ true)
+  pub others : OthersStay old new at.lane
   -- what the lanes keep of indexes
   pub rows : RowsStay old new at.lane (row_stays result act)
 
