@@ -45,7 +45,7 @@ use Rattle.core_state.specs.Unchanged.{Unchanged}
 use Rattle.core_state.specs.Upkeeps.{touches_kept}
 use Rattle.core_state.specs.Wanted.{session_at}
 use Rattle.core_state.proofs.Answered.{IsAsked, WorldMoves, begun_acted, refused_stands}
-use Rattle.core_state.proofs.Answering.{entered_answered, refused_answered, refused_told, where_none}
+use Rattle.core_state.proofs.Answering.{entered_answered, refused_answered, refused_told, same_honest, where_none}
 use Rattle.core_state.proofs.Applying.{IsNoEnd, class_told, closes_none, early_by, no_start_kind, refused_collector, refused_kept, refused_remote}
 use Rattle.core_state.proofs.Caused.{refused_caused}
 use Rattle.core_state.proofs.Collecting.{short_shown, step_shown}
@@ -244,7 +244,7 @@ module _ {D E C : Type 0} (d : Ghosts D) (e : Ghosts E) (clock : clocks.Ghosts C
   answered : GivesFit act ended → IsAnswered d old new k answer
   answered fit =
       entered_answered d old acted new k m n (Some (reply_by ended)) answer settles (b.entries).entries (b.entries).calls (fit_text act ended fit)
-      (b.fault ∙ ready.no_fault ∙ sym (unfaulted ended)) (let x = ap (λ p. d.faults p.disk) b.parts in omega (arith, x)) (λ five. absurd ((kind_calm ended).1 five))
+      (b.fault ∙ ready.no_fault ∙ sym (unfaulted ended)) (let x = ap (λ p. d.faults p.disk) b.parts in omega (arith, x)) (same_honest d _ _ (ap (λ p. p.disk) b.parts)) (λ five. absurd ((kind_calm ended).1 five))
     where
       unfaulted : (r : Result Reply Stop) → Rattle.core_state.specs.Answers.fault_after (length (old.journal).entries.items) (kind_by r) old.fault ≡ None
       unfaulted (Ok reply) = ready.no_fault

@@ -118,7 +118,7 @@ module _ {D E C : Type 0} (d : Ghosts D) (clock : clocks.Ghosts C) (old acted ne
   }
 
   answers : IfSome reply ReplyHasText → IsAnswered d old new k answer
-  answers text = entered_answered d old acted new k m n reply answer is.entered is.entries is.calls text is.fault is.count is.rose
+  answers text = entered_answered d old acted new k m n reply answer is.entered is.entries is.calls text is.fault is.count is.honest is.rose
 
   -- by what it leaves, what it stands for, its book, and that it spares what is stored
   pub step_applies : IfSome reply ReplyHasText → StepHasCause d old new Step answer → (leaves : StepLeaves d old new k answer)

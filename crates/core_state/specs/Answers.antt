@@ -1,6 +1,6 @@
 -- What an act's answer is on any disk, and what stands in the order and in the counts after it.
 use Rattle.disk_trait.specs.declared.disk.Disk.{Ghosts}
-use Rattle.std.specs.Prelude.{◌≡◌, ◌≢◌, ◌≤◌, ℕ, true, ◌==◌, ◌⊎◌, [], ◌∷◌, ◌++◌, length, if◌then◌else◌, Option, Some, None, IfSome, IsSome, IsTrue}
+use Rattle.std.specs.Prelude.{◌≡◌, ◌≢◌, ◌≤◌, ◌↔◌, ℕ, true, ◌==◌, ◌⊎◌, [], ◌∷◌, ◌++◌, length, if◌then◌else◌, Option, Some, None, IfSome, IsSome, IsTrue}
 use Rattle.disk_trait.specs.Disk.{Rose}
 use Rattle.store_types.specs.declared.refusal.Refusal.TheVariants.{NoMemory, RemoteFault, DiskFault, Halted}
 use Rattle.store_types.specs.declared.order.TheConstants.{COMMAND_KIND, PART_KIND, MEMORY_KIND, START_KIND, STOP_KIND, FAULT_KIND, END_KIND, REMOTE_FAULT_KIND}
@@ -29,6 +29,8 @@ pub record IsAnswered {D E C : Type 0} (d : Ghosts D) (old new : Core D E C) (la
   pub last : answer.last ≡ true → (answer.entry).kind ≡ MEMORY_KIND
   pub fault : new.fault ≡ fault_after (length (old.journal).entries.items) (answer.entry).kind old.fault
   pub count : d.faults (old.parts).disk ≤ d.faults (new.parts).disk
+  -- an honest disk stays so
+  pub kept : d.honest (old.parts).disk ↔ d.honest (new.parts).disk
   pub cause : (answer.entry).kind ≡ FAULT_KIND → old.fault ≡ None → Rose (d.faults (old.parts).disk) (d.faults (new.parts).disk)
 
 -- Why an act that is no lane's end was answered so, on any disk: each answer has one of four causes.
