@@ -37,6 +37,7 @@ pub mod Calls
 pub mod Touching
 pub mod FromState
 pub mod Telling
+pub mod Untold
 pub mod Decided
 pub mod HeadLemmas
 pub mod Applying

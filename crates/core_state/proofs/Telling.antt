@@ -4,7 +4,6 @@ use Rattle.disk_trait.specs.declared.disk.Disk.{Ghosts}
 use Rattle.disk_trait.specs.declared.disk.DiskError.{DiskError}
 use Rattle.disk_trait.specs.declared.disk.DiskError.TheVariants as disks
 use Rattle.disk_trait.specs.Files.{Files}
-use Rattle.index_pages.specs.Calls.{CallsAtMost}
 use Rattle.port_traits.specs.Readings.{Readings}
 use Rattle.store_types.specs.declared.names.Digest32.{Digest32}
 use Rattle.store_types.specs.declared.order.TheConstants.{COMMAND_KIND, FAULT_KIND, MEMORY_KIND}
