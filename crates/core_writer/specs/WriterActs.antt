@@ -7,7 +7,7 @@ use Rattle.core_state.specs.declared.indexes.Indexes.{Indexes}
 use Rattle.core_state.specs.declared.kept.Listed.{Listed}
 use Rattle.core_state.specs.declared.kept.Session.{Session}
 use Rattle.core_state.specs.Unreadables.{Asked}
-use Rattle.core_uploads.specs.Previous.{asked_of_base}
+use Rattle.core_writer.specs.Previous.{asked_of_base}
 
 -- the file that an act asks for, beside what the lane keeps of indexes: one of the base of its writer
 abbrev pub asked_of_writer : Indexes → Act → Session → List Listed → Option Asked

@@ -15,15 +15,17 @@ ghost use Rattle.core_writer.specs.Notes.{Notes};
 ghost use Rattle.core_writer.specs.Touching.{ActTouches};
 ghost use Rattle.core_writer.specs.WriterActs.{asked_of_writer};
 
+use crate::archives::{close_index, new_dynamic, new_fixed};
 use crate::ending::{abort, end};
 use crate::finishing::finish;
 use crate::opening::open_writer;
+use crate::previous_files::previous;
 use crate::touching::{append_touched, chunk_touched};
+use crate::uploads::blob;
 use core_state::{
     Act, Admitted, Answer, Core, Family, Parts, Place, Upkeep, begin, end_session, enter,
     next_place, settle,
 };
-use core_uploads::{blob, close_index, new_dynamic, new_fixed, previous};
 use disk_trait::Disk;
 use port_traits::Clock;
 use std::alloc::Global;
