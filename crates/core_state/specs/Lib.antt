@@ -4,6 +4,7 @@ pub mod Shown
 pub mod Indexed
 pub mod Locked
 pub mod States
+pub mod Kept
 pub mod Replies
 pub mod MarkedPage
 pub mod Entries
