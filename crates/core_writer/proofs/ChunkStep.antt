@@ -31,6 +31,7 @@ use Rattle.chunk_store.proofs.Blobs.{same_data}
 use Rattle.backup_session.specs.Session.{Pool, IsPool, length_at, with_length, settled}
 use Rattle.backup_session.specs.Shown.{shown, pool_of}
 use Rattle.backup_session.proofs.Pools.{pool_of-more}
+use Rattle.core_state.specs.Kept.{KeptAt}
 use Rattle.core_state.specs.declared.kept.Session.{Session}
 use Rattle.core_state.specs.declared.kept.Session.TheVariants as kept
 use Rattle.core_state.specs.declared.kept.Writing.{Writing}
@@ -168,10 +169,10 @@ may_note digest items lane found w known named lt at wants value unknown pool =
     none_is (Some n) e = cc
 
 -- the change of an act that puts a chunk
-pub chunk_change : (x : Session) (w : Writing) (digest : Digest32) (checked : Result (List ℕ) Refusal) (bytes : List ℕ) (catalogue : List Listed) → x ≡ kept.Writer w → checked ≡ Ok bytes
-    → change_of (Chunk digest checked) x catalogue ≡ stores (chunk_name digest.0) bytes
-chunk_change x w digest checked bytes catalogue is was =
-    ap (λ y. change_of (Chunk digest checked) y catalogue) is ∙ ap (chunk_put digest) was
+pub chunk_change : (k : KeptAt) (w : Writing) (digest : Digest32) (checked : Result (List ℕ) Refusal) (bytes : List ℕ) → k.session ≡ kept.Writer w → checked ≡ Ok bytes
+    → change_of (Chunk digest checked) k ≡ stores (chunk_name digest.0) bytes
+chunk_change k w digest checked bytes is was =
+    ap (λ y. by_writer y (λ _. chunk_put digest checked)) is ∙ ap (chunk_put digest) was
 
 -- it is installed where its file isn't there
 pub puts_blob : {D : Type 0} (d : Ghosts D) (old new : D) (digest bytes : List ℕ) (result : Result (Unit {0}) DiskError) → Serves d.honest d.faults old new (IsErrOf result Failed)

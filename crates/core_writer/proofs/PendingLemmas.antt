@@ -18,6 +18,7 @@ use Rattle.store_model.specs.Store.{Store, session, with_session}
 use Rattle.store_history.specs.declared.act.Act.{Act}
 use Rattle.backup_session.specs.Session as rows
 use Rattle.backup_session.specs.Session.{held, kept, settled}
+use Rattle.core_state.specs.Kept.{kept_at}
 use Rattle.core_state.specs.declared.entering.Place.{Place}
 use Rattle.core_state.specs.declared.kept.Session.{Session}
 use Rattle.core_state.specs.declared.kept.Session.TheVariants.{Idle, Writer}
@@ -201,7 +202,7 @@ module _ {D : Type 0} (d : Ghosts D) (old new : Parts D) (at : Place) (act : Act
       pub put_does : may_answer act Done ≡ true → ActDoes d old new at act (Ok Done)
       put_does answers = writes_does d old new at act Done _ puts.serves done_has_text answers tt (λ safe s h. reached s h)
 
-      pub put_leaves : change_at old at.lane act ≡ by_writer (session_at old at.lane) changes → calls_no_disk act ≡ false → listed_by act (Some Done) at.number (session_at old at.lane) old.catalogue.listed ≡ old.catalogue.listed
+      pub put_leaves : change_at old at.lane act ≡ by_writer (session_at old at.lane) changes → calls_no_disk act ≡ false → listed_by act (Some Done) at.number (kept_at old at.lane) ≡ old.catalogue.listed
           → is_still act ≡ false → ends_session act ≡ false → ActLeaves d old new at act (Ok Done)
       put_leaves is called listed other goes_on =
           writes_leaves d old new at act Done tt called

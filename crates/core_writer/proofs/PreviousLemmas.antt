@@ -44,6 +44,7 @@ use Rattle.backup_session.specs.Session.{Pool, settled}
 use Rattle.backup_session.specs.Steps as rows
 use Rattle.backup_session.specs.Shown.{known_of, lengths_of, shown}
 use Rattle.backup_session.proofs.Pools.{entries_listed, pool_of-all}
+use Rattle.core_state.specs.Kept.{KeptAt, kept_at}
 use Rattle.core_state.specs.declared.kept.Kept.{Kept}
 use Rattle.core_state.specs.declared.kept.Listed.{Listed}
 use Rattle.core_state.specs.declared.kept.Session.{Session}
@@ -89,7 +90,7 @@ use Rattle.core_state.specs.Indexed.{FitsRow, FitsRows, IsPooled, files_of_base,
 use Rattle.core_state.proofs.Rows.{rows_but, rows_set, writer_keeps}
 use Rattle.core_writer.proofs.PooledPieces.{all_pooled, lengths_there}
 use Rattle.core_state.proofs.Soundness.{IsAlone, sound_writer, disk_writer, shows_changed}
-use Rattle.core_writer.specs.Previous.{ArePieces, NotesPooled, Previous, as_map, asked_at, asked_of_base, base_file, kept_by, kept_by_whole, known_by_whole, previous_by, shown_given, whole_for, with_known}
+use Rattle.core_writer.specs.Previous.{ArePieces, NotesPooled, Previous, as_map, asked_at, asked_by, asked_of_base, base_file, kept_by, kept_by_whole, known_by_whole, previous_by, shown_given, whole_for, with_known}
 use Rattle.core_writer.specs.declared.previous_files.Given.{Given}
 use Rattle.core_writer.specs.Names.{IsNoName}
 use Rattle.core_writer.proofs.Pooled.{is_writer_pooled, has_uploads_pooled}
@@ -516,24 +517,33 @@ module _ {D : Type 0} (d : Ghosts D) (old new : Parts D) (s : Store) (lane m : �
 
 -- ---- what was asked for
 
-module _ (row : Indexes) (name : List ℕ) (offset : ℕ) where
+module _ (k : KeptAt) (name : List ℕ) (offset : ℕ) where
   abbrev at_base : Result (List ℕ) Refusal → Option Asked
-  at_base found = asked_at (whole_for row name) offset found
+  at_base found = asked_at (whole_for k.row name) offset found
 
-  asked_writer : (session : Session) (w : Writing) (catalogue : List Listed) (found : Result (List ℕ) Refusal) → session ≡ kept.Writer w → is_file_name name ≡ true
-      → base_file ((w.session).writer).base name catalogue ≡ found → asked_of_base row name offset session catalogue ≡ at_base found
-  asked_writer session w catalogue found is good at =
-      ap (λ x. asked_of_base row name offset x catalogue) is ∙ ap (λ b. cond b (at_base (base_file ((w.session).writer).base name catalogue)) None) good ∙ ap at_base at
+  abbrev asked_in : Session → Option Asked
+  asked_in session = asked_by k.row k.catalogue name offset session
 
-  asked_bad : (session : Session) (catalogue : List Listed) → is_file_name name ≡ false → asked_of_base row name offset session catalogue ≡ None
-  asked_bad kept.Idle catalogue bad = refl
-  asked_bad (kept.Writer w) catalogue bad = ap (λ b. cond b (at_base (base_file ((w.session).writer).base name catalogue)) None) bad
-  asked_bad (kept.Reader r) catalogue bad = refl
+  asked_writer : (w : Writing) (found : Result (List ℕ) Refusal) → k.session ≡ kept.Writer w → is_file_name name ≡ true
+      → base_file ((w.session).writer).base name k.catalogue ≡ found → asked_of_base name offset k ≡ at_base found
+  asked_writer w found is good at =
+      ap asked_in is ∙ ap (λ b. cond b (at_base (base_file ((w.session).writer).base name k.catalogue)) None) good ∙ ap at_base at
 
-  asked_unwritten : (session : Session) (catalogue : List Listed) (r : Refusal) → wants.want_writer session ≡ Err r → asked_of_base row name offset session catalogue ≡ None
-  asked_unwritten kept.Idle catalogue r none = refl
-  asked_unwritten (kept.Writer w) catalogue r none = cc
-  asked_unwritten (kept.Reader q) catalogue r none = refl
+  asked_bad : is_file_name name ≡ false → asked_of_base name offset k ≡ None
+  asked_bad bad = from_session k.session
+    where
+      from_session : (session : Session) → asked_in session ≡ None
+      from_session kept.Idle = refl
+      from_session (kept.Writer w) = ap (λ b. cond b (at_base (base_file ((w.session).writer).base name k.catalogue)) None) bad
+      from_session (kept.Reader r) = refl
+
+  asked_unwritten : (r : Refusal) → wants.want_writer k.session ≡ Err r → asked_of_base name offset k ≡ None
+  asked_unwritten r none = from_session k.session none
+    where
+      from_session : (session : Session) → wants.want_writer session ≡ Err r → asked_in session ≡ None
+      from_session kept.Idle none = refl
+      from_session (kept.Writer w) none = cc
+      from_session (kept.Reader q) none = refl
 
 state_apart : (state : SessionState) (name : List ℕ) → Some (replies.Refused (WrongState state)) ≡ Some (replies.Refused (Unreadable name)) → ⊥
 state_apart state name e = cc
@@ -605,49 +615,49 @@ module _ {D : Type 0} (d : Ghosts D) (disk : D) (asked : Option Asked) where
   pub tells_short : (result : Result Reply Stop) → IsErrAnd result (λ x. x ≡ NoMemory) → TellsSo result
   tells_short result is = by_stop result NoMemory is (tells_failed d disk asked disks.NoMemory)
 
-module _ {D : Type 0} (d : Ghosts D) (disk : D) (row : Indexes) (name : List ℕ) (offset : ℕ) (found : Session) (catalogue : List Listed) where
+module _ {D : Type 0} (d : Ghosts D) (disk : D) (k : KeptAt) (name : List ℕ) (offset : ℕ) where
   abbrev asks : Option Asked
-  asks = asked_of_base row name offset found catalogue
+  asks = asked_of_base name offset k
 
-  pub tells_unwritten : (r : Refusal) (result : Result Reply Stop) → IsErrAnd result (λ x. x ≡ Refused r) → wants.want_writer found ≡ Err r → TellsSo d disk asks result
+  pub tells_unwritten : (r : Refusal) (result : Result Reply Stop) → IsErrAnd result (λ x. x ≡ Refused r) → wants.want_writer k.session ≡ Err r → TellsSo d disk asks result
   tells_unwritten r result is none = by_stop d disk asks result (Refused r) is
-      (unwritten_by_state found r (λ x. TellsUnreadable d disk asks 0 (Some (replies.Refused x))) (λ state. tells_other d disk asks 0 _ (λ told e. state_apart state told e) (asked_unwritten row name offset found catalogue r none)) none)
+      (unwritten_by_state k.session r (λ x. TellsUnreadable d disk asks 0 (Some (replies.Refused x))) (λ state. tells_other d disk asks 0 _ (λ told e. state_apart state told e) (asked_unwritten k name offset r none)) none)
 
   pub tells_unnamed : (stop : Stop) (result : Result Reply Stop) → IsErrAnd result (λ x. x ≡ stop) → IsNoName name stop → TellsSo d disk asks result
   tells_unnamed stop result is bad = by_stop d disk asks result stop is (by_name stop bad)
     where
       by_name : (stop : Stop) → IsNoName name stop → TellsSo d disk asks (Err stop)
-      by_name (Refused r) bad = subst (λ x. TellsUnreadable d disk asks 0 (Some (replies.Refused x))) (sym bad.0) (tells_other d disk asks 0 _ (λ told e. name_apart told e) (asked_bad row name offset found catalogue bad.1))
+      by_name (Refused r) bad = subst (λ x. TellsUnreadable d disk asks 0 (Some (replies.Refused x))) (sym bad.0) (tells_other d disk asks 0 _ (λ told e. name_apart told e) (asked_bad k name offset bad.1))
       by_name NoMemory bad = tells_failed d disk asks disks.NoMemory
       by_name DiskFailed bad = absurd bad
 
-  pub tells_no_base : (w : Writing) (r : Refusal) (result : Result Reply Stop) → IsErrAnd result (λ x. x ≡ Refused r) → found ≡ kept.Writer w → is_file_name name ≡ true → base_file ((w.session).writer).base name catalogue ≡ Err r → TellsSo d disk asks result
+  pub tells_no_base : (w : Writing) (r : Refusal) (result : Result Reply Stop) → IsErrAnd result (λ x. x ≡ Refused r) → k.session ≡ kept.Writer w → is_file_name name ≡ true → base_file ((w.session).writer).base name k.catalogue ≡ Err r → TellsSo d disk asks result
   tells_no_base w r result is at good none = by_stop d disk asks result (Refused r) is
-      (tells_other d disk asks 0 _ (λ told e. base_apart ((w.session).writer).base name catalogue r none told e) (asked_writer row name offset found w catalogue (Err r) at good none))
+      (tells_other d disk asks 0 _ (λ told e. base_apart ((w.session).writer).base name k.catalogue r none told e) (asked_writer k name offset w (Err r) at good none))
 
   -- the file was read
-  module _ (w : Writing) (path : List ℕ) (at : found ≡ kept.Writer w) (good : is_file_name name ≡ true) (there : base_file ((w.session).writer).base name catalogue ≡ Ok path) where
+  module _ (w : Writing) (path : List ℕ) (at : k.session ≡ kept.Writer w) (good : is_file_name name ≡ true) (there : base_file ((w.session).writer).base name k.catalogue ≡ Ok path) where
     abbrev a : Asked
-    a = record { path = path; way = from_offset (whole_for row name) offset }
+    a = record { path = path; way = from_offset (whole_for k.row name) offset }
 
     asked_is : asks ≡ Some a
-    asked_is = asked_writer row name offset found w catalogue (Ok path) at good there
+    asked_is = asked_writer k name offset w (Ok path) at good there
 
     pub tells_unread : (e : Stop) (result : Result Reply Stop) → IsErrAnd result (λ x. x ≡ e) → IfRefused (RefusesPart path) e
-        → (d.honest disk → Gives shown_given (Err e) (previous_by (whole_for row name) (d.content disk) path offset)) → TellsSo d disk asks result
+        → (d.honest disk → Gives shown_given (Err e) (previous_by (whole_for k.row name) (d.content disk) path offset)) → TellsSo d disk asks result
     tells_unread e result is kind exact = by_stop d disk asks result e is (by_error e kind exact)
       where
-        by_error : (e : Stop) → IfRefused (RefusesPart path) e → (d.honest disk → Gives shown_given (Err e) (previous_by (whole_for row name) (d.content disk) path offset)) → TellsSo d disk asks (Err e)
-        by_error (Refused r) kind exact = tells_read d disk asks a (Err r) asked_is kind (λ honest. refusal_is (d.content disk) path (whole_for row name) offset r (exact honest))
+        by_error : (e : Stop) → IfRefused (RefusesPart path) e → (d.honest disk → Gives shown_given (Err e) (previous_by (whole_for k.row name) (d.content disk) path offset)) → TellsSo d disk asks (Err e)
+        by_error (Refused r) kind exact = tells_read d disk asks a (Err r) asked_is kind (λ honest. refusal_is (d.content disk) path (whole_for k.row name) offset r (exact honest))
         by_error NoMemory kind exact = tells_failed d disk asks disks.NoMemory
         by_error DiskFailed kind exact = tells_failed d disk asks disks.Failed
 
-    pub tells_given : (g : Given) → IsPart (part_reply g.part) → (d.honest disk → previous_by (whole_for row name) (d.content disk) path offset ≡ Ok (shown_given g)) → TellsSo d disk asks (Ok (part_reply g.part))
-    tells_given g kind exact = tells_read d disk asks a (Ok (part_reply g.part)) asked_is kind (λ honest. part_is (d.content disk) path (whole_for row name) offset (shown_given g) (exact honest))
+    pub tells_given : (g : Given) → IsPart (part_reply g.part) → (d.honest disk → previous_by (whole_for k.row name) (d.content disk) path offset ≡ Ok (shown_given g)) → TellsSo d disk asks (Ok (part_reply g.part))
+    tells_given g kind exact = tells_read d disk asks a (Ok (part_reply g.part)) asked_is kind (λ honest. part_is (d.content disk) path (whole_for k.row name) offset (shown_given g) (exact honest))
 
     -- and its part was asked for
-    pub reads_asked : (new : D) → CallsForPart d disk new path (whole_for row name) → CallsForAsked d disk new asks
-    reads_asked new calls = called d disk new asks path (whole_for row name) offset asked_is calls
+    pub reads_asked : (new : D) → CallsForPart d disk new path (whole_for k.row name) → CallsForAsked d disk new asks
+    reads_asked new calls = called d disk new asks path (whole_for k.row name) offset asked_is calls
 
 pub base_of_shown : (v : Writer) (w : Writing) → shown_writer v ≡ w → v.base ≡ ((w.session).writer).base
 unfolding shown
@@ -733,7 +743,7 @@ module _ {D : Type 0} (d : Ghosts D) (old new : Parts D) (at : Place) (name : Li
         noted = left;
         known = record {
           path = path;
-          asked = asked_writer (row_at old at.lane) name offset (session_at old at.lane) w old.catalogue.listed (Ok path) writes good there;
+          asked = asked_writer (kept_at old at.lane) name offset w (Ok path) writes good there;
           pieces = g.pieces;
           are = are;
           read = exact;

@@ -3,6 +3,7 @@ use Rattle.disk_trait.specs.declared.disk.Disk.{Ghosts}
 use Rattle.std.proofs.Common.{◌≡◌, ◌<◌, false, true, get_or, set, Some, Result, Ok, Err, refl, sym, ap, ◌∙◌}
 use Rattle.wire_commands.specs.declared.reply.Reply.{Reply}
 use Rattle.store_history.specs.declared.act.Act.{Act}
+use Rattle.core_state.specs.Kept.{kept_at}
 use Rattle.core_state.specs.declared.entering.Place.{Place}
 use Rattle.core_state.specs.declared.kept.Session.{Session}
 use Rattle.core_state.specs.declared.parts.Parts.{Parts}
@@ -45,7 +46,7 @@ module _ {D : Type 0} (d : Ghosts D) (old new : Parts D) (at : Place) (act : Act
       by_result (Err NoMemory) x = short_does d old new at act (Err NoMemory) refl disk (same_kept x.same)
       by_result (Err DiskFailed) x = absurd x.step
 
-  pub stepped_leaves : change_at old at.lane act ≡ stays → ((reply : Reply) → listed_by act (Some reply) at.number (session_at old at.lane) old.catalogue.listed ≡ old.catalogue.listed)
+  pub stepped_leaves : change_at old at.lane act ≡ stays → ((reply : Reply) → listed_by act (Some reply) at.number (kept_at old at.lane) ≡ old.catalogue.listed)
       → is_still act ≡ false → ends_session act ≡ false → closes act (session_at old at.lane) ≡ false → Quietly result → ActLeaves d old new at act result
   stepped_leaves change listed other on closing_not steps = by_result result steps
     where

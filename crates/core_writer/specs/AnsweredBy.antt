@@ -1,6 +1,5 @@
 -- What OPEN_WRITER answers by what the core keeps, on any disk.
 use Rattle.std.specs.Prelude.{ℕ, List, Option, Result, Ok}
-use Rattle.lock_book.specs.Locks.{Locks}
 use Rattle.store_types.specs.declared.names.SnapshotKey.{SnapshotKey}
 use Rattle.store_types.specs.declared.refusal.Refusal.{Refusal}
 use Rattle.store_types.specs.declared.refusal.Refusal.TheVariants.{BadName}
@@ -14,12 +13,11 @@ use Rattle.store_history.specs.declared.act.Act.{Act}
 use Rattle.store_history.specs.declared.act.Act.TheVariants.{Plain}
 use Rattle.store_history.specs.declared.act.Answer.{Answer}
 use Rattle.core_state.specs.declared.entering.Place.{Place}
-use Rattle.core_state.specs.declared.kept.Listed.{Listed}
-use Rattle.core_state.specs.declared.kept.Session.{Session}
 use Rattle.core_state.specs.declared.parts.Parts.{Parts}
 use Rattle.core_state.specs.declared.state.Core.{Core}
 use Rattle.store_stops.specs.declared.stop.Stop.{Stop}
 use Rattle.core_state.specs.FromState.{ActTells, CoreTells}
+use Rattle.core_state.specs.Kept.{KeptAt}
 use Rattle.core_state.specs.Wanted.{want_idle}
 use Rattle.core_writer.specs.Opened.{base_for}
 
@@ -28,9 +26,9 @@ abbrev pub tells_base : Option SnapshotKey → Result Reply Refusal
 tells_base base = Ok (Base (base_text base))
 
 -- the text of the group's latest whole snapshot, or the refusal
-abbrev pub writer_told : List ℕ → ℕ → Session → List Listed → Locks → Result Reply Refusal
-writer_told text lane session catalogue locks =
-    want_idle session >>= λ _. or_else BadName (key_of text) >>= λ key. base_for locks catalogue lane key >>= tells_base
+abbrev pub writer_told : List ℕ → KeptAt → Result Reply Refusal
+writer_told text k =
+    want_idle k.session >>= λ _. or_else BadName (key_of text) >>= λ key. base_for k.locks k.catalogue k.lane key >>= tells_base
 
 -- of the acts of writers OPEN_WRITER alone is answered so
 abbrev pub ActAnswersBy : {D : Type 0} → Parts D → Place → Act → Result Reply Stop → Type 0

@@ -29,6 +29,7 @@ use Rattle.core_state.specs.declared.indexes.Indexes.TheVariants.{Pooled}
 use Rattle.core_state.specs.declared.parts.Parts.{Parts}
 use Rattle.core_state.specs.Found.{kept_named, path_named}
 use Rattle.core_state.specs.Indexed.{is_pooled, pooling, row_at}
+use Rattle.core_state.specs.Kept.{KeptAt, kept_at}
 use Rattle.core_state.specs.Unreadables.{Asked, from_offset, read_by}
 use Rattle.core_state.specs.Wanted.{session_at}
 use Rattle.core_writer.specs.declared.previous_files.Given.{Given}
@@ -58,12 +59,15 @@ abbrev pub asked_at : Option IndexKind → ℕ → Result (List ℕ) Refusal →
 asked_at whole offset (Ok path) = Some (record { path = path; way = from_offset whole offset })
 asked_at whole offset (Err refusal) = None
 
--- the file that a session's writer asks for, beside what the lane keeps of indexes
-abbrev pub asked_of_base : Indexes → List ℕ → ℕ → Session → List Listed → Option Asked
-asked_of_base row name offset Idle catalogue = None
-asked_of_base row name offset (Writer w) catalogue =
+-- the file that a session asks for
+abbrev pub asked_by : Indexes → List Listed → List ℕ → ℕ → Session → Option Asked
+asked_by row catalogue name offset Idle = None
+asked_by row catalogue name offset (Writer w) =
     if is_file_name name then asked_at (whole_for row name) offset (base_file ((w.session).writer).base name catalogue) else None
-asked_of_base row name offset (Reader r) catalogue = None
+asked_by row catalogue name offset (Reader r) = None
+
+abbrev pub asked_of_base : List ℕ → ℕ → KeptAt → Option Asked
+asked_of_base name offset k = asked_by k.row k.catalogue name offset k.session
 
 -- ---- what is read of it
 
@@ -123,7 +127,7 @@ kept_by_whole (Some of_kind) name row = Pooled (pooling name row)
 -- disk gave, whatever it holds, and on any disk some that have such lengths. By another file the session is as before.
 pub record NotesPieces {D : Type 0} (d : Ghosts D) (old new : Parts D) (lane : ℕ) (name : List ℕ) (offset : ℕ) (reply : Reply) : Type 0 where
   pub path : List ℕ
-  pub asked : asked_of_base (row_at old lane) name offset (session_at old lane) old.catalogue.listed ≡ asked_at (whole_for (row_at old lane) name) offset (Ok path)
+  pub asked : asked_of_base name offset (kept_at old lane) ≡ asked_at (whole_for (row_at old lane) name) offset (Ok path)
   pub pieces : Lengths
   pub are : ArePieces pieces
   pub read : d.honest old.disk → previous_by (whole_for (row_at old lane) name) (d.content old.disk) path offset ≡ Ok (record { part = reply; pieces = pieces })

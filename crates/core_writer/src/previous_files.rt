@@ -15,7 +15,6 @@ ghost use Rattle.core_state.specs.Commands.{PlainDoes, PlainLeaves};
 ghost use Rattle.core_state.specs.Found.{lent_key};
 ghost use Rattle.core_state.specs.Replies.{refuses_previous};
 ghost use Rattle.core_state.specs.Unreadables.{ActUnreadable};
-ghost use Rattle.core_state.specs.Indexed.{row_at};
 ghost use Rattle.core_writer.specs.Previous.{ArePieces, GivesPrevious, LendsPath, MayKnow, NotesPooled, as_map, asked_of_base, kept_by_whole, known_by_whole, whole_for, with_known};
 
 use crate::names::file_name;
@@ -185,11 +184,9 @@ pub fn previous<D: Disk>(
     ensures does { PlainDoes D.Disk parts.old parts.new at (Previous name.now offset) result }
     ensures leaves { PlainLeaves D.Disk parts.old parts.new at (Previous name.now offset) result }
     // no file is read that is not asked for, and none twice
-    ensures calls { ActCalls D.Disk
-        (asked_of_base (row_at parts.old at.lane) name.now offset) parts.old parts.new at }
+    ensures calls { ActCalls D.Disk (asked_of_base name.now offset) parts.old parts.new at }
     // it is unreadable exactly where it is, as far as the disk tells
-    ensures unreadable { ActUnreadable D.Disk
-        (asked_of_base (row_at parts.old at.lane) name.now offset) parts.old at result }
+    ensures unreadable { ActUnreadable D.Disk (asked_of_base name.now offset) parts.old at result }
     // what the lane keeps of indexes then, and which pieces its writer may name
     ensures notes { NotesPooled D.Disk parts.old parts.new at.lane name.now offset result }
 {

@@ -7,6 +7,7 @@ use Rattle.store_history.specs.History.{data_in}
 use Rattle.store_types.specs.declared.names.Digest32.{Digest32}
 use Rattle.store_files.specs.Folder.{chunk_name}
 use Rattle.chunk_store.specs.Pieces.{IsChunk}
+use Rattle.core_state.specs.Kept.{kept_at}
 use Rattle.core_state.specs.Changes.{IsFirm, LeavesChange, after, stores}
 use Rattle.core_state.specs.declared.kept.Session.TheVariants.{Idle}
 use Rattle.core_state.specs.Closing.{is_writer}
@@ -69,7 +70,7 @@ returns-in_err-insert_blob-clause-leaves g c = let d = g.D.Disk in
     let old = c.args.parts.now in
     let puts = puts_blob d old.disk c.insert_blob.new.disk c.args.digest.now.0 c.as_slice-blob.result.now c.insert_blob.result c.insert_blob.ensures.serves c.insert_blob.ensures.crash c.insert_blob.ensures.stored c.insert_blob.ensures.unchanged in
     let bytes : c.as_slice-blob.result.now ≡ c.in-Ok.bytes = c.as_slice-blob.ensures in
-    let change = chunk_change _ _ c.args.digest.now c.args.checked c.in-Ok.bytes old.catalogue.listed (is_writing _ _ c.in_ok-w.ensures.value) c.in-Ok.is ∙ ap (stores (chunk_name c.args.digest.now.0)) (sym bytes) in
+    let change = chunk_change (kept_at old c.args.at.lane) _ c.args.digest.now c.args.checked c.in-Ok.bytes (is_writing _ _ c.in_ok-w.ensures.value) c.in-Ok.is ∙ ap (stores (chunk_name c.args.digest.now.0)) (sym bytes) in
     failed_leaves d old _ c.args.at (Chunk c.args.digest.now c.args.checked) c.insert_blob.result _ _ c.from_residual-in_err-insert_blob.ensures.1 c.in_err-insert_blob.was puts.same puts.unmoved
     (subst (LeavesChange d old.disk c.insert_blob.new.disk) (sym change) puts.crash)
     (record { catalogue = refl; sessions = refl; locks = refl; indexes = refl }) refl (λ short closing. false_true closing)
@@ -91,7 +92,7 @@ returns-then-knows-clause-leaves g c = let d = g.D.Disk in
     let puts = puts_blob d old.disk c.insert_blob.new.disk c.args.digest.now.0 c.as_slice-blob.result.now c.insert_blob.result c.insert_blob.ensures.serves c.insert_blob.ensures.crash c.insert_blob.ensures.stored c.insert_blob.ensures.unchanged in
     let bytes : c.as_slice-blob.result.now ≡ c.in-Ok.bytes = c.as_slice-blob.ensures in
     let was = c.in-Ok.is ∙ ap (λ b. Ok b) (sym bytes) in
-    let change = chunk_change _ _ c.args.digest.now c.args.checked c.in-Ok.bytes old.catalogue.listed (is_writing _ _ c.in_ok-w.ensures.value) c.in-Ok.is ∙ ap (stores (chunk_name c.args.digest.now.0)) (sym bytes) in
+    let change = chunk_change (kept_at old c.args.at.lane) _ c.args.digest.now c.args.checked c.in-Ok.bytes (is_writing _ _ c.in_ok-w.ensures.value) c.in-Ok.is ∙ ap (stores (chunk_name c.args.digest.now.0)) (sym bytes) in
     writes_leaves d old _ c.args.at (Chunk c.args.digest.now c.args.checked) Done tt refl
     (λ h. c.in_ok-insert_blob.ensures.stored h ∙ ap (λ k. after k (d.content old.disk)) (sym change))
     (subst (LeavesChange d old.disk c.insert_blob.new.disk) (sym change) puts.crash)
@@ -134,7 +135,7 @@ returns-in_err-take_chunk-clause-leaves g c = let d = g.D.Disk in
     let old = c.args.parts.now in
     let puts = c.take_chunk.ensures.puts in
     let bytes : c.as_slice-blob.result.now ≡ c.in-Ok.bytes = c.as_slice-blob.ensures in
-    let change = chunk_change _ _ c.args.digest.now c.args.checked c.in-Ok.bytes old.catalogue.listed (is_writing _ _ c.in_ok-w.ensures.value) c.in-Ok.is
+    let change = chunk_change (kept_at old c.args.at.lane) _ c.args.digest.now c.args.checked c.in-Ok.bytes (is_writing _ _ c.in_ok-w.ensures.value) c.in-Ok.is
     ∙ ap (stores (chunk_name c.args.digest.now.0)) (sym bytes) in
     let sessions = ap (set old.sessions.items c.args.at.lane) c.in_err-take_chunk.ensures.err ∙ found_stays old.sessions.items c.args.at.lane c.index_mut-session.result.now c.index_mut-session.ensures.value in
     failed_leaves d old _ c.args.at (Chunk c.args.digest.now c.args.checked) c.take_chunk.result _ _ c.from_residual-in_err-take_chunk.ensures.1 c.in_err-take_chunk.was puts.same puts.unmoved
@@ -163,7 +164,7 @@ returns-clause-leaves g c = let d = g.D.Disk in
     let puts = c.take_chunk.ensures.puts in
     let bytes : c.as_slice-blob.result.now ≡ c.in-Ok.bytes = c.as_slice-blob.ensures in
     let was = c.in-Ok.is ∙ ap (λ b. Ok b) (sym c.as_slice-blob.ensures) in
-    let change = chunk_change _ _ c.args.digest.now c.args.checked c.in-Ok.bytes old.catalogue.listed (is_writing _ _ c.in_ok-w.ensures.value) c.in-Ok.is
+    let change = chunk_change (kept_at old c.args.at.lane) _ c.args.digest.now c.args.checked c.in-Ok.bytes (is_writing _ _ c.in_ok-w.ensures.value) c.in-Ok.is
     ∙ ap (stores (chunk_name c.args.digest.now.0)) (sym bytes) in
     writes_leaves d old _ c.args.at (Chunk c.args.digest.now c.args.checked) Done tt refl
     (λ h. c.in_ok-take_chunk.ensures.puts.put h ∙ ap (λ k. after k (d.content old.disk)) (sym change))

@@ -15,7 +15,7 @@ use Rattle.core_state.specs.declared.kept.Session.TheVariants.{Writer}
 use Rattle.core_state.specs.declared.kept.StoredFile.{StoredFile}
 use Rattle.core_state.specs.Named.{is_named}
 use Rattle.core_state.specs.Replies.{refuses_writer}
-use Rattle.core_state.specs.Wanted.{session_at}
+use Rattle.core_state.specs.Kept.{kept_at}
 use Rattle.core_state.proofs.FromState.{told_stopped}
 use Rattle.core_state.proofs.Commanding.{busy_does, changed_does, refused_does, same_kept}
 use Rattle.core_state.proofs.NamedLemmas.{list_all-set}
@@ -35,8 +35,8 @@ pub returns-in_err-idle-clause-from_state : goal.returns-in_err-idle-clause-from
 returns-in_err-idle-clause-from_state g c =
     let old = c.args.parts.now in
     let lane = c.args.at.lane in
-    told_stopped (writer_told c.args.snapshot.now lane (session_at old lane) old.catalogue.listed old.locks) _ _ c.from_residual.ensures.1
-    (told_busy c.args.snapshot.now lane (session_at old lane) old.catalogue.listed old.locks _ c.in_err-idle.ensures.value)
+    told_stopped (writer_told c.args.snapshot.now (kept_at old lane)) _ _ c.from_residual.ensures.1
+    (told_busy c.args.snapshot.now (kept_at old lane) _ c.in_err-idle.ensures.value)
 
 pub returns-in_default-clause-does : goal.returns-in_default-clause-does
 returns-in_default-clause-does g c =
@@ -50,7 +50,7 @@ returns-in_default-clause-from_state g c =
     let old = c.args.parts.now in
     let lane = c.args.at.lane in
     let bad : key_of c.args.snapshot.now ≡ None = search rules in
-    told_unnamed c.args.snapshot.now lane (session_at old lane) old.catalogue.listed old.locks c.in_ok-idle.ensures.value bad
+    told_unnamed c.args.snapshot.now (kept_at old lane) c.in_ok-idle.ensures.value bad
 
 pub returns-in_err-begun-clause-does : goal.returns-in_err-begun-clause-does
 returns-in_err-begun-clause-does g c =
@@ -64,7 +64,7 @@ returns-in_err-begun-clause-from_state g c =
     let old = c.args.parts.now in
     let lane = c.args.at.lane in
     let named : key_of c.args.snapshot.now ≡ Some c.in-Ok.key = search rules in
-    told_unbased c.args.snapshot.now lane (session_at old lane) old.catalogue.listed old.locks c.in-Ok.key c.in_ok-idle.ensures.value named _ _
+    told_unbased c.args.snapshot.now (kept_at old lane) c.in-Ok.key c.in_ok-idle.ensures.value named _ _
     c.from_residual-in_err-begun.ensures.1 c.in_err-begun.ensures.value
 
 pub invariant_of-parts-2-clause-named : goal.invariant_of-parts-2-clause-named
@@ -95,5 +95,5 @@ returns-clause-from_state g c =
     let old = c.args.parts.now in
     let lane = c.args.at.lane in
     let named : key_of c.args.snapshot.now ≡ Some c.in-Ok.key = search rules in
-    told_based c.args.snapshot.now lane (session_at old lane) old.catalogue.listed old.locks c.in-Ok.key c.in_ok-idle.ensures.value named
+    told_based c.args.snapshot.now (kept_at old lane) c.in-Ok.key c.in_ok-idle.ensures.value named
     c.in_ok-begun.begun c.in_ok-begun.ensures.value

@@ -4,6 +4,7 @@ use Rattle.wire_commands.specs.declared.command.Command.TheVariants as commands
 use Rattle.store_history.specs.declared.act.Act.TheVariants.{Plain}
 use Rattle.store_stops.specs.Stops.{Gives}
 use Rattle.snapshot_files.specs.Calls.{CallsForPart}
+use Rattle.core_state.specs.Kept.{kept_at}
 use Rattle.core_state.specs.Indexed.{row_at}
 use Rattle.core_state.specs.Named.{is_named}
 use Rattle.core_state.specs.declared.indexes.Indexes.{Indexes}
@@ -31,7 +32,7 @@ returns-in_err-writer-clause-leaves g c =
 
 pub returns-in_err-writer-clause-unreadable : goal.returns-in_err-writer-clause-unreadable
 returns-in_err-writer-clause-unreadable g c =
-    tells_unwritten g.D.Disk c.args.parts.now.disk (row_at c.args.parts.now c.args.at.lane) c.args.name.now c.args.offset _ c.args.parts.now.catalogue.listed _ _ c.from_residual.ensures.1 c.in_err-writer.ensures.value
+    tells_unwritten g.D.Disk c.args.parts.now.disk (kept_at c.args.parts.now c.args.at.lane) c.args.name.now c.args.offset _ _ c.from_residual.ensures.1 c.in_err-writer.ensures.value
 
 -- ---- a bad name
 
@@ -45,7 +46,7 @@ returns-in_err-name-clause-leaves g c =
 
 pub returns-in_err-name-clause-unreadable : goal.returns-in_err-name-clause-unreadable
 returns-in_err-name-clause-unreadable g c =
-    tells_unnamed g.D.Disk c.args.parts.now.disk (row_at c.args.parts.now c.args.at.lane) c.args.name.now c.args.offset _ c.args.parts.now.catalogue.listed _ _ c.from_residual-in_err-name.ensures.1 c.in_err-name.ensures.stops
+    tells_unnamed g.D.Disk c.args.parts.now.disk (kept_at c.args.parts.now c.args.at.lane) c.args.name.now c.args.offset _ _ c.from_residual-in_err-name.ensures.1 c.in_err-name.ensures.stops
 
 -- ---- no such file
 
@@ -65,7 +66,7 @@ returns-in_err-path-clause-unreadable g c =
     let old = c.args.parts.now in
     let within : c.args.at.lane < length old.sessions.items = omega (arith, old.lanes, old.sessions.ok.0, c.requires) in
     let found : base_file ((c.in-Writer.w).session).writer.base c.args.name.now old.catalogue.listed ≡ Err c.in_err-path.field-0.0 = search rules in
-    tells_no_base g.D.Disk old.disk (row_at old c.args.at.lane) c.args.name.now c.args.offset _ old.catalogue.listed c.in-Writer.w c.in_err-path.field-0.0 _ c.from_residual-in_err-path.ensures.1
+    tells_no_base g.D.Disk old.disk (kept_at old c.args.at.lane) c.args.name.now c.args.offset c.in-Writer.w c.in_err-path.field-0.0 _ c.from_residual-in_err-path.ensures.1
     (found_at old.sessions.items c.args.at.lane c.index.result.now c.in-Writer.w within c.index.ensures c.in-Writer.is) c.in_ok-name.ensures.name.1 found
 
 -- ---- it is not read
@@ -105,7 +106,7 @@ returns-in_err-given-clause-unreadable g c =
     let there : at.lane < length old.indexes.items = omega (arith, old.rows, old.indexes.ok.0, c.requires) in
     let row : c.index-2.result.now ≡ row_at old at.lane = c.index-2.ensures ∙ get_or_default old.indexes.items at.lane c.index-2.result.now Unread there in
     let whole : c.whole_index-whole.result ≡ whole_for (row_at old at.lane) name = c.whole_index-whole.ensures ∙ ap₂ whole_for row named in
-    tells_unread d old.disk (row_at old at.lane) name c.args.offset _ old.catalogue.listed c.in-Writer.w c.in_ok-path.path.now
+    tells_unread d old.disk (kept_at old at.lane) name c.args.offset c.in-Writer.w c.in_ok-path.path.now
     (found_at old.sessions.items at.lane c.index.result.now c.in-Writer.w within c.index.ensures c.in-Writer.is) c.in_ok-name.ensures.name.1 found
     c.in_err-given.field-0.0 _ c.from_residual-in_err-given.ensures.1 c.in_err-given.ensures.kind
     (λ honest. subst (λ o. Gives shown_given (Err c.in_err-given.field-0.0) (previous_by o (d.content old.disk) c.in_ok-path.path.now c.args.offset)) whole (c.in_err-given.ensures.exact honest))
@@ -217,7 +218,7 @@ returns-clause-unreadable g c =
     let there : at.lane < length old.indexes.items = omega (arith, old.rows, old.indexes.ok.0, c.requires) in
     let row : c.index-2.result.now ≡ row_at old at.lane = c.index-2.ensures ∙ get_or_default old.indexes.items at.lane c.index-2.result.now Unread there in
     let whole : c.whole_index-whole.result ≡ whole_for (row_at old at.lane) name = c.whole_index-whole.ensures ∙ ap₂ whole_for row named in
-    tells_given d old.disk (row_at old at.lane) name c.args.offset _ old.catalogue.listed c.in-Writer.w c.in_ok-path.path.now
+    tells_given d old.disk (kept_at old at.lane) name c.args.offset c.in-Writer.w c.in_ok-path.path.now
     (found_at old.sessions.items at.lane c.index.result.now c.in-Writer.w within c.index.ensures c.in-Writer.is) c.in_ok-name.ensures.name.1 found
     c.in_ok-given.given tt
     (λ honest. subst (λ o. previous_by o (d.content old.disk) c.in_ok-path.path.now c.args.offset ≡ Ok (shown_given c.in_ok-given.given)) whole (c.in_ok-given.ensures.exact honest))
@@ -282,7 +283,7 @@ returns-in_err-given-clause-calls g c =
     let there : at.lane < length old.indexes.items = omega (arith, old.rows, old.indexes.ok.0, c.requires) in
     let row : c.index-2.result.now ≡ row_at old at.lane = c.index-2.ensures ∙ get_or_default old.indexes.items at.lane c.index-2.result.now Unread there in
     let whole : c.whole_index-whole.result ≡ whole_for (row_at old at.lane) name = c.whole_index-whole.ensures ∙ ap₂ whole_for row named in
-    reads_asked d old.disk (row_at old at.lane) name c.args.offset _ old.catalogue.listed c.in-Writer.w c.in_ok-path.path.now
+    reads_asked d old.disk (kept_at old at.lane) name c.args.offset c.in-Writer.w c.in_ok-path.path.now
     (found_at old.sessions.items at.lane c.index.result.now c.in-Writer.w within c.index.ensures c.in-Writer.is) c.in_ok-name.ensures.name.1 found
     c.read_file.new.disk (subst (λ o. CallsForPart d old.disk c.read_file.new.disk c.in_ok-path.path.now o) whole c.read_file.ensures.calls)
 
@@ -298,7 +299,7 @@ returns-in_err-note_whole-clause-calls g c =
     let there : at.lane < length old.indexes.items = omega (arith, old.rows, old.indexes.ok.0, c.requires) in
     let row : c.index-2.result.now ≡ row_at old at.lane = c.index-2.ensures ∙ get_or_default old.indexes.items at.lane c.index-2.result.now Unread there in
     let whole : c.whole_index-whole.result ≡ whole_for (row_at old at.lane) name = c.whole_index-whole.ensures ∙ ap₂ whole_for row named in
-    reads_asked d old.disk (row_at old at.lane) name c.args.offset _ old.catalogue.listed c.in-Writer.w c.in_ok-path.path.now
+    reads_asked d old.disk (kept_at old at.lane) name c.args.offset c.in-Writer.w c.in_ok-path.path.now
     (found_at old.sessions.items at.lane c.index.result.now c.in-Writer.w within c.index.ensures c.in-Writer.is) c.in_ok-name.ensures.name.1 found
     c.read_file.new.disk (subst (λ o. CallsForPart d old.disk c.read_file.new.disk c.in_ok-path.path.now o) whole c.read_file.ensures.calls)
 
@@ -314,6 +315,6 @@ returns-clause-calls g c =
     let there : at.lane < length old.indexes.items = omega (arith, old.rows, old.indexes.ok.0, c.requires) in
     let row : c.index-2.result.now ≡ row_at old at.lane = c.index-2.ensures ∙ get_or_default old.indexes.items at.lane c.index-2.result.now Unread there in
     let whole : c.whole_index-whole.result ≡ whole_for (row_at old at.lane) name = c.whole_index-whole.ensures ∙ ap₂ whole_for row named in
-    reads_asked d old.disk (row_at old at.lane) name c.args.offset _ old.catalogue.listed c.in-Writer.w c.in_ok-path.path.now
+    reads_asked d old.disk (kept_at old at.lane) name c.args.offset c.in-Writer.w c.in_ok-path.path.now
     (found_at old.sessions.items at.lane c.index.result.now c.in-Writer.w within c.index.ensures c.in-Writer.is) c.in_ok-name.ensures.name.1 found
     c.read_file.new.disk (subst (λ o. CallsForPart d old.disk c.read_file.new.disk c.in_ok-path.path.now o) whole c.read_file.ensures.calls)
