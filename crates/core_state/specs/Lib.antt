@@ -5,6 +5,8 @@ pub mod Indexed
 pub mod Locked
 pub mod States
 pub mod Kept
+pub mod Decides
+pub mod Heads
 pub mod Replies
 pub mod MarkedPage
 pub mod Entries
