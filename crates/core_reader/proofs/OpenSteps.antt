@@ -17,6 +17,7 @@ use Rattle.store_model.specs.Store as model
 use Rattle.store_model.specs.Store.{Store, none, writer, reader, session, with_session, want_idle, snapshot_named}
 use Rattle.store_model.specs.ReaderSteps.{open_reader}
 use Rattle.store_model.specs.Steps.{outcome}
+use Rattle.core_state.specs.Kept.{KeptAt}
 use Rattle.core_state.specs.declared.kept.Kept.{Kept}
 use Rattle.core_state.specs.declared.kept.Listed.{Listed}
 use Rattle.core_state.specs.declared.kept.Session.{Session}
@@ -75,63 +76,63 @@ disk_reader m s lane x l h = record {
 
 -- ---- what it asks for
 
-module _ (text : List ℕ) (f : Session) (catalogue : List Listed) where
-  pub asks_busy : (refusal : Refusal) → wants_idle f ≡ Err refusal → asked_open text f catalogue ≡ None
-  asks_busy refusal busy = ap (λ (i : Result (Unit {0}) Refusal). damage_of (i >>= λ _. named_kept text catalogue)) busy
+module _ (text : List ℕ) (f : KeptAt) where
+  pub asks_busy : (refusal : Refusal) → wants_idle f.session ≡ Err refusal → asked_open text f ≡ None
+  asks_busy refusal busy = ap (λ (i : Result (Unit {0}) Refusal). damage_of (i >>= λ _. named_kept text f.catalogue)) busy
 
-  pub asks_named : (r : Result Kept Refusal) → wants_idle f ≡ Ok tt → named_kept text catalogue ≡ r → asked_open text f catalogue ≡ damage_of r
-  asks_named r idle is = ap (λ (i : Result (Unit {0}) Refusal). damage_of (i >>= λ _. named_kept text catalogue)) idle ∙ ap damage_of is
+  pub asks_named : (r : Result Kept Refusal) → wants_idle f.session ≡ Ok tt → named_kept text f.catalogue ≡ r → asked_open text f ≡ damage_of r
+  asks_named r idle is = ap (λ (i : Result (Unit {0}) Refusal). damage_of (i >>= λ _. named_kept text f.catalogue)) idle ∙ ap damage_of is
 
   -- no snapshot is named
-  pub tells_refused : {D : Type 0} (d : Ghosts D) (disk : D) (r : Refusal) → wants_idle f ≡ Ok tt → named_kept text catalogue ≡ Err r → ((name : List ℕ) → r ≡ Unreadable name → ⊥)
-      → TellsUnreadable d disk (asked_open text f catalogue) 0 (Some (Refused r))
+  pub tells_refused : {D : Type 0} (d : Ghosts D) (disk : D) (r : Refusal) → wants_idle f.session ≡ Ok tt → named_kept text f.catalogue ≡ Err r → ((name : List ℕ) → r ≡ Unreadable name → ⊥)
+      → TellsUnreadable d disk (asked_open text f) 0 (Some (Refused r))
   tells_refused d disk r idle is other =
-      tells_other d disk (asked_open text f catalogue) 0 (Some (Refused r)) (λ name e. other name (same name e)) (asks_named (Err r) idle is)
+      tells_other d disk (asked_open text f) 0 (Some (Refused r)) (λ name e. other name (same name e)) (asks_named (Err r) idle is)
     where
       same : (name : List ℕ) → Some (Refused r) ≡ Some (Refused (Unreadable name)) → r ≡ Unreadable name
       same name e = cc
 
-  module _ {D : Type 0} (d : Ghosts D) (disk : D) (k : Kept) (idle : wants_idle f ≡ Ok tt) (named : named_kept text catalogue ≡ Ok k) where
-    asks_of : (damage : Option (List ℕ)) → k.unreadable ≡ damage → asked_open text f catalogue ≡ option_map as_known damage
+  module _ {D : Type 0} (d : Ghosts D) (disk : D) (k : Kept) (idle : wants_idle f.session ≡ Ok tt) (named : named_kept text f.catalogue ≡ Ok k) where
+    asks_of : (damage : Option (List ℕ)) → k.unreadable ≡ damage → asked_open text f ≡ option_map as_known damage
     asks_of damage is = asks_named (Ok k) idle named ∙ ap (option_map as_known) is
 
     -- it is damaged
-    pub tells_damaged : (name : List ℕ) → k.unreadable ≡ Some name → TellsUnreadable d disk (asked_open text f catalogue) 0 (Some (Refused (Unreadable name)))
-    tells_damaged name damage = tells_read d disk (asked_open text f catalogue) (as_known name) (Err (Unreadable name)) (asks_of (Some name) damage) refl (λ h. refl)
+    pub tells_damaged : (name : List ℕ) → k.unreadable ≡ Some name → TellsUnreadable d disk (asked_open text f) 0 (Some (Refused (Unreadable name)))
+    tells_damaged name damage = tells_read d disk (asked_open text f) (as_known name) (Err (Unreadable name)) (asks_of (Some name) damage) refl (λ h. refl)
 
     -- it is opened
-    pub tells_whole : k.unreadable ≡ None → TellsUnreadable d disk (asked_open text f catalogue) 0 (Some Done)
-    tells_whole whole = tells_other d disk (asked_open text f catalogue) 0 (Some Done) (λ name e. apart name e) (asks_of None whole)
+    pub tells_whole : k.unreadable ≡ None → TellsUnreadable d disk (asked_open text f) 0 (Some Done)
+    tells_whole whole = tells_other d disk (asked_open text f) 0 (Some Done) (λ name e. apart name e) (asks_of None whole)
       where
         apart : (name : List ℕ) → Some Done ≡ Some (Refused (Unreadable name)) → ⊥
         apart name e = cc
 
 -- ---- what it answers
 
-module _ (text : List ℕ) (lane : ℕ) (f : Session) (catalogue : List Listed) (locks : Locks) where
-  pub told_busy : (r : Refusal) → wants_idle f ≡ Err r → reader_told text lane f catalogue locks ≡ Err r
-  told_busy r busy = ap (λ (i : Result (Unit {0}) Refusal). (i >>= λ _. named_kept text catalogue) >>= opens_whole) busy
+module _ (text : List ℕ) (f : KeptAt) where
+  pub told_busy : (r : Refusal) → wants_idle f.session ≡ Err r → reader_told text f ≡ Err r
+  told_busy r busy = ap (λ (i : Result (Unit {0}) Refusal). (i >>= λ _. named_kept text f.catalogue) >>= opens_whole) busy
 
-  told_named : (r : Result Kept Refusal) → wants_idle f ≡ Ok tt → named_kept text catalogue ≡ r → reader_told text lane f catalogue locks ≡ (r >>= opens_whole)
+  told_named : (r : Result Kept Refusal) → wants_idle f.session ≡ Ok tt → named_kept text f.catalogue ≡ r → reader_told text f ≡ (r >>= opens_whole)
   told_named r idle is =
-      ap (λ (i : Result (Unit {0}) Refusal). (i >>= λ _. named_kept text catalogue) >>= opens_whole) idle ∙ ap (λ (n : Result Kept Refusal). n >>= opens_whole) is
+      ap (λ (i : Result (Unit {0}) Refusal). (i >>= λ _. named_kept text f.catalogue) >>= opens_whole) idle ∙ ap (λ (n : Result Kept Refusal). n >>= opens_whole) is
 
   -- no snapshot is named
-  pub told_unnamed : (r : Refusal) → wants_idle f ≡ Ok tt → named_kept text catalogue ≡ Err r → Refused r ≡ reply_told (reader_told text lane f catalogue locks)
+  pub told_unnamed : (r : Refusal) → wants_idle f.session ≡ Ok tt → named_kept text f.catalogue ≡ Err r → Refused r ≡ reply_told (reader_told text f)
   told_unnamed r idle is = sym (ap reply_told (told_named (Err r) idle is))
 
   abbrev answer_by : Option (List ℕ) → Result Reply Refusal
   answer_by damage = if_none Unreadable damage >>= λ _. Ok Done
 
-  told_kept : (k : Kept) (damage : Option (List ℕ)) → wants_idle f ≡ Ok tt → named_kept text catalogue ≡ Ok k → k.unreadable ≡ damage
-      → reply_told (reader_told text lane f catalogue locks) ≡ reply_told (answer_by damage)
+  told_kept : (k : Kept) (damage : Option (List ℕ)) → wants_idle f.session ≡ Ok tt → named_kept text f.catalogue ≡ Ok k → k.unreadable ≡ damage
+      → reply_told (reader_told text f) ≡ reply_told (answer_by damage)
   told_kept k damage idle is damaged = ap reply_told (told_named (Ok k) idle is ∙ ap answer_by damaged)
 
   -- it is damaged
-  pub told_damaged : (k : Kept) (name : List ℕ) → wants_idle f ≡ Ok tt → named_kept text catalogue ≡ Ok k → k.unreadable ≡ Some name
-      → Refused (Unreadable name) ≡ reply_told (reader_told text lane f catalogue locks)
+  pub told_damaged : (k : Kept) (name : List ℕ) → wants_idle f.session ≡ Ok tt → named_kept text f.catalogue ≡ Ok k → k.unreadable ≡ Some name
+      → Refused (Unreadable name) ≡ reply_told (reader_told text f)
   told_damaged k name idle is damaged = sym (told_kept k (Some name) idle is damaged)
 
   -- it is opened
-  pub told_opened : (k : Kept) → wants_idle f ≡ Ok tt → named_kept text catalogue ≡ Ok k → k.unreadable ≡ None → Done ≡ reply_told (reader_told text lane f catalogue locks)
+  pub told_opened : (k : Kept) → wants_idle f.session ≡ Ok tt → named_kept text f.catalogue ≡ Ok k → k.unreadable ≡ None → Done ≡ reply_told (reader_told text f)
   told_opened k idle is whole = sym (told_kept k None idle is whole)

@@ -7,6 +7,7 @@ use Rattle.wire_commands.specs.declared.reply.Reply.TheVariants.{Done}
 use Rattle.store_history.specs.declared.act.Act.TheVariants.{Plain}
 use Rattle.store_model.specs.Store as model
 use Rattle.store_model.specs.Store.{reader, with_session, snapshot_named}
+use Rattle.core_state.specs.Kept.{kept_at}
 use Rattle.core_state.specs.Closing.{is_reader}
 use Rattle.core_state.specs.Found.{kept_named}
 use Rattle.core_state.specs.Named.{is_named}
@@ -49,14 +50,14 @@ returns-in_err-idle-clause-unreadable g c =
     let f = session_at old c.args.at.lane in
     let busy = c.in_err-idle.ensures.value in
     tells_unread g.D.Disk old.disk _ (Refused _) _ c.from_residual.ensures.1
-    (asks_busy c.args.snapshot.now f old.catalogue.listed _ busy, busy_by_state f _ (λ r. (name : List ℕ) → r ≡ Unreadable name → ⊥) state_apart busy)
+    (asks_busy c.args.snapshot.now (kept_at old c.args.at.lane) _ busy, busy_by_state f _ (λ r. (name : List ℕ) → r ≡ Unreadable name → ⊥) state_apart busy)
 
 pub returns-in_err-idle-clause-from_state : goal.returns-in_err-idle-clause-from_state
 returns-in_err-idle-clause-from_state g c =
     let old = c.args.parts.now in
     let lane = c.args.at.lane in
     stopped (λ r. ActOpens c.args.snapshot.now old old c.args.at r) _ _ c.from_residual.ensures.1
-    (record { answers = sym (ap reply_told (told_busy c.args.snapshot.now lane (session_at old lane) old.catalogue.listed old.locks _ c.in_err-idle.ensures.value)); opened = tt })
+    (record { answers = sym (ap reply_told (told_busy c.args.snapshot.now (kept_at old lane) _ c.in_err-idle.ensures.value)); opened = tt })
 
 -- ---- the text names no snapshot
 
@@ -74,7 +75,7 @@ returns-in_default-clause-unreadable g c =
     let old = c.args.parts.now in
     let items = old.catalogue.listed in
     let bad : key_of c.args.snapshot.now ≡ None = search rules in
-    tells_refused c.args.snapshot.now (session_at old c.args.at.lane) items g.D.Disk old.disk BadName c.in_ok-idle.ensures.value (none_named c.args.snapshot.now items bad) bad_apart
+    tells_refused c.args.snapshot.now (kept_at old c.args.at.lane) g.D.Disk old.disk BadName c.in_ok-idle.ensures.value (none_named c.args.snapshot.now items bad) bad_apart
 
 pub returns-in_default-clause-from_state : goal.returns-in_default-clause-from_state
 returns-in_default-clause-from_state g c =
@@ -82,7 +83,7 @@ returns-in_default-clause-from_state g c =
     let items = old.catalogue.listed in
     let lane = c.args.at.lane in
     let bad : key_of c.args.snapshot.now ≡ None = search rules in
-    record { answers = told_unnamed c.args.snapshot.now lane (session_at old lane) items old.locks BadName c.in_ok-idle.ensures.value (none_named c.args.snapshot.now items bad); opened = tt }
+    record { answers = told_unnamed c.args.snapshot.now (kept_at old lane) BadName c.in_ok-idle.ensures.value (none_named c.args.snapshot.now items bad); opened = tt }
 
 -- ---- there is no such snapshot
 
@@ -104,7 +105,7 @@ returns-in_default-named-clause-unreadable g c =
     let items = old.catalogue.listed in
     let named : key_of c.args.snapshot.now ≡ Some c.in-Ok.key = search rules in
     let missing : kept_named c.in-Ok.key items ≡ None = search rules in
-    tells_refused c.args.snapshot.now (session_at old c.args.at.lane) items g.D.Disk old.disk NoSnapshot c.in_ok-idle.ensures.value (none_kept c.args.snapshot.now items c.in-Ok.key named missing) none_apart
+    tells_refused c.args.snapshot.now (kept_at old c.args.at.lane) g.D.Disk old.disk NoSnapshot c.in_ok-idle.ensures.value (none_kept c.args.snapshot.now items c.in-Ok.key named missing) none_apart
 
 pub returns-in_default-named-clause-from_state : goal.returns-in_default-named-clause-from_state
 returns-in_default-named-clause-from_state g c =
@@ -113,7 +114,7 @@ returns-in_default-named-clause-from_state g c =
     let lane = c.args.at.lane in
     let named : key_of c.args.snapshot.now ≡ Some c.in-Ok.key = search rules in
     let missing : kept_named c.in-Ok.key items ≡ None = search rules in
-    record { answers = told_unnamed c.args.snapshot.now lane (session_at old lane) items old.locks NoSnapshot c.in_ok-idle.ensures.value (none_kept c.args.snapshot.now items c.in-Ok.key named missing); opened = tt }
+    record { answers = told_unnamed c.args.snapshot.now (kept_at old lane) NoSnapshot c.in_ok-idle.ensures.value (none_kept c.args.snapshot.now items c.in-Ok.key named missing); opened = tt }
 
 -- ---- it is damaged
 
@@ -140,7 +141,7 @@ returns-in-Some-unreadable-clause-unreadable g c =
     let named : key_of c.args.snapshot.now ≡ Some c.in-Ok.key = search rules in
     let there : kept_named c.in-Ok.key items ≡ Some k = search rules in
     let damage : k.unreadable ≡ Some c.in_ok-name.name = search rules in
-    tells_damaged c.args.snapshot.now (session_at old c.args.at.lane) items g.D.Disk old.disk k c.in_ok-idle.ensures.value (named_is c.args.snapshot.now items c.in-Ok.key k named there) c.in_ok-name.name damage
+    tells_damaged c.args.snapshot.now (kept_at old c.args.at.lane) g.D.Disk old.disk k c.in_ok-idle.ensures.value (named_is c.args.snapshot.now items c.in-Ok.key k named there) c.in_ok-name.name damage
 
 pub returns-in-Some-unreadable-clause-from_state : goal.returns-in-Some-unreadable-clause-from_state
 returns-in-Some-unreadable-clause-from_state g c =
@@ -151,7 +152,7 @@ returns-in-Some-unreadable-clause-from_state g c =
     let named : key_of c.args.snapshot.now ≡ Some c.in-Ok.key = search rules in
     let there : kept_named c.in-Ok.key items ≡ Some k = search rules in
     let damage : k.unreadable ≡ Some c.in_ok-name.name = search rules in
-    record { answers = told_damaged c.args.snapshot.now lane (session_at old lane) items old.locks k c.in_ok-name.name c.in_ok-idle.ensures.value (named_is c.args.snapshot.now items c.in-Ok.key k named there) damage; opened = tt }
+    record { answers = told_damaged c.args.snapshot.now (kept_at old lane) k c.in_ok-name.name c.in_ok-idle.ensures.value (named_is c.args.snapshot.now items c.in-Ok.key k named there) damage; opened = tt }
 
 -- ---- it is opened
 
@@ -185,7 +186,7 @@ returns-clause-unreadable g c =
     let named : key_of c.args.snapshot.now ≡ Some c.in-Ok.key = search rules in
     let there : kept_named c.in-Ok.key items ≡ Some k = search rules in
     let whole : k.unreadable ≡ None = search rules in
-    tells_whole c.args.snapshot.now (session_at old c.args.at.lane) items g.D.Disk old.disk k c.in_ok-idle.ensures.value (named_is c.args.snapshot.now items c.in-Ok.key k named there) whole
+    tells_whole c.args.snapshot.now (kept_at old c.args.at.lane) g.D.Disk old.disk k c.in_ok-idle.ensures.value (named_is c.args.snapshot.now items c.in-Ok.key k named there) whole
 
 pub returns-clause-from_state : goal.returns-clause-from_state
 returns-clause-from_state g c =
@@ -198,6 +199,6 @@ returns-clause-from_state g c =
     let whole : k.unreadable ≡ None = search rules in
     let within : lane < length old.sessions.items = omega (arith, old.lanes, old.sessions.ok.0, c.requires) in
     record {
-      answers = told_opened c.args.snapshot.now lane (session_at old lane) items old.locks k c.in_ok-idle.ensures.value (named_is c.args.snapshot.now items c.in-Ok.key k named there) whole;
+      answers = told_opened c.args.snapshot.now (kept_at old lane) k c.in_ok-idle.ensures.value (named_is c.args.snapshot.now items c.in-Ok.key k named there) whole;
       opened = ap is_reader (get_or-set_same old.sessions.items lane _ Idle within);
     }
