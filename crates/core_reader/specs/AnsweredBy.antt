@@ -4,8 +4,7 @@ use Rattle.disk_trait.specs.declared.disk.Disk.{Ghosts}
 use Rattle.std.specs.Prelude.{◌≡◌, ℕ, true, List, Result, Ok, OnOk}
 use Rattle.disk_trait.specs.Files.{Files}
 use Rattle.store_types.specs.declared.refusal.Refusal.{Refusal}
-use Rattle.store_types.specs.declared.refusal.Refusal.TheVariants.{Unreadable}
-use Rattle.store_types.specs.Chain.Refusing.{◌>>=◌, if_none}
+use Rattle.store_types.specs.Chain.Refusing.{◌>>=◌}
 use Rattle.wire_commands.specs.declared.command.Command.TheVariants.{OpenReader, Range}
 use Rattle.wire_commands.specs.declared.reply.Reply.{Reply}
 use Rattle.wire_commands.specs.declared.reply.Reply.TheVariants.{Data, Done}
@@ -15,26 +14,21 @@ use Rattle.store_history.specs.declared.act.Answer.{Answer}
 use Rattle.snapshot_files.specs.Parts.{part_at}
 use Rattle.core_state.specs.Kept.{KeptAt}
 use Rattle.core_state.specs.declared.entering.Place.{Place}
-use Rattle.core_state.specs.declared.kept.Kept.{Kept}
 use Rattle.core_state.specs.declared.parts.Parts.{Parts}
 use Rattle.core_state.specs.declared.state.Core.{Core}
 use Rattle.store_stops.specs.declared.stop.Stop.{Stop}
 use Rattle.core_state.specs.FromState.{ActTells, FromState, CoreTells}
 use Rattle.core_state.specs.Closing.{is_reader}
 use Rattle.core_state.specs.Wanted.{session_at}
-use Rattle.core_reader.specs.Asked.{index_of, place_of, to_read}
+use Rattle.core_reader.specs.Asked.{index_of, place_of, to_open}
 use Rattle.core_reader.specs.Chunks.{bytes_at}
 use Rattle.core_reader.specs.Entries.{entry_by}
 use Rattle.core_reader.specs.Ranges.{range_told}
 use Rattle.core_reader.specs.ReaderActs.{CoreOpens}
 
--- where no file is known to make it damaged
-abbrev pub opens_whole : Kept → Result Reply Refusal
-opens_whole k = if_none Unreadable k.unreadable >>= λ _. Ok Done
-
 -- the snapshot is to be read and whole, or the refusal
 abbrev pub reader_told : List ℕ → KeptAt → Result Reply Refusal
-reader_told text k = to_read text k >>= opens_whole
+reader_told text k = to_open text k >>= λ key. Ok Done
 
 -- a part of a file of the lane's snapshot, as it stands there, or the refusal
 abbrev pub part_told : List ℕ → ℕ → Files → KeptAt → Result Reply Refusal

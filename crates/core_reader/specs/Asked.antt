@@ -3,8 +3,9 @@ use Rattle.std.specs.Prelude.{◌≡◌, ℕ, ◌+◌, List, Option, None, Some,
 use Rattle.std.specs.declared.alloc.Global.{Global}
 use Rattle.std.specs.Result.{result_ok}
 use Rattle.store_types.specs.declared.refusal.Refusal.{Refusal}
-use Rattle.store_types.specs.declared.refusal.Refusal.TheVariants.{BadName, NoFile}
-use Rattle.store_types.specs.Chain.Refusing.{◌>>=◌, unless, or_else}
+use Rattle.store_types.specs.declared.names.SnapshotKey.{SnapshotKey}
+use Rattle.store_types.specs.declared.refusal.Refusal.TheVariants.{BadName, NoFile, NoSnapshot, Unreadable}
+use Rattle.store_types.specs.Chain.Refusing.{◌>>=◌, if_none, or_else, unless}
 use Rattle.store_types.specs.FileNames.{is_file_name, is_index_name}
 use Rattle.wire_commands.specs.declared.command.Command.TheVariants.{Download, OpenReader, Range}
 use Rattle.wire_commands.specs.declared.reply.Reply.TheVariants.{Data}
@@ -32,11 +33,12 @@ use Rattle.core_state.specs.declared.kept.Session.TheVariants.{Idle, Writer, Rea
 use Rattle.core_state.specs.declared.parts.Parts.{Parts}
 use Rattle.store_stops.specs.declared.stop.Stop.{Stop}
 use Rattle.store_stops.specs.declared.stop.Stop.TheVariants as stops
-use Rattle.core_state.specs.Found.{named_kept, path_in}
+use Rattle.core_state.specs.Found.{kept_named, path_in}
+use Rattle.core_state.specs.Heads.{idle_key}
 use Rattle.core_state.specs.Shown.{files_named, shown_session}
 use Rattle.store_stops.specs.Stops.{Gives}
 use Rattle.core_state.specs.Unreadables.{Asked, at_entry, from_offset, known, read_with}
-use Rattle.core_state.specs.Wanted.{reader_in, want_idle}
+use Rattle.core_state.specs.Wanted.{reader_in}
 use Rattle.core_reader.specs.declared.downloading.AskedFile.{AskedFile}
 use Rattle.core_reader.specs.declared.downloading.Given.{Given}
 use Rattle.core_state.specs.declared.indexes.Indexes.{Indexes}
@@ -47,7 +49,17 @@ use Rattle.core_reader.specs.Ranges.{RangeAsked, range_asked, range_with}
 
 -- the snapshot that is to be read, or the refusal
 abbrev pub to_read : List ℕ → KeptAt → Result Kept Refusal
-to_read text k = want_idle k.session >>= λ _. named_kept text k.catalogue
+to_read text k = do
+  key ← idle_key text k
+  or_else NoSnapshot (kept_named key k.catalogue)
+
+-- its key, where it is whole: no file is known to make it damaged
+unfoldable pub to_open : List ℕ → KeptAt → Result SnapshotKey Refusal
+to_open text k = do
+  key ← idle_key text k
+  x ← or_else NoSnapshot (kept_named key k.catalogue)
+  _ ← if_none Unreadable x.unreadable
+  Ok key
 
 -- the file that makes it damaged
 abbrev pub as_known : List ℕ → Asked
