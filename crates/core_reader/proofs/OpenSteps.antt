@@ -173,6 +173,9 @@ module _ {D : Type 0} (parts : Parts D) (s : Store) (lane m : ℕ) (text : List 
   pub open_found : (key : SnapshotKey) → to_open text k ≡ Ok key → IsOpen key
   open_found key e = by_head (passed (idle_key text k) (behind_key text k) key (sym (open_is text k) ∙ e))
     where
+      opens : (x : Snapshot) → snapshot_named key s.snapshots ≡ Some x → step_by s lane m text key ≡ Ok (with_session s lane (reader (record { key = key; noted = [] })), Done)
+      opens x there = ap (step_with s lane m text key) there
+
       by_named : (found : SnapshotKey) → model_heads.idle_key s lane text ≡ Ok found → (o : Option Snapshot) → snapshot_named found s.snapshots ≡ o → behind_kept found (option_map shown_snapshot o) ≡ Ok key → IsOpen key
       by_named found head None at e = cc
       by_named found head (Some x) at e =
@@ -182,11 +185,8 @@ module _ {D : Type 0} (parts : Parts D) (s : Store) (lane m : ℕ) (text : List 
             idle = (idle_key_found s lane text found head).0;
             snapshot = x;
             there = there;
-            step = step_is s lane m text ∙ ap (λ o. o >>= step_by s lane m text) (head ∙ ap (λ y. Ok y) same) ∙ opens key x there;
+            step = step_is s lane m text ∙ ap (λ o. o >>= step_by s lane m text) (head ∙ ap (λ y. Ok y) same) ∙ opens x there;
           }
-        where
-          opens : (key : SnapshotKey) (x : Snapshot) → snapshot_named key s.snapshots ≡ Some x → step_by s lane m text key ≡ Ok (with_session s lane (reader (record { key = key; noted = [] })), Done)
-              opens key x there = ap (step_with s lane m text key) there
 
       by_head : (found : SnapshotKey) × (idle_key text k ≡ Ok found) × (behind_key text k found ≡ Ok key) → IsOpen key
       by_head (found, head, e1) =
