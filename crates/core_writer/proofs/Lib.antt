@@ -23,7 +23,6 @@ pub mod PreviousLemmas
 pub mod EndingLemmas
 pub mod OpenedLemmas
 pub mod OpeningLemmas
-pub mod OpenedTold
 pub mod Stopping
 pub mod FinishLemmas
 pub mod AbortLemmas
