@@ -25,7 +25,7 @@ fn to_open<D>(
     snapshot: &[u8],
 ) -> Result<SnapshotKey, Stop>
     requires { lane < 64 }
-    ensures value { Decides (λ key. key) (key_to_open snapshot.now) parts.now lane result }
+    ensures { Decides (λ key. key) (key_to_open snapshot.now) parts.now lane result }
 {
     let key = parts.idle_key(alloc, lane, snapshot)?;
     let kept = parts.catalogue.named(&key).ok_or(Refusal::NoSnapshot)?;
