@@ -19,7 +19,7 @@ use Rattle.store_model.specs.Store as model
 use Rattle.store_model.specs.Store.{Store, none, writer, reader, session, with_session, snapshot_named}
 use Rattle.store_model.specs.ReaderSteps.{open_reader}
 use Rattle.store_model.specs.Steps.{outcome}
-use Rattle.store_model.proofs.Done.{ok_same, passed}
+use Rattle.store_model.proofs.Done.{err_ok, ok_same, passed}
 use Rattle.store_model.proofs.HeadLemmas.{idle_key_found}
 use Rattle.store_history.specs.declared.act.Act.TheVariants.{Plain}
 use Rattle.store_stops.specs.declared.stop.Stop.{Stop}
@@ -153,7 +153,7 @@ module _ {D : Type 0} (parts : Parts D) (s : Store) (lane m : ℕ) (text : List 
   -- what is refused the store refuses
   pub open_refused : (r : Refusal) → to_open text k ≡ Err r → outcome s lane m (OpenReader text) ≡ Err r
   open_refused r e =
-      step_is s lane m text ∙ ap (λ o. o >>= step_by s lane m text) (sym (idle_key_is parts s lane shows lt text)) ∙ by_head (idle_key text k) (sym (open_is text k) ∙ e)
+      step_is s lane m text ∙ ap (λ (o : Result SnapshotKey Refusal). o >>= step_by s lane m text) (sym (idle_key_is parts s lane shows lt text)) ∙ by_head (idle_key text k) (sym (open_is text k) ∙ e)
     where
       by_named : (key : SnapshotKey) (o : Option Snapshot) → behind_kept key (option_map shown_snapshot o) ≡ Err r → step_with s lane m text key o ≡ Err r
       by_named key None e = ap (λ q. Err q) (err_same {A = SnapshotKey} NoSnapshot r e)
@@ -177,7 +177,7 @@ module _ {D : Type 0} (parts : Parts D) (s : Store) (lane m : ℕ) (text : List 
       opens x there = ap (step_with s lane m text key) there
 
       by_named : (found : SnapshotKey) → model_heads.idle_key s lane text ≡ Ok found → (o : Option Snapshot) → snapshot_named found s.snapshots ≡ o → behind_kept found (option_map shown_snapshot o) ≡ Ok key → IsOpen key
-      by_named found head None at e = cc
+      by_named found head None at e = absurd (err_ok NoSnapshot key e)
       by_named found head (Some x) at e =
           let same : found ≡ key = ok_same found key e in
           let there : snapshot_named key s.snapshots ≡ Some x = subst (λ y. snapshot_named y s.snapshots ≡ Some x) same at in
@@ -185,7 +185,7 @@ module _ {D : Type 0} (parts : Parts D) (s : Store) (lane m : ℕ) (text : List 
             idle = (idle_key_found s lane text found head).0;
             snapshot = x;
             there = there;
-            step = step_is s lane m text ∙ ap (λ o. o >>= step_by s lane m text) (head ∙ ap (λ y. Ok y) same) ∙ opens x there;
+            step = step_is s lane m text ∙ ap (λ (o : Result SnapshotKey Refusal). o >>= step_by s lane m text) (head ∙ ap (λ y. Ok y) same) ∙ opens x there;
           }
 
       by_head : (found : SnapshotKey) × (idle_key text k ≡ Ok found) × (behind_key text k found ≡ Ok key) → IsOpen key

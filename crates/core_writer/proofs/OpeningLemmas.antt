@@ -160,31 +160,27 @@ ok_err : {A : Type 0} (x : A) (r : Refusal) → ◌≡◌ {A = Result A Refusal}
 ok_err x r e = cc
 
 -- the refusals of those behind the head
-base_refuses : (P : Refusal → Type 0) → ((lane : ℕ) → P (GroupBusy lane)) → ((latest : ℕ) → P (NotNewer latest)) → P (TooMany 4096)
-    → (kept : List Kept) (holder : Option ℕ) (group : GroupKey) (time : ℕ) (r : Refusal) → base_in kept holder group time ≡ Err r → P r
-unfolding base_in
-base_refuses P busy newer full kept holder group time r e =
-    refuses_then P (if_none GroupBusy holder) (λ _. behind_free) (refuses_some P (λ lane. GroupBusy lane) holder busy)
-    (λ _. refuses_then P (want_newer time latest) (λ _. behind_newer) (by_latest latest) (λ _. refuses_then P (unless (TooMany 4096) room) (λ _. Ok base) (refuses_unless P (TooMany 4096) room full) (λ _. refuses_none P base))) r e
-  where
-    latest : Option SnapshotKey
-    latest = latest_kept group kept
+module _ (kept : List Kept) (group : GroupKey) (time : ℕ) where
+  abbrev room : Bool
+  room = nat_lt (length (kept_in group kept)) 4096
 
-    base : Option SnapshotKey
-    base = latest_whole group kept
+  abbrev behind_newer : Result (Option SnapshotKey) Refusal
+  behind_newer = unless (TooMany 4096) room >>= λ _. Ok (latest_whole group kept)
 
-    room : Bool
-    room = nat_lt (length (kept_in group kept)) 4096
+  abbrev behind_free : Result (Option SnapshotKey) Refusal
+  behind_free = want_newer time (latest_kept group kept) >>= λ _. behind_newer
 
-    behind_newer : Result (Option SnapshotKey) Refusal
-    behind_newer = unless (TooMany 4096) room >>= λ _. Ok base
-
-    behind_free : Result (Option SnapshotKey) Refusal
-    behind_free = want_newer time latest >>= λ _. behind_newer
-
-    by_latest : (latest : Option SnapshotKey) (r : Refusal) → want_newer time latest ≡ Err r → P r
-    by_latest None r e = absurd (ok_err tt r e)
-    by_latest (Some key) r e = refuses_unless P (NotNewer key.time) (nat_lt key.time time) (newer key.time) r e
+  base_refuses : (P : Refusal → Type 0) → ((lane : ℕ) → P (GroupBusy lane)) → ((latest : ℕ) → P (NotNewer latest)) → P (TooMany 4096)
+      → (holder : Option ℕ) (r : Refusal) → base_in kept holder group time ≡ Err r → P r
+  unfolding base_in
+  base_refuses P busy newer full holder r e =
+      refuses_then P (if_none (λ lane. GroupBusy lane) holder) (λ _. behind_free) (refuses_some P (λ lane. GroupBusy lane) holder busy)
+      (λ _. refuses_then P (want_newer time (latest_kept group kept)) (λ _. behind_newer) (by_latest (latest_kept group kept))
+      (λ _. refuses_then P (unless (TooMany 4096) room) (λ _. Ok (latest_whole group kept)) (refuses_unless P (TooMany 4096) room full) (λ _. refuses_none P (latest_whole group kept)))) r e
+    where
+      by_latest : (latest : Option SnapshotKey) (r : Refusal) → want_newer time latest ≡ Err r → P r
+      by_latest None r e = absurd (ok_err tt r e)
+      by_latest (Some key) r e = refuses_unless P (NotNewer key.time) (nat_lt key.time time) (newer key.time) r e
 
 module _ (text : List ℕ) (k : KeptAt) where
   abbrev base_at : SnapshotKey → Result (Option SnapshotKey) Refusal
@@ -201,7 +197,7 @@ module _ (text : List ℕ) (k : KeptAt) where
   write_answers r e =
       let P : Refusal → Type 0 = λ q. IsTrue (may_answer (Plain (OpenWriter text)) (replies.Refused q)) in
       refuses_then P (idle_key text k) behind_key (idle_key_refuses P k text (λ state. refl) refl)
-      (λ key. refuses_then P (base_at key) (λ base. Ok (key, base)) (base_refuses P (λ lane. refl) (λ latest. refl) refl _ _ _ _) (λ base. refuses_none P (key, base))) r (sym write_is ∙ e)
+      (λ key. refuses_then P (base_at key) (λ base. Ok (key, base)) (base_refuses _ _ _ P (λ lane. refl) (λ latest. refl) refl _) (λ base. refuses_none P (key, base))) r (sym write_is ∙ e)
 
   -- what they have found
   pub write_found : (key : SnapshotKey) (base : Option SnapshotKey) → to_write text k ≡ Ok (key, base) → (idle_key text k ≡ Ok key) × (base_at key ≡ Ok base)
@@ -223,23 +219,25 @@ module _ (text : List ℕ) (k : KeptAt) where
   pub write_free : (key : SnapshotKey) (base : Option SnapshotKey) → to_write text k ≡ Ok (key, base) → other_holder k.locks k.lane (group_of_key key) ≡ None
   write_free key base e = (may_open _ _ key base (write_found key base e).1).free
 
--- what is refused the store refuses
-pub write_refused : {D : Type 0} (parts : Parts D) (s : Store) (lane moment : ℕ) (text : List ℕ) → Shows parts s → lane < 64
-    → (r : Refusal) → to_write text (kept_at parts lane) ≡ Err r → outcome s lane moment (OpenWriter text) ≡ Err r
-write_refused parts s lane moment text shows lt r e = by_head (idle_key text k) (idle_key_is parts s lane shows lt text) (sym (write_is text k) ∙ e)
-  where
-    k : KeptAt
-    k = kept_at parts lane
+module _ {D : Type 0} (parts : Parts D) (s : Store) (lane moment : ℕ) (text : List ℕ) (shows : Shows parts s) (lt : lane < 64) where
+  abbrev k : KeptAt
+  k = kept_at parts lane
 
-    by_base : (key : SnapshotKey) → model_heads.idle_key s lane text ≡ Ok key → (b : Result (Option SnapshotKey) Refusal) → base_at text k key ≡ b → (b >>= λ base. Ok (key, base)) ≡ Err r
-        → outcome s lane moment (OpenWriter text) ≡ Err r
-    by_base key head (Ok base) at e = absurd (ok_err (key, base) r e)
-    by_base key head (Err q) at e =
-        refused s lane moment text key q head (tests_are parts s lane key (Err q) at (idle_key_found s lane text key head).0 shows) ∙ ap (λ x. Err x) (err_same {A = SnapshotKey × Option SnapshotKey} q r e)
+  abbrev Refuses : Refusal → Type 0
+  Refuses r = outcome s lane moment (OpenWriter text) ≡ Err r
 
-    by_head : (o : Result SnapshotKey Refusal) → o ≡ model_heads.idle_key s lane text → (o >>= behind_key text k) ≡ Err r → outcome s lane moment (OpenWriter text) ≡ Err r
-    by_head (Ok key) head e = by_base key (sym head) (base_at text k key) refl e
-    by_head (Err q) head e = head_refused s lane moment text q (sym head) ∙ ap (λ x. Err x) (err_same {A = SnapshotKey × Option SnapshotKey} q r e)
+  by_base : (r : Refusal) (key : SnapshotKey) → model_heads.idle_key s lane text ≡ Ok key → (b : Result (Option SnapshotKey) Refusal) → base_at text k key ≡ b → (b >>= λ base. Ok (key, base)) ≡ Err r → Refuses r
+  by_base r key head (Ok base) at e = absurd (ok_err (key, base) r e)
+  by_base r key head (Err q) at e =
+      refused s lane moment text key q head (tests_are parts s lane key (Err q) at (idle_key_found s lane text key head).0 shows) ∙ ap (λ x. Err x) (err_same {A = SnapshotKey × Option SnapshotKey} q r e)
+
+  by_head : (r : Refusal) (o : Result SnapshotKey Refusal) → o ≡ model_heads.idle_key s lane text → (o >>= behind_key text k) ≡ Err r → Refuses r
+  by_head r (Ok key) head e = by_base r key (sym head) (base_at text k key) refl e
+  by_head r (Err q) head e = head_refused s lane moment text q (sym head) ∙ ap (λ x. Err x) (err_same {A = SnapshotKey × Option SnapshotKey} q r e)
+
+  -- what is refused the store refuses
+  pub write_refused : (r : Refusal) → to_write text k ≡ Err r → Refuses r
+  write_refused r e = by_head r (idle_key text k) (idle_key_is parts s lane shows lt text) (sym (write_is text k) ∙ e)
 
 module _ {D : Type 0} (g : Ghosts D) where
   pub opens : (old new : Parts D) (s : Store) (lane moment : ℕ) (text : List ℕ) (key : SnapshotKey) (base : Option SnapshotKey) (y : Session) (reply : Reply)
