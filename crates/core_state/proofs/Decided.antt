@@ -49,6 +49,11 @@ module _ {A B D : Type 0} (shown : A → B) (wanted : KeptAt → Result B Refusa
   decided_tells deed NoMemory decides = tt
   decided_tells deed DiskFailed decides = absurd decides
 
+  pub decided_told : (deed : B → Result Reply Refusal) (stop : Stop) (result : Result Reply Stop) → Stops result stop → Decides shown wanted parts lane (Err stop)
+      → IfOk (told result) (λ reply. reply ≡ reply_told (wanted (kept_at parts lane) >>= deed))
+  decided_told deed stop result stops decides =
+      stopped (λ r. IfOk (told r) (λ reply. reply ≡ reply_told (wanted (kept_at parts lane) >>= deed))) result stop stops (decided_tells deed stop decides)
+
 module _ {A B D : Type 0} (d : Ghosts D) (shown : A → B) (wanted : KeptAt → Result B Refusal) (old new : Parts D) (at : Place) (act : Act) (stop : Stop) (result : Result Reply Stop)
     (stops : Stops result stop) (decides : Decides shown wanted old at.lane (Err stop)) (same : new.disk ≡ old.disk) (kept : SameKept old new) where
   -- each refusal of the definition is one of the act's, and the plain store's

@@ -36,6 +36,7 @@ pub mod Calls
 pub mod Touching
 pub mod FromState
 pub mod Decided
+pub mod HeadLemmas
 pub mod Applying
 pub mod Starts
 pub mod Ending
