@@ -38,7 +38,7 @@ use Rattle.core_state.specs.declared.kept.Writing.{Writing}
 use Rattle.core_state.specs.declared.parts.Parts.{Parts}
 use Rattle.core_state.specs.Chunks.{HasChunk, MayStand, AddsChunks}
 use Rattle.core_state.specs.Holds.{HasUploads, Holds, IsOnDisk, Shows}
-use Rattle.core_state.specs.Changes.{change_of, chunk_put, stores}
+use Rattle.core_state.specs.Changes.{by_writer, change_of, chunk_put, stores}
 use Rattle.core_state.specs.PassedTests.{PassesItsTests}
 use Rattle.core_state.specs.Wanted.{session_at, want_writer}
 use Rattle.core_state.specs.declared.kept.Listed.{Listed}
