@@ -4,6 +4,9 @@ pub mod Shown
 pub mod Indexed
 pub mod Locked
 pub mod States
+pub mod Kept
+pub mod Decides
+pub mod Heads
 pub mod Replies
 pub mod MarkedPage
 pub mod Entries
@@ -23,6 +26,7 @@ pub mod Closing
 pub mod Reserved
 pub mod Records
 pub mod Found
+pub mod ListedRows
 pub mod Foreign
 pub mod Catalogue
 pub mod Catalogued
