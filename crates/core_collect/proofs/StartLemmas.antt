@@ -41,7 +41,7 @@ use Rattle.core_state.specs.Entries.{FitsPages}
 use Rattle.core_state.specs.Holds.{Shows}
 use Rattle.core_state.specs.Numbers.{AreNumbered, IsGiven}
 use Rattle.core_state.specs.Shown.{files_named, shown_file, shown_files, shown_session, shown_snapshot}
-use Rattle.core_state.specs.Sweeps.{FitsRemoved, HasNumber, HasPages, ShowsSweep, digests_in, kept_at, left_at, left_in, left_of_kept, unmarked_by, visits_by}
+use Rattle.core_state.specs.Sweeps.{FitsRemoved, HasNumber, HasPages, ShowsSweep, by_number, digests_in, left_at, left_in, left_of_kept, unmarked_by, visits_by}
 use Rattle.core_state.specs.Wanted.{want_idle}
 use Rattle.core_collect.specs.Starting.{GivesCollector, IsNewCollector, MayOpen, earlier_of, indexes_in, indexes_of, oldest_kept, start_told}
 use Rattle.core_collect.proofs.Lists.{each_numbered}
@@ -123,7 +123,7 @@ module _ (catalogue : List Listed) (snapshots : List Snapshot) where
   left i = left_at catalogue snapshots 0 i
 
   -- of a snapshot that is kept under this number
-  module _ (number : ℕ) (y : Snapshot) (kept : kept_at number catalogue ≡ Some (shown_snapshot y)) (files : files_named y.key snapshots ≡ y.files) where
+  module _ (number : ℕ) (y : Snapshot) (kept : by_number number catalogue ≡ Some (shown_snapshot y)) (files : files_named y.key snapshots ≡ y.files) where
     abbrev of_file : StoredFile → IndexAt
     of_file f = record { snapshot = number; name = f.name }
 
@@ -171,12 +171,12 @@ module _ (catalogue : List Listed) (snapshots : List Snapshot) where
   cons_nil : (x : Kept) (xs : List Kept) → x ∷ xs ≡ [] → ⊥
   cons_nil x xs e = cc
 
-  snapshot_left : (x : Listed) (y : Snapshot) → x.kept ≡ shown_snapshot y → kept_at x.number catalogue ≡ Some (x.kept) → IsWhole y → flat_map left (indexes_of x) ≡ sweeps.indexes_of y
+  snapshot_left : (x : Listed) (y : Snapshot) → x.kept ≡ shown_snapshot y → by_number x.number catalogue ≡ Some (x.kept) → IsWhole y → flat_map left (indexes_of x) ≡ sweeps.indexes_of y
   snapshot_left x y same at whole =
       ap (λ (k : Kept). flat_map left (map (of_file x.number y (at ∙ ap Some same) whole.0) (filter (λ f. is_index_name f.name) k.files))) same
       ∙ files_left x.number y (at ∙ ap Some same) whole.0 y.files (each_file y.files (whole.1).names) (whole.1).kinds
 
-  snapshots_left : (xs : List Listed) (ys : List Snapshot) → map (λ x. x.kept) xs ≡ map shown_snapshot ys → All (λ x. kept_at x.number catalogue ≡ Some (x.kept)) xs → All IsWhole ys
+  snapshots_left : (xs : List Listed) (ys : List Snapshot) → map (λ x. x.kept) xs ≡ map shown_snapshot ys → All (λ x. by_number x.number catalogue ≡ Some (x.kept)) xs → All IsWhole ys
       → flat_map left (indexes_in xs) ≡ sweeps.indexes_in ys
   snapshots_left [] [] same at whole = refl
   snapshots_left [] (y ∷ ys) same at whole = absurd (nil_cons (shown_snapshot y) (map shown_snapshot ys) same)
@@ -184,9 +184,9 @@ module _ (catalogue : List Listed) (snapshots : List Snapshot) where
   snapshots_left (x ∷ xs) (y ∷ ys) same at whole =
       flat_map-append left (indexes_of x) (indexes_in xs)
       ∙ ap (λ us. us ++ flat_map left (indexes_in xs))
-      (snapshot_left x y (heads x.kept (shown_snapshot y) (map (λ z. z.kept) xs) (map shown_snapshot ys) same) (All-head (λ z. kept_at z.number catalogue ≡ Some (z.kept)) x xs at) (All-head IsWhole y ys whole))
+      (snapshot_left x y (heads x.kept (shown_snapshot y) (map (λ z. z.kept) xs) (map shown_snapshot ys) same) (All-head (λ z. by_number z.number catalogue ≡ Some (z.kept)) x xs at) (All-head IsWhole y ys whole))
       ∙ ap (λ us. sweeps.indexes_of y ++ us)
-      (snapshots_left xs ys (tails x.kept (shown_snapshot y) (map (λ z. z.kept) xs) (map shown_snapshot ys) same) (All-tail (λ z. kept_at z.number catalogue ≡ Some (z.kept)) x xs at) (All-tail IsWhole y ys whole))
+      (snapshots_left xs ys (tails x.kept (shown_snapshot y) (map (λ z. z.kept) xs) (map shown_snapshot ys) same) (All-tail (λ z. by_number z.number catalogue ≡ Some (z.kept)) x xs at) (All-tail IsWhole y ys whole))
 
   all_whole : keys_rise snapshots ≡ true → All IsSnapshot snapshots → All IsWhole snapshots
   all_whole rise each k d within =

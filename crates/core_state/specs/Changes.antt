@@ -26,12 +26,12 @@ use Rattle.backup_session.specs.Steps.{begun_at}
 use Rattle.store_stops.specs.declared.stop.Stop.{Stop}
 use Rattle.store_stops.specs.declared.stop.Stop.TheVariants.{Refused, NoMemory, DiskFailed}
 use Rattle.core_state.specs.declared.kept.Kept.{Kept}
-use Rattle.core_state.specs.declared.kept.Listed.{Listed}
 use Rattle.core_state.specs.declared.kept.Writing.{Writing}
 use Rattle.core_state.specs.declared.kept.StoredFile.{StoredFile}
 use Rattle.core_state.specs.declared.kept.Session.{Session}
 use Rattle.core_state.specs.declared.kept.Session.TheVariants.{Idle, Writer, Reader}
 use Rattle.core_state.specs.Found.{named_kept}
+use Rattle.core_state.specs.Kept.{KeptAt}
 use Rattle.core_state.specs.Shown.{put_at}
 
 pub data Change : Type 0 where
@@ -108,15 +108,15 @@ by_writer Idle change = stays
 by_writer (Writer w) change = change w
 by_writer (Reader r) change = stays
 
-abbrev pub change_of : Act → Session → List Listed → Change
-change_of (Blob name checked) session catalogue = by_writer session (blob_put name checked)
-change_of (Chunk digest checked) session catalogue = by_writer session (λ w. chunk_put digest checked)
-change_of (Plain (CloseIndex number count size csum)) session catalogue = by_writer session (λ w. index_put (begun_at number (w.session).writer) w)
-change_of (Plain Finish) session catalogue = finish_by session
-change_of (Plain Abort) session catalogue = by_writer session (λ w. drops (put_paths w.files))
-change_of (Plain (Forget snapshot)) session catalogue = forgotten (result_ok (named_kept snapshot catalogue))
-change_of End session catalogue = by_writer session (λ w. drops (put_paths w.files))
-change_of _ session catalogue = stays
+abbrev pub change_of : Act → KeptAt → Change
+change_of (Blob name checked) k = by_writer k.session (blob_put name checked)
+change_of (Chunk digest checked) k = by_writer k.session (λ w. chunk_put digest checked)
+change_of (Plain (CloseIndex number count size csum)) k = by_writer k.session (λ w. index_put (begun_at number (w.session).writer) w)
+change_of (Plain Finish) k = finish_by k.session
+change_of (Plain Abort) k = by_writer k.session (λ w. drops (put_paths w.files))
+change_of (Plain (Forget snapshot)) k = forgotten (result_ok (named_kept snapshot k.catalogue))
+change_of End k = by_writer k.session (λ w. drops (put_paths w.files))
+change_of _ k = stays
 
 -- ---- what comes of it
 

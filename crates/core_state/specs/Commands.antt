@@ -28,6 +28,7 @@ use Rattle.core_state.specs.Closing.{HasClosed, HasEnded, closes, is_writer}
 use Rattle.core_state.specs.PassedTests.{PassesItsTests}
 use Rattle.core_state.specs.Holds.{Acts, Holds}
 use Rattle.core_state.specs.Indexed.{row_at}
+use Rattle.core_state.specs.Kept.{kept_at}
 use Rattle.core_state.specs.Replies.{may_answer}
 use Rattle.core_state.specs.Settles.{reply_by}
 use Rattle.core_state.specs.Stops.{told}
@@ -150,7 +151,7 @@ IsNoRefusal _ = Unit {0}
 
 -- the act's change of the disk, by what the core keeps before it
 abbrev pub change_at : {D : Type 0} → Parts D → ℕ → Act → Change
-change_at old lane act = change_of act (session_at old lane) old.catalogue.listed
+change_at old lane act = change_of act (kept_at old lane)
 
 -- The act is the plain store's. What is answered, on any disk, is one of the act's replies, and has a spelling.
 pub record ActDoes {D : Type 0} (d : Ghosts D) (old new : Parts D) (at : Place) (act : Act) (result : Result Reply Stop) : Type 0 where
@@ -174,7 +175,7 @@ pub record ActLeaves {D : Type 0} (d : Ghosts D) (old new : Parts D) (at : Place
   pub content : (IsErrOf result DiskFailed → ⊥) → d.honest old.disk → d.content new.disk ≡ after (by_stop (change_at old at.lane act) result) (d.content old.disk)
   pub crash : LeavesChange d old.disk new.disk (by_stop (change_at old at.lane act) result)
   pub firm : IfOk result (λ _. IsFirm d old.disk new.disk (change_at old at.lane act))
-  pub listed : new.catalogue.listed ≡ listed_by act (Some (reply_by (told result))) at.number (session_at old at.lane) old.catalogue.listed
+  pub listed : new.catalogue.listed ≡ listed_by act (Some (reply_by (told result))) at.number (kept_at old at.lane)
   pub admin : is_still act ≡ true → (new.sessions.items ≡ old.sessions.items) × (new.locks ≡ old.locks)
   -- Which chunk files there are more. It follows from `content`; that the core stands for the longer history is shown by it.
   pub adds : Adds d old new act (told result)

@@ -4,6 +4,9 @@ pub mod Shown
 pub mod Indexed
 pub mod Locked
 pub mod States
+pub mod Kept
+pub mod Decides
+pub mod Heads
 pub mod Replies
 pub mod MarkedPage
 pub mod Entries

@@ -5,6 +5,7 @@ mod catalogue;
 mod closing;
 mod collector;
 mod entering;
+mod heads;
 mod indexes;
 mod journal;
 mod kept;
