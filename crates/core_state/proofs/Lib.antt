@@ -35,6 +35,8 @@ pub mod Commanding
 pub mod Calls
 pub mod Touching
 pub mod FromState
+pub mod Decided
+pub mod HeadLemmas
 pub mod Applying
 pub mod Starts
 pub mod Ending

@@ -37,7 +37,12 @@ impl<D> Parts<D> {
 
     /// The snapshot that the text names, or none where the text is empty.
     #[tactic(auto, unfolding(after_in))]
-    pub fn after_in(&self, alloc: Global, lane: u32, text: &[u8]) -> Result<Option<SnapshotKey>, Stop>
+    pub fn after_in(
+        &self,
+        alloc: Global,
+        lane: u32,
+        text: &[u8],
+    ) -> Result<Option<SnapshotKey>, Stop>
         ensures { Decides (λ after. after) (after_in text.now) self.now lane result }
         ensures grammar { IfOk result (λ after. IfSome after IsKey) }
     {
