@@ -30,7 +30,6 @@ use Rattle.store_history.specs.History.{World, act_outcome, data_in}
 use Rattle.restore_reader.specs.Session.{Reading}
 use Rattle.store_stops.specs.declared.stop.Stop.{Stop}
 use Rattle.core_state.specs.declared.entering.Place.{Place}
-use Rattle.core_state.specs.declared.kept.Listed.{Listed}
 use Rattle.core_state.specs.declared.kept.Session.{Session}
 use Rattle.core_state.specs.declared.kept.Session.TheVariants.{Idle, Writer, Reader}
 use Rattle.core_state.specs.declared.kept.Writing.{Writing}
@@ -41,6 +40,7 @@ use Rattle.core_state.specs.Changes.{Change, IsFirm, LeavesChange, MayLeave, aft
 use Rattle.core_state.specs.Chunks.{Adds, IsSafe}
 use Rattle.core_state.specs.Closing.{HasClosed, HasEnded, closes, is_reader, is_writer}
 use Rattle.core_state.specs.Commands.{ActDoes, ActLeaves, IsNoRefusal, LeavesRows, RowsStay, change_at, ends_session, calls_no_disk, is_still, leaves_writer, reads_only, row_stays}
+use Rattle.core_state.specs.Kept.{KeptAt, kept_at}
 use Rattle.core_state.specs.PassedTests.{PassesItsTests}
 use Rattle.core_state.specs.Indexed.{FitsRows, row_in}
 use Rattle.core_state.specs.Holds.{Holds, IsOnDisk, Shows, Does, Acts}
@@ -256,15 +256,15 @@ does_is remote w s lane moment acts.Short = refl
 does_is remote w s lane moment acts.End = refl
 
 -- a refused act leaves the catalogue
-pub unlisted : (act : Act) (refusal : Refusal) (number : ℕ) (x : Session) (catalogue : List Listed) → listed_by act (Some (replies.Refused refusal)) number x catalogue ≡ catalogue
-unlisted (acts.Plain Finish) refusal number x catalogue = refl
-unlisted (acts.Plain (Forget snapshot)) refusal number x catalogue = refl
-unlisted act refusal number x catalogue = refl
+pub unlisted : (act : Act) (refusal : Refusal) (number : ℕ) (k : KeptAt) → listed_by act (Some (replies.Refused refusal)) number k ≡ k.catalogue
+unlisted (acts.Plain Finish) refusal number k = refl
+unlisted (acts.Plain (Forget snapshot)) refusal number k = refl
+unlisted act refusal number k = refl
 
-unlisted_by : (act : Act) (stop : Stop) (number : ℕ) (x : Session) (catalogue : List Listed) → listed_by act (Some (reply_by (told (Err stop)))) number x catalogue ≡ catalogue
-unlisted_by act (Refused refusal) number x catalogue = unlisted act refusal number x catalogue
-unlisted_by act NoMemory number x catalogue = unlisted act _ number x catalogue
-unlisted_by act DiskFailed number x catalogue = unlisted act _ number x catalogue
+unlisted_by : (act : Act) (stop : Stop) (number : ℕ) (k : KeptAt) → listed_by act (Some (reply_by (told (Err stop)))) number k ≡ k.catalogue
+unlisted_by act (Refused refusal) number k = unlisted act refusal number k
+unlisted_by act NoMemory number k = unlisted act _ number k
+unlisted_by act DiskFailed number k = unlisted act _ number k
 
 -- an act that closes a session is done with none
 closes_ends : (act : Act) (x : Session) → closes act x ≡ true → ends_session act ≡ true
@@ -276,15 +276,15 @@ false_true : false ≡ true → ⊥
 false_true e = cc
 
 -- an act that only reads changes nothing
-reads_stay : (act : Act) (session : Session) (catalogue : List Listed) → reads_only act ≡ true → change_of act session catalogue ≡ stays
-reads_stay (acts.Blob name checked) session catalogue only = cc
-reads_stay (acts.Chunk digest checked) session catalogue only = cc
-reads_stay (acts.Plain (CloseIndex number count size csum)) session catalogue only = cc
-reads_stay (acts.Plain Finish) session catalogue only = cc
-reads_stay (acts.Plain Abort) session catalogue only = cc
-reads_stay (acts.Plain (Forget snapshot)) session catalogue only = cc
-reads_stay acts.End session catalogue only = cc
-reads_stay act session catalogue only = refl
+reads_stay : (act : Act) (k : KeptAt) → reads_only act ≡ true → change_of act k ≡ stays
+reads_stay (acts.Blob name checked) k only = cc
+reads_stay (acts.Chunk digest checked) k only = cc
+reads_stay (acts.Plain (CloseIndex number count size csum)) k only = cc
+reads_stay (acts.Plain Finish) k only = cc
+reads_stay (acts.Plain Abort) k only = cc
+reads_stay (acts.Plain (Forget snapshot)) k only = cc
+reads_stay acts.End k only = cc
+reads_stay act k only = refl
 
 -- of an act that only reads it says nothing
 reads_pass : (act : Act) (s : Store) (lane : ℕ) → reads_only act ≡ true → PassesItsTests act s lane
@@ -443,16 +443,16 @@ module _ {D : Type 0} (d : Ghosts D) where
   ok_firm old new change (Err stop) is = tt
 
   listed_so : (old new : Parts D) (at : Place) (act : Act) (result : Result Reply Stop) → new.catalogue.listed ≡ old.catalogue.listed
-      → IfOk result (λ reply. listed_by act (Some reply) at.number (session_at old at.lane) old.catalogue.listed ≡ old.catalogue.listed)
-      → new.catalogue.listed ≡ listed_by act (Some (reply_by (told result))) at.number (session_at old at.lane) old.catalogue.listed
+      → IfOk result (λ reply. listed_by act (Some reply) at.number (kept_at old at.lane) ≡ old.catalogue.listed)
+      → new.catalogue.listed ≡ listed_by act (Some (reply_by (told result))) at.number (kept_at old at.lane)
   listed_so old new at act (Ok reply) same is = same ∙ sym is
-  listed_so old new at act (Err stop) same is = same ∙ sym (unlisted_by act stop at.number (session_at old at.lane) old.catalogue.listed)
+  listed_so old new at act (Err stop) same is = same ∙ sym (unlisted_by act stop at.number (kept_at old at.lane))
 
   -- What an act that changed nothing must show beside that, where it was done: it is one that changes nothing.
   pub record DoneIdly (old : Parts D) (at : Place) (act : Act) (reply : Reply) : Type 0 where
     pub plain : IsNoRefusal reply
     pub change : change_at old at.lane act ≡ stays
-    pub listed : listed_by act (Some reply) at.number (session_at old at.lane) old.catalogue.listed ≡ old.catalogue.listed
+    pub listed : listed_by act (Some reply) at.number (kept_at old at.lane) ≡ old.catalogue.listed
     pub goes_on : ends_session act ≡ false
     pub writes : leaves_writer act ≡ true → is_writer (session_at old at.lane) ≡ true
 
@@ -465,7 +465,7 @@ module _ {D : Type 0} (d : Ghosts D) where
   changes_none old at act (Err stop) idly = tt
 
   lists_none : (old : Parts D) (at : Place) (act : Act) (result : Result Reply Stop) → IfOk result (DoneIdly old at act)
-      → IfOk result (λ reply. listed_by act (Some reply) at.number (session_at old at.lane) old.catalogue.listed ≡ old.catalogue.listed)
+      → IfOk result (λ reply. listed_by act (Some reply) at.number (kept_at old at.lane) ≡ old.catalogue.listed)
   lists_none old at act (Ok reply) idly = idly.listed
   lists_none old at act (Err stop) idly = tt
 
@@ -707,7 +707,7 @@ module _ {D : Type 0} (d : Ghosts D) where
   }
 
   pub changed_leaves : (old new : Parts D) (at : Place) (act : Act) (reply : Reply) → new.disk ≡ old.disk → IsNoRefusal reply → change_at old at.lane act ≡ stays
-      → new.catalogue.listed ≡ listed_by act (Some reply) at.number (session_at old at.lane) old.catalogue.listed
+      → new.catalogue.listed ≡ listed_by act (Some reply) at.number (kept_at old at.lane)
       → is_still act ≡ false → (ends_session act ≡ true → HasEnded new at.lane) → (leaves_writer act ≡ true → is_writer (session_at new at.lane) ≡ true) → LeavesRows old new at.lane act
       → ActLeaves d old new at act (Ok reply)
   changed_leaves old new at act reply same plain change listed other ended writes rows =
@@ -748,14 +748,14 @@ module _ {D : Type 0} (d : Ghosts D) where
   pub writes_leaves : (old new : Parts D) (at : Place) (act : Act) (reply : Reply) → IsNoRefusal reply → calls_no_disk act ≡ false
       → (d.honest old.disk → d.content new.disk ≡ after (change_at old at.lane act) (d.content old.disk))
       → LeavesChange d old.disk new.disk (change_at old at.lane act) → IsFirm d old.disk new.disk (change_at old at.lane act)
-      → new.catalogue.listed ≡ listed_by act (Some reply) at.number (session_at old at.lane) old.catalogue.listed
+      → new.catalogue.listed ≡ listed_by act (Some reply) at.number (kept_at old at.lane)
       → (is_still act ≡ true → (new.sessions.items ≡ old.sessions.items) × (new.locks ≡ old.locks))
       → Adds d old new act (Ok reply) → (ends_session act ≡ true → HasEnded new at.lane) → (leaves_writer act ≡ true → is_writer (session_at new at.lane) ≡ true) → LeavesRows old new at.lane act
       → ActLeaves d old new at act (Ok reply)
   writes_leaves old new at act reply plain called content crash firm listed admin adds ended writes rows = record {
     unchanged = done_unchanged old new reply plain;
     no_disk_call = λ no_disk_call. absurd (false_true (sym called ∙ no_disk_call));
-    reads = λ only h. content h ∙ ap (λ change. after change (d.content old.disk)) (reads_stay act (session_at old at.lane) old.catalogue.listed only);
+    reads = λ only h. content h ∙ ap (λ change. after change (d.content old.disk)) (reads_stay act (kept_at old at.lane) only);
     content = λ _. content;
     crash = crash;
     firm = firm;
@@ -819,7 +819,7 @@ module _ {D : Type 0} (d : Ghosts D) where
         content = λ _. same was;
         crash = unmoved was;
         firm = tt;
-        listed = kept.catalogue ∙ sym (unlisted_by act NoMemory at.number (session_at old at.lane) old.catalogue.listed);
+        listed = kept.catalogue ∙ sym (unlisted_by act NoMemory at.number (kept_at old at.lane));
         admin = λ _. (kept.sessions, kept.locks);
         adds = adds_same d old new act (told (Err NoMemory)) (same was);
         passed_its_tests = λ f. absurd (not_memory f);
@@ -835,7 +835,7 @@ module _ {D : Type 0} (d : Ghosts D) where
         content = λ fine. absurd (fine refl);
         crash = crash;
         firm = tt;
-        listed = kept.catalogue ∙ sym (unlisted_by act DiskFailed at.number (session_at old at.lane) old.catalogue.listed);
+        listed = kept.catalogue ∙ sym (unlisted_by act DiskFailed at.number (kept_at old at.lane));
         admin = λ _. (kept.sessions, kept.locks);
         adds = λ s h. tt;
         passed_its_tests = λ _. passed_its_tests;

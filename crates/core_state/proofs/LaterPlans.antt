@@ -47,6 +47,7 @@ use Rattle.core_state.specs.Commands.{is_step}
 use Rattle.core_state.specs.History.{History, StandsFor, event_of, then_event, world}
 use Rattle.core_state.specs.Holds.{Shows}
 use Rattle.core_state.specs.KeepsTouches.{KeepsTouches, swept_of}
+use Rattle.core_state.specs.Kept.{kept_at}
 use Rattle.core_state.specs.Numbers.{AreNumbered, DifferInNumber, first_number}
 use Rattle.core_state.specs.Shown.{shown_session, shown_snapshot, shown_writer}
 use Rattle.core_state.specs.Sweeps.{ArePages, HasNumber, HasPages, ShowsOpen, ShowsSweep, by_number, unmarked_by}
@@ -286,7 +287,7 @@ module _ {D E C : Type 0} (d : Ghosts D) (clock : clocks.Ghosts C) (old new : Co
   record IsKnown (act : Act) : Type 0 where
     pub inside : (answer.entry).lane < 64
     pub formed : IsWellFormed act
-    pub listed : (new.parts).catalogue.listed ≡ listed_by act answer.reply acts (session_at old.parts k) c
+    pub listed : (new.parts).catalogue.listed ≡ listed_by act answer.reply acts (kept_at old.parts k)
     pub shows : Shows old.parts w.store
     pub right : Right h.remote w k m act answer.reply (class_of act) (kind_of n)
     pub numbers : AreNumbered acts c
@@ -303,7 +304,7 @@ module _ {D E C : Type 0} (d : Ghosts D) (clock : clocks.Ghosts C) (old new : Co
 
   -- ---- neither a FINISH nor a FORGET
 
-  others : (act : Act) → IsKnown act → moves_manifest act ≡ false → listed_by act answer.reply acts (session_at old.parts k) c ≡ c
+  others : (act : Act) → IsKnown act → moves_manifest act ≡ false → listed_by act answer.reply acts (kept_at old.parts k) ≡ c
       → ((u : Unmarked) → spares act answer.reply u ≡ true) → Sifted act
   others act f off none all =
       sifts_all acts c (new.parts).catalogue.listed snapshots (next act) (spares act answer.reply) (f.listed ∙ none) (next_is act ∙ moved_keeps h.remote w k m act (kind_of n) f.formed off) all
@@ -419,9 +420,9 @@ plans_more d clock old new lane act answer h lt formed answers keeps unstepped c
     later = ap (λ (v : Swept). v.sweep) (swept_longer h.remote h.opening h.events e) ∙ sweep_after h.remote (world h) (swept_of h) e (no_sweep act unstepped) opens_none
         ∙ sym (ap (λ (v : World). while_open v.collecting (option_map (spared act answer.reply) (swept_of h).sweep)) (world_more h e))
 
-    listed : c2 ≡ listed_by act answer.reply was (session_at old.parts (answer.entry).lane) c
-    listed = keeps.listed ∙ ap (λ n. listed_by act answer.reply n (session_at old.parts lane) c) answers.place
-        ∙ sym (ap (λ l. listed_by act answer.reply was (session_at old.parts l) c) answers.lane_is)
+    listed : c2 ≡ listed_by act answer.reply was (kept_at old.parts (answer.entry).lane)
+    listed = keeps.listed ∙ ap (λ n. listed_by act answer.reply n (kept_at old.parts lane)) answers.place
+        ∙ sym (ap (λ l. listed_by act answer.reply was (kept_at old.parts l)) answers.lane_is)
 
     its : Sifts was c c2 first then_has (spares act answer.reply)
     its = sifts d clock old new answer h act (record {

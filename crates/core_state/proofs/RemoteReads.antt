@@ -21,7 +21,6 @@ use Rattle.store_history.specs.Legal.{Right}
 use Rattle.store_history.specs.Remote.{ReadsIn, may_read}
 use Rattle.store_history.proofs.Families.{by_remote}
 use Rattle.core_state.specs.declared.entering.Admitted.TheVariants.{Answered}
-use Rattle.core_state.specs.declared.kept.Listed.{Listed}
 use Rattle.core_state.specs.declared.kept.Session.{Session}
 use Rattle.core_state.specs.declared.parts.Parts.{Parts}
 use Rattle.core_state.specs.declared.state.Core.{Core}
@@ -35,6 +34,7 @@ use Rattle.core_state.specs.Changes.{IsFirm, after, by_reply, stays}
 use Rattle.core_state.specs.Closing.{closes, closes_by, is_closing}
 use Rattle.core_state.specs.Collectors.{collector_by, open_in, shown_collecting}
 use Rattle.core_state.specs.Commands.{change_at, ends_session, is_remotes, leaves_writer}
+use Rattle.core_state.specs.Kept.{KeptAt, kept_at}
 use Rattle.core_state.specs.PassedTests.{PassesItsTests}
 use Rattle.core_state.specs.Entering.{held_by}
 use Rattle.core_state.specs.History.{History, StandsFor, event_of, then_event, world}
@@ -77,8 +77,8 @@ remote_other = by_remote IsNoEnd (λ c. record { end = λ e. cc; sweep = λ e. c
 remote_change : {D : Type 0} (parts : Parts D) (lane : ℕ) (act : Act) → family_of act ≡ Reaches → change_at parts lane act ≡ stays
 remote_change parts lane = by_remote (λ act. change_at parts lane act ≡ stays) (λ c. refl) (λ snapshot name offset. refl) (λ digest. refl)
 
-remote_lists : (reply : Option Reply) (place : ℕ) (session : Session) (catalogue : List Listed) (act : Act) → family_of act ≡ Reaches → listed_by act reply place session catalogue ≡ catalogue
-remote_lists reply place session catalogue = by_remote (λ act. listed_by act reply place session catalogue ≡ catalogue) (λ c. refl) (λ snapshot name offset. refl) (λ digest. refl)
+remote_lists : (reply : Option Reply) (place : ℕ) (k : KeptAt) (act : Act) → family_of act ≡ Reaches → listed_by act reply place k ≡ k.catalogue
+remote_lists reply place k = by_remote (λ act. listed_by act reply place k ≡ k.catalogue) (λ c. refl) (λ snapshot name offset. refl) (λ digest. refl)
 
 remote_closes : (x : Session) (act : Act) → family_of act ≡ Reaches → closes act x ≡ false
 remote_closes x = by_remote (λ act. closes act x ≡ false) (λ c. refl) (λ snapshot name offset. refl) (λ digest. refl)
@@ -219,7 +219,7 @@ module _ {D E C : Type 0} (d : Ghosts D) (e : Ghosts E) (clock : clocks.Ghosts C
         crash = λ _. inl same;
         passed_its_tests = λ _ _ s h. remote_passes s k act remotes;
         firm = λ _ _. subst (IsFirm d (old.parts).disk (new.parts).disk) (sym change) tt;
-        listed = ap (λ p. p.catalogue.listed) parts ∙ sym (remote_lists answer.reply answer.place (session_at old.parts k) (old.parts).catalogue.listed act remotes);
+        listed = ap (λ p. p.catalogue.listed) parts ∙ sym (remote_lists answer.reply answer.place (kept_at old.parts k) act remotes);
         admin = λ _. (ap (λ p. p.sessions.items) parts, ap (λ p. p.locks) parts);
         ended = λ ends. absurd (remote_ends act remotes ends);
         rows = λ i _. ap (λ p. row_at p i) parts;

@@ -25,10 +25,10 @@ use Rattle.backup_session.specs.Indexes.{text_of}
 use Rattle.backup_session.specs.Session.{Open}
 use Rattle.backup_session.specs.Shown.{shown}
 use Rattle.backup_session.specs.Steps.{begun_at}
-use Rattle.core_state.specs.declared.kept.Listed.{Listed}
 use Rattle.core_state.specs.declared.kept.Writing.{Writing}
 use Rattle.core_state.specs.Changes.{Change, MayLeave, blob_put, by_reply, by_writer, change_of, drops, file_put, finishes, forgets, index_put, installs, put_paths, stays, stores, undone}
 use Rattle.core_state.specs.Holds.{IsSound, IsWriter}
+use Rattle.core_state.specs.Kept.{KeptAt}
 use Rattle.core_state.specs.Shown.{shown_files, shown_session, shown_writer}
 use Rattle.core_state.proofs.AnyPaths.{apart_any, apart_staged, stands_installs, stands_loses}
 use Rattle.core_state.proofs.OnDisk.{fresh}
@@ -107,37 +107,37 @@ spares_all (acts.Plain (commands.Forget snapshot)) = false
 spares_all (acts.Chunk digest checked) = false
 spares_all act = true
 
-module _ (s : Store) (lane : ℕ) (sound : IsSound s) where
-  by_session : (change : Writing → Change) → ((w : Writer) → IsWriter s.snapshots w → Spares s.snapshots (change (shown_writer w))) → Spares s.snapshots (by_writer (shown_session s.snapshots (session s lane)) change)
-  by_session change spares = go (session s lane) refl
+module _ (s : Store) (lane : ℕ) (sound : IsSound s) (k : KeptAt) (shown : k.session ≡ shown_session s.snapshots (session s lane)) where
+  by_session : (change : Writing → Change) → ((w : Writer) → IsWriter s.snapshots w → Spares s.snapshots (change (shown_writer w))) → Spares s.snapshots (by_writer k.session change)
+  by_session change spares = subst (λ x. Spares s.snapshots (by_writer x change)) (sym shown) (go (session s lane) refl)
     where
       go : (x : model.Session) → session s lane ≡ x → Spares s.snapshots (by_writer (shown_session s.snapshots x) change)
       go model.none at = tt
       go (model.writer w) at = spares w (sound.writers lane w at)
       go (model.reader r) at = tt
 
-  spares_drops : Spares s.snapshots (by_writer (shown_session s.snapshots (session s lane)) (λ w. drops (put_paths w.files)))
+  spares_drops : Spares s.snapshots (by_writer k.session (λ w. drops (put_paths w.files)))
   spares_drops = by_session (λ w. drops (put_paths w.files)) (λ w h. spares_paths s.snapshots w sound.each h w.files)
 
-  spares_command : (c : Command) (catalogue : List Listed) → spares_all (acts.Plain c) ≡ true → Spares s.snapshots (change_of (acts.Plain c) (shown_session s.snapshots (session s lane)) catalogue)
-  spares_command (commands.CloseIndex number count size csum) catalogue is =
+  spares_command : (c : Command) → spares_all (acts.Plain c) ≡ true → Spares s.snapshots (change_of (acts.Plain c) k)
+  spares_command (commands.CloseIndex number count size csum) is =
       by_session (λ w. index_put (begun_at number (w.session).writer) w) (λ w h. spares_index s.snapshots w sound.each h (begun_at number ((shown_writer w).session).writer))
-  spares_command commands.Abort catalogue is = spares_drops
-  spares_command commands.Finish catalogue is = cc
-  spares_command (commands.Forget snapshot) catalogue is = cc
-  spares_command c catalogue is = tt
+  spares_command commands.Abort is = spares_drops
+  spares_command commands.Finish is = cc
+  spares_command (commands.Forget snapshot) is = cc
+  spares_command c is = tt
 
-  pub spares_change : (act : Act) (catalogue : List Listed) → spares_all act ≡ true → Spares s.snapshots (change_of act (shown_session s.snapshots (session s lane)) catalogue)
-  spares_change (acts.Plain c) catalogue is = spares_command c catalogue is
-  spares_change (acts.JobGroup c) catalogue is = tt
-  spares_change (acts.Blob name checked) catalogue is = by_session (blob_put name checked) (λ w h. spares_blob s.snapshots w sound.each h name checked)
-  spares_change (acts.Chunk digest checked) catalogue is = cc
-  spares_change (acts.ReadFile name offset) catalogue is = tt
-  spares_change (acts.ReadChunk name entry) catalogue is = tt
-  spares_change (acts.RemoteList c) catalogue is = tt
-  spares_change (acts.RemoteFile snapshot name offset) catalogue is = tt
-  spares_change (acts.RemoteChunk digest) catalogue is = tt
-  spares_change acts.Start catalogue is = tt
-  spares_change acts.Step catalogue is = tt
-  spares_change acts.Short catalogue is = tt
-  spares_change acts.End catalogue is = spares_drops
+  pub spares_change : (act : Act) → spares_all act ≡ true → Spares s.snapshots (change_of act k)
+  spares_change (acts.Plain c) is = spares_command c is
+  spares_change (acts.JobGroup c) is = tt
+  spares_change (acts.Blob name checked) is = by_session (blob_put name checked) (λ w h. spares_blob s.snapshots w sound.each h name checked)
+  spares_change (acts.Chunk digest checked) is = cc
+  spares_change (acts.ReadFile name offset) is = tt
+  spares_change (acts.ReadChunk name entry) is = tt
+  spares_change (acts.RemoteList c) is = tt
+  spares_change (acts.RemoteFile snapshot name offset) is = tt
+  spares_change (acts.RemoteChunk digest) is = tt
+  spares_change acts.Start is = tt
+  spares_change acts.Step is = tt
+  spares_change acts.Short is = tt
+  spares_change acts.End is = spares_drops

@@ -25,6 +25,7 @@ use Rattle.core_state.specs.Catalogue.{listed_by}
 use Rattle.core_state.specs.Changes.{after, by_reply, stays}
 use Rattle.core_state.specs.Closing.{is_closing}
 use Rattle.core_state.specs.Collectors.{collector_by}
+use Rattle.core_state.specs.Kept.{kept_at}
 use Rattle.core_state.specs.Replies.{may_answer}
 use Rattle.core_state.specs.Commands.{change_at}
 use Rattle.core_state.specs.Entering.{held_by}
@@ -151,8 +152,8 @@ module _ {D E C : Type 0} (d : Ghosts D) (clock : clocks.Ghosts C) (old mid new 
         crash = λ _. inl same;
         passed_its_tests = λ _ said. absurd (fine (refusal_same refusal DiskFault (sym reply_is ∙ said)));
         firm = λ _. undone answer refusal reply_is;
-        listed = ap (λ p. p.catalogue.listed) kept ∙ sym (ap (λ r. listed_by act r answer.place (session_at old.parts k) (old.parts).catalogue.listed) reply_is
-            ∙ unlisted act refusal answer.place (session_at old.parts k) (old.parts).catalogue.listed);
+        listed = ap (λ p. p.catalogue.listed) kept ∙ sym (ap (λ r. listed_by act r answer.place (kept_at old.parts k)) reply_is
+            ∙ unlisted act refusal answer.place (kept_at old.parts k));
         admin = λ _. (ap (λ p. p.sessions.items) kept, ap (λ p. p.locks) kept);
         ended = λ _. undone answer refusal reply_is;
         rows = λ i _. ap (λ p. row_at p i) kept;
