@@ -285,7 +285,7 @@ module _ {D E C : Type 0} (d : Ghosts D) (told : TellsMoments d) (old new : Core
         → next_store R w k (answer.entry).moment gone n ≡ forgot w.store key → LeadsTo (next gone)
     forget_given key x named there all reply store =
         let whole = found_whole now key x (((f.holds).shows).sound).each there in
-        let is = forget_changes text (old.parts).catalogue.listed now key x ((f.holds).shows).catalogue named there in
+        let is = forget_changes text (kept_at old.parts k) now key x ((f.holds).shows).catalogue named there in
         subst LeadsTo (sym (ap (λ (s : Store). s.snapshots) store ∙ ap (λ q. without_snapshot q now) (sym (found_key now key x there))))
         (leads_forget d told (old.parts).disk (new.parts).disk ((n == 5) ≡ false) now x whole (crash_as gone f _ all is) (firm_as gone f _ is reply))
 

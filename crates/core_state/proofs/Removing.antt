@@ -20,10 +20,10 @@ use Rattle.store_model.specs.Steps.{outcome}
 use Rattle.store_model.proofs.Done.{done}
 use Rattle.store_model.specs.Stands.{IsSnapshot, names_content}
 use Rattle.store_model.specs.Store.{Store, Outcome, snapshot_named, without_snapshot}
-use Rattle.core_state.specs.declared.kept.Listed.{Listed}
 use Rattle.core_state.specs.declared.kept.StoredFile.{StoredFile}
 use Rattle.core_state.specs.Changes.{forgets, forgotten, names_beside}
-use Rattle.core_state.specs.Found.{named_kept}
+use Rattle.core_state.specs.Heads.{named_kept}
+use Rattle.core_state.specs.Kept.{KeptAt}
 use Rattle.core_state.specs.Shown.{shown_file, shown_files, shown_snapshot}
 use Rattle.core_state.proofs.Finding.{found_in, found_passes}
 use Rattle.core_state.proofs.Found.{kept_is}
@@ -85,8 +85,8 @@ found_key snapshots key x there = (same_keys x.key key).0 (found_passes (λ (y :
 pub found_whole : (snapshots : List Snapshot) (key : SnapshotKey) (x : Snapshot) → All IsSnapshot snapshots → snapshot_named key snapshots ≡ Some x → IsSnapshot x
 found_whole snapshots key x each there = found_in IsSnapshot (λ (y : Snapshot). same_key y.key key) snapshots x each there
 
-pub forget_changes : (text : List ℕ) (catalogue : List Listed) (snapshots : List Snapshot) (key : SnapshotKey) (x : Snapshot) → map (λ x. x.kept) catalogue ≡ map shown_snapshot snapshots
+pub forget_changes : (text : List ℕ) (at : KeptAt) (snapshots : List Snapshot) (key : SnapshotKey) (x : Snapshot) → map (λ x. x.kept) at.catalogue ≡ map shown_snapshot snapshots
     → key_of text ≡ Some key → snapshot_named key snapshots ≡ Some x
-    → forgotten (result_ok (named_kept text catalogue)) ≡ forgets (manifest_path x.key) (map (file_path x.key) (beside x))
-forget_changes text catalogue snapshots key x shown is there =
-    ap (λ r. forgotten (result_ok r)) (named_is text catalogue key (shown_snapshot x) is (kept_is catalogue snapshots key shown ∙ ap (option_map shown_snapshot) there))
+    → forgotten (result_ok (named_kept text at)) ≡ forgets (manifest_path x.key) (map (file_path x.key) (beside x))
+forget_changes text at snapshots key x shown is there =
+    ap (λ r. forgotten (result_ok r)) (named_is text at key (shown_snapshot x) is (kept_is at.catalogue snapshots key shown ∙ ap (option_map shown_snapshot) there))

@@ -30,7 +30,7 @@ use Rattle.core_state.specs.declared.kept.Writing.{Writing}
 use Rattle.core_state.specs.declared.kept.StoredFile.{StoredFile}
 use Rattle.core_state.specs.declared.kept.Session.{Session}
 use Rattle.core_state.specs.declared.kept.Session.TheVariants.{Idle, Writer, Reader}
-use Rattle.core_state.specs.Found.{named_kept}
+use Rattle.core_state.specs.Heads.{named_kept}
 use Rattle.core_state.specs.Kept.{KeptAt}
 use Rattle.core_state.specs.Shown.{put_at}
 
@@ -114,7 +114,7 @@ change_of (Chunk digest checked) k = by_writer k.session (λ w. chunk_put digest
 change_of (Plain (CloseIndex number count size csum)) k = by_writer k.session (λ w. index_put (begun_at number (w.session).writer) w)
 change_of (Plain Finish) k = finish_by k.session
 change_of (Plain Abort) k = by_writer k.session (λ w. drops (put_paths w.files))
-change_of (Plain (Forget snapshot)) k = forgotten (result_ok (named_kept snapshot k.catalogue))
+change_of (Plain (Forget snapshot)) k = forgotten (result_ok (named_kept snapshot k))
 change_of End k = by_writer k.session (λ w. drops (put_paths w.files))
 change_of _ k = stays
 

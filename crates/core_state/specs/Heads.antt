@@ -4,9 +4,11 @@ use Rattle.std.specs.Prelude.{◌==◌, ℕ, List, length, Option, Some, None, i
 use Rattle.store_types.specs.declared.names.GroupKey.{GroupKey}
 use Rattle.store_types.specs.declared.names.SnapshotKey.{SnapshotKey}
 use Rattle.store_types.specs.declared.refusal.Refusal.{Refusal}
-use Rattle.store_types.specs.declared.refusal.Refusal.TheVariants.{BadName}
+use Rattle.store_types.specs.declared.refusal.Refusal.TheVariants.{BadName, NoSnapshot}
 use Rattle.store_types.specs.Chain.Refusing.{◌>>=◌, or_else}
 use Rattle.store_types.specs.Names.{group_of, key_of}
+use Rattle.core_state.specs.declared.kept.Kept.{Kept}
+use Rattle.core_state.specs.Found.{kept_named}
 use Rattle.core_state.specs.Kept.{KeptAt}
 use Rattle.core_state.specs.Wanted.{want_idle}
 
@@ -15,6 +17,12 @@ use Rattle.core_state.specs.Wanted.{want_idle}
 -- a snapshot
 unfoldable pub key_in : List ℕ → KeptAt → Result SnapshotKey Refusal
 key_in text k = or_else BadName (key_of text)
+
+-- and that is finished
+unfoldable pub named_kept : List ℕ → KeptAt → Result Kept Refusal
+named_kept text k = do
+  key ← key_in text k
+  or_else NoSnapshot (kept_named key k.catalogue)
 
 -- a group
 unfoldable pub group_in : List ℕ → KeptAt → Result GroupKey Refusal

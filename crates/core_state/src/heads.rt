@@ -14,7 +14,7 @@ impl<D> Parts<D> {
     /// The snapshot that the text names.
     #[tactic(auto, unfolding(key_in), using(crate::proofs::Texts::bad_name_has_text))]
     pub fn key_in(&self, alloc: Global, lane: u32, text: &[u8]) -> Result<SnapshotKey, Stop>
-        ensures { Decides (λ key. key) (key_in text.now) self.now lane result }
+        ensures decides { Decides (λ key. key) (key_in text.now) self.now lane result }
         ensures grammar { IfOk result IsKey }
     {
         let Ok(key) = SnapshotKey::parse(alloc, text)? else {
@@ -26,7 +26,7 @@ impl<D> Parts<D> {
     /// The group that the text names.
     #[tactic(auto, unfolding(group_in), using(crate::proofs::Texts::bad_name_has_text))]
     pub fn group_in(&self, alloc: Global, lane: u32, text: &[u8]) -> Result<GroupKey, Stop>
-        ensures { Decides (λ group. group) (group_in text.now) self.now lane result }
+        ensures decides { Decides (λ group. group) (group_in text.now) self.now lane result }
         ensures grammar { IfOk result IsGroup }
     {
         let Ok(group) = GroupKey::parse(alloc, text)? else {
@@ -43,7 +43,7 @@ impl<D> Parts<D> {
         lane: u32,
         text: &[u8],
     ) -> Result<Option<SnapshotKey>, Stop>
-        ensures { Decides (λ after. after) (after_in text.now) self.now lane result }
+        ensures decides { Decides (λ after. after) (after_in text.now) self.now lane result }
         ensures grammar { IfOk result (λ after. IfSome after IsKey) }
     {
         if text.is_empty() {
@@ -65,7 +65,7 @@ impl<D> Parts<D> {
     #[tactic(auto, unfolding(idle_key))]
     pub fn idle_key(&self, alloc: Global, lane: u32, text: &[u8]) -> Result<SnapshotKey, Stop>
         requires { lane < 64 }
-        ensures { Decides (λ key. key) (idle_key text.now) self.now lane result }
+        ensures decides { Decides (λ key. key) (idle_key text.now) self.now lane result }
         ensures grammar { IfOk result IsKey }
     {
         self.idle_in(lane)?;
@@ -76,7 +76,7 @@ impl<D> Parts<D> {
     #[tactic(auto, unfolding(idle_group))]
     pub fn idle_group(&self, alloc: Global, lane: u32, text: &[u8]) -> Result<GroupKey, Stop>
         requires { lane < 64 }
-        ensures { Decides (λ group. group) (idle_group text.now) self.now lane result }
+        ensures decides { Decides (λ group. group) (idle_group text.now) self.now lane result }
         ensures grammar { IfOk result IsGroup }
     {
         self.idle_in(lane)?;
