@@ -1,4 +1,4 @@
--- FILES, by what the core keeps and what the disk holds.
+-- FILES, by what it finds and what the disk holds.
 use Rattle.std.specs.Prelude.{◌≡◌, ◌<◌, ◌≤◌, ◌^◌, ℕ, List, map, length, take, Option, Some, None, option_map, Result, Ok, Err}
 use Rattle.std.specs.FinMap.{get}
 use Rattle.blob_codec.specs.Laws.{AreBytes}
@@ -16,10 +16,10 @@ use Rattle.wire_commands.specs.declared.reply.Reply.TheVariants.{Files, Refused}
 use Rattle.store_model.specs.Stands.{file_limit}
 use Rattle.store_files.specs.Folder.{manifest_path}
 use Rattle.core_state.specs.declared.kept.Kept.{Kept}
-use Rattle.core_state.specs.declared.kept.Listed.{Listed}
 use Rattle.store_stops.specs.declared.stop.Stop.{Stop}
 use Rattle.store_stops.specs.declared.stop.Stop.TheVariants as stops
-use Rattle.core_state.specs.Found.{named_kept}
+use Rattle.core_state.specs.Heads.{named_kept}
+use Rattle.core_state.specs.Kept.{KeptAt}
 use Rattle.core_state.specs.Listing.{listing_at}
 use Rattle.core_state.specs.Replies.{reply_told}
 use Rattle.store_stops.specs.Stops.{Gives}
@@ -37,8 +37,8 @@ asked_at (Ok k) = Some (asked_of k.key k.unreadable)
 asked_at (Err refusal) = None
 
 -- where the text names a snapshot
-abbrev pub asked_files : List ℕ → List Listed → Option Asked
-asked_files text catalogue = asked_at (named_kept text catalogue)
+abbrev pub asked_files : List ℕ → KeptAt → Option Asked
+asked_files text at = asked_at (named_kept text at)
 
 -- the rows of its files, of which there are 64 at most
 abbrev pub rows_in : List ℕ × Manifest → Kept → List FileRow
@@ -49,9 +49,9 @@ abbrev pub rows_read : Content → Kept → Result (List FileRow) Refusal
 rows_read m k = or_else (Unreadable (manifest_path k.key)) (listing_at m (manifest_path k.key)) >>= λ read. Ok (rows_in read k)
 
 -- whether the snapshot is damaged comes first
-unfoldable pub files_told : Content → List ℕ → List Listed → Result Reply Refusal
-files_told m text catalogue = do
-  kept ← named_kept text catalogue
+unfoldable pub files_told : Content → List ℕ → KeptAt → Result Reply Refusal
+files_told m text at = do
+  kept ← named_kept text at
   _ ← if_none Unreadable kept.unreadable
   rows ← rows_read m kept
   Ok (Files rows)
@@ -92,9 +92,9 @@ AnswersFiles (Ok k) reply = AnswersOf k.key k.unreadable reply
 AnswersFiles (Err refusal) reply = reply ≡ Refused refusal
 
 -- and on an honest disk, whatever it holds, exactly by what the manifest on it lists
-pub record TellsFiles {D : Type 0} (d : Ghosts D) (disk : D) (text : List ℕ) (catalogue : List Listed) (reply : Reply) : Type 0 where
-  pub kept : AnswersFiles (named_kept text catalogue) reply
-  pub listed : d.honest disk → reply ≡ reply_told (files_told (d.content disk) text catalogue)
+pub record TellsFiles {D : Type 0} (d : Ghosts D) (disk : D) (text : List ℕ) (at : KeptAt) (reply : Reply) : Type 0 where
+  pub kept : AnswersFiles (named_kept text at) reply
+  pub listed : d.honest disk → reply ≡ reply_told (files_told (d.content disk) text at)
 
 -- the row of a file's name, of a number of 64 bits and of a SHA-256
 abbrev pub IsFileRow : FileRow → Type 0

@@ -29,7 +29,7 @@ use snapshot_files::{manifest_path_of, read_manifest};
 use std::alloc::{AllocError, Global};
 use store_stops::Stop;
 use store_types::{
-    Bytes, Digest32, FILE_LIMIT, FileName, LISTED_LIMIT, Refusal, Rows, SnapshotKey,
+    Bytes, Digest32, FILE_LIMIT, FileName, LISTED_LIMIT, Refusal, Rows,
 };
 use wire_commands::{FileRow, Reply};
 
@@ -169,20 +169,18 @@ fn rows_read<D: Disk>(disk: &mut D, alloc: Global, kept: &Kept) -> Result<Rows<F
 pub fn files<D: Disk>(
     parts: &mut Parts<D>,
     alloc: Global,
-    _at: Place,
+    at: Place,
     snapshot: &[u8],
 ) -> Result<Reply, Stop>
-    ensures does { PlainDoes D.Disk parts.old parts.new _at (Files snapshot.now) result }
-    ensures leaves { PlainLeaves D.Disk parts.old parts.new _at (Files snapshot.now) result }
+    ensures does { PlainDoes D.Disk parts.old parts.new at (Files snapshot.now) result }
+    ensures leaves { PlainLeaves D.Disk parts.old parts.new at (Files snapshot.now) result }
     // on any disk, where there is such a snapshot: the file that makes it damaged, exactly where one does; else rows, or
     // that the manifest is unreadable. On an honest disk, whatever it holds, just what the manifest there lists, or that
-    ensures from_state { ActAnswersBy D.Disk parts.old _at (Plain (Files snapshot.now)) result }
+    ensures from_state { ActAnswersBy D.Disk parts.old at (Plain (Files snapshot.now)) result }
     // it is unreadable exactly where it is, as far as the disk tells
-    ensures unreadable { ActUnreadable D.Disk (λ _. asked_files snapshot.now) parts.old _at result }
+    ensures unreadable { ActUnreadable D.Disk (asked_files snapshot.now) parts.old at result }
 {
-    let Ok(key) = SnapshotKey::parse(alloc, snapshot)? else {
-        return Err(Stop::Refused(Refusal::BadName));
-    };
+    let key = parts.key_in(alloc, at.lane, snapshot)?;
     let Some(kept) = parts.catalogue.named(&key) else {
         return Err(Stop::Refused(Refusal::NoSnapshot));
     };
