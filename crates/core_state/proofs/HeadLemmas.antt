@@ -81,6 +81,25 @@ module _ (P : Refusal → Type 0) where
       unfolding idle_group
       idle_group_refuses busy bad r e = refuses_then (idle_in k) (λ u. group_in text k) (idle_in_refuses busy) (λ u. group_in_refuses bad) r e
 
+-- ---- what they have found
+
+found : {A : Type 0} (refusal : Refusal) (o : Option A) (x : A) → or_else refusal o ≡ Ok x → o ≡ Some x
+found refusal None x e = cc
+found refusal (Some y) x e = cc
+
+module _ (k : KeptAt) (text : List ℕ) where
+  pub key_in_named : (key : SnapshotKey) → key_in text k ≡ Ok key → key_of text ≡ Some key
+  unfolding key_in
+  key_in_named key e = found BadName (key_of text) key e
+
+  pub idle_key_named : (key : SnapshotKey) → idle_key text k ≡ Ok key → key_of text ≡ Some key
+  unfolding idle_key
+  idle_key_named key e = key_in_named key (by_session (idle_in k) e)
+    where
+      by_session : (r : Result (Unit {0}) Refusal) → (r >>= λ u. key_in text k) ≡ Ok key → key_in text k ≡ Ok key
+      by_session (Ok u) e = e
+      by_session (Err refusal) e = cc
+
 -- ---- they are the plain store's
 
 same_idle : (snapshots : List Snapshot) (x : store.Session) → want_idle (shown_session snapshots x) ≡ store.want_idle x

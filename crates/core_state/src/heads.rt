@@ -37,12 +37,7 @@ impl<D> Parts<D> {
 
     /// The snapshot that the text names, or none where the text is empty.
     #[tactic(auto, unfolding(after_in))]
-    pub fn after_in(
-        &self,
-        alloc: Global,
-        lane: u32,
-        text: &[u8],
-    ) -> Result<Option<SnapshotKey>, Stop>
+    pub fn after_in(&self, alloc: Global, lane: u32, text: &[u8]) -> Result<Option<SnapshotKey>, Stop>
         ensures decides { Decides (λ after. after) (after_in text.now) self.now lane result }
         ensures grammar { IfOk result (λ after. IfSome after IsKey) }
     {
@@ -56,7 +51,7 @@ impl<D> Parts<D> {
     #[tactic(auto, unfolding(idle_in))]
     pub fn idle_in(&self, lane: u32) -> Result<(), Stop>
         requires { lane < 64 }
-        ensures { Decides (λ done. done) idle_in self.now lane result }
+        ensures decides { Decides (λ done. done) idle_in self.now lane result }
     {
         Ok(self.idle(lane)?)
     }
