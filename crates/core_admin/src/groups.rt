@@ -76,7 +76,7 @@ fn to_prune<D>(
     keep: &Keep,
 ) -> Result<GroupKey, Stop>
     requires { lane < 64 }
-    ensures decides { Decides (λ group. group) (to_prune name.now keep.now) parts.now lane result }
+    ensures { Decides (λ group. group) (to_prune name.now keep.now) parts.now lane result }
 {
     let group = parts.idle_group(alloc, lane, name)?;
     if !counts_fit(keep) {
