@@ -100,6 +100,14 @@ module _ (k : KeptAt) (text : List ℕ) where
       by_session (Ok u) e = e
       by_session (Err refusal) e = cc
 
+  pub idle_group_named : (group : GroupKey) → idle_group text k ≡ Ok group → group_of text ≡ Some group
+  unfolding idle_group group_in
+  idle_group_named group e = by_session (idle_in k) e
+    where
+      by_session : (r : Result (Unit {0}) Refusal) → (r >>= λ u. or_else BadName (group_of text)) ≡ Ok group → group_of text ≡ Some group
+      by_session (Ok u) e = found BadName (group_of text) group e
+      by_session (Err refusal) e = cc
+
 -- ---- they are the plain store's
 
 same_idle : (snapshots : List Snapshot) (x : store.Session) → want_idle (shown_session snapshots x) ≡ store.want_idle x
