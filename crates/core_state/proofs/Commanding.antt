@@ -16,7 +16,6 @@ use Rattle.store_types.specs.declared.refusal.SessionState.{SessionState}
 use Rattle.store_files.specs.Archive.{Snapshot}
 use Rattle.wire_commands.specs.declared.reply.Reply.{Reply}
 use Rattle.wire_commands.specs.declared.reply.Reply.TheVariants as replies
-use Rattle.wire_commands.specs.declared.command.Command.TheVariants.{Abort, CloseIndex, CloseReader, Finish, Forget}
 use Rattle.wire_commands.specs.HasText.{ReplyHasText}
 use Rattle.store_model.specs.Store as model
 use Rattle.store_model.specs.Store.{Store, Outcome, session, want_reader, ended}
@@ -27,6 +26,7 @@ use Rattle.store_model.specs.Steps.{outcome, answered}
 use Rattle.store_history.specs.declared.act.Act.{Act}
 use Rattle.store_history.specs.declared.act.Act.TheVariants as acts
 use Rattle.store_history.specs.History.{World, act_outcome, data_in}
+use Rattle.store_history.specs.Profile.{OnDisk, uncalled, read, changed, OnList, same_list, lists, takes_out, OnSessions, ends_reader, ends_writer, are_ended, is_called, is_changed, profile}
 use Rattle.restore_reader.specs.Session.{Reading}
 use Rattle.store_stops.specs.declared.stop.Stop.{Stop}
 use Rattle.core_state.specs.declared.entering.Place.{Place}
@@ -35,13 +35,13 @@ use Rattle.core_state.specs.declared.kept.Session.TheVariants.{Idle, Writer, Rea
 use Rattle.core_state.specs.declared.kept.Writing.{Writing}
 use Rattle.core_state.specs.declared.parts.Parts.{Parts}
 use Rattle.store_stops.specs.declared.stop.Stop.TheVariants.{Refused, NoMemory, DiskFailed}
-use Rattle.core_state.specs.Catalogue.{listed_by}
-use Rattle.core_state.specs.Changes.{Change, IsFirm, LeavesChange, MayLeave, after, by_stop, change_of, stays, undone, installs, stores, drops, finishes, forgets}
+use Rattle.core_state.specs.Catalogue.{listed_by, listed_on}
+use Rattle.core_state.specs.Changes.{Change, IsFirm, LeavesChange, MayLeave, after, by_stop, change_of, change_on, stays, undone, installs, stores, drops, finishes, forgets}
 use Rattle.core_state.specs.Chunks.{Adds, IsSafe}
-use Rattle.core_state.specs.Closing.{HasClosed, HasEnded, closes, is_reader, is_writer}
+use Rattle.core_state.specs.Closing.{HasClosed, HasEnded, closes, is_ended, is_reader, is_writer}
 use Rattle.core_state.specs.Commands.{ActDoes, ActLeaves, IsNoRefusal, LeavesRows, RowsStay, change_at, ends_session, calls_no_disk, is_still, leaves_writer, reads_only, row_stays}
 use Rattle.core_state.specs.Kept.{KeptAt, kept_at}
-use Rattle.core_state.specs.PassedTests.{PassesItsTests}
+use Rattle.core_state.specs.PassedTests.{PassesFor, PassesItsTests}
 use Rattle.core_state.specs.Indexed.{FitsRows, row_in}
 use Rattle.core_state.specs.Holds.{Holds, IsOnDisk, Shows, Does, Acts}
 use Rattle.core_state.specs.Replies.{may_answer}
@@ -257,9 +257,12 @@ does_is remote w s lane moment acts.End = refl
 
 -- a refused act leaves the catalogue
 pub unlisted : (act : Act) (refusal : Refusal) (number : ℕ) (k : KeptAt) → listed_by act (Some (replies.Refused refusal)) number k ≡ k.catalogue
-unlisted (acts.Plain Finish) refusal number k = refl
-unlisted (acts.Plain (Forget snapshot)) refusal number k = refl
-unlisted act refusal number k = refl
+unlisted act refusal number k = by_list (profile act).list
+  where
+    by_list : (list : OnList) → listed_on list (Some (replies.Refused refusal)) number k ≡ k.catalogue
+    by_list same_list = refl
+    by_list lists = refl
+    by_list (takes_out snapshot) = refl
 
 unlisted_by : (act : Act) (stop : Stop) (number : ℕ) (k : KeptAt) → listed_by act (Some (reply_by (told (Err stop)))) number k ≡ k.catalogue
 unlisted_by act (Refused refusal) number k = unlisted act refusal number k
@@ -268,31 +271,33 @@ unlisted_by act DiskFailed number k = unlisted act _ number k
 
 -- an act that closes a session is done with none
 closes_ends : (act : Act) (x : Session) → closes act x ≡ true → ends_session act ≡ true
-closes_ends (acts.Plain Abort) x e = refl
-closes_ends (acts.Plain CloseReader) x e = refl
-closes_ends act x e = cc
+closes_ends act x e = by_sessions (profile act).sessions e
+  where
+    by_sessions : (sessions : OnSessions) → is_ended sessions x ≡ true → are_ended sessions ≡ true
+    by_sessions ends_writer e = refl
+    by_sessions ends_reader e = refl
+    by_sessions sessions e = cc
 
 false_true : false ≡ true → ⊥
 false_true e = cc
 
 -- an act that only reads changes nothing
 reads_stay : (act : Act) (k : KeptAt) → reads_only act ≡ true → change_of act k ≡ stays
-reads_stay (acts.Blob name checked) k only = cc
-reads_stay (acts.Chunk digest checked) k only = cc
-reads_stay (acts.Plain (CloseIndex number count size csum)) k only = cc
-reads_stay (acts.Plain Finish) k only = cc
-reads_stay (acts.Plain Abort) k only = cc
-reads_stay (acts.Plain (Forget snapshot)) k only = cc
-reads_stay acts.End k only = cc
-reads_stay act k only = refl
+reads_stay act k only = by_disk (profile act).disk only
+  where
+    by_disk : (disk : OnDisk) → not (is_changed disk) ≡ true → change_on disk k ≡ stays
+    by_disk uncalled only = refl
+    by_disk read only = refl
+    by_disk (changed change) only = cc
 
 -- of an act that only reads it says nothing
 reads_pass : (act : Act) (s : Store) (lane : ℕ) → reads_only act ≡ true → PassesItsTests act s lane
-reads_pass (acts.Blob name checked) s lane only = cc
-reads_pass (acts.Chunk digest checked) s lane only = cc
-reads_pass (acts.Plain Finish) s lane only = cc
-reads_pass (acts.Plain (Forget snapshot)) s lane only = cc
-reads_pass act s lane only = tt
+reads_pass act s lane only = by_disk (profile act).disk only
+  where
+    by_disk : (disk : OnDisk) → not (is_changed disk) ≡ true → PassesFor disk s lane
+    by_disk uncalled only = tt
+    by_disk read only = tt
+    by_disk (changed change) only = cc
 
 -- the acts that read the disk, and change nothing there
 abbrev pub reads_disk : Act → Bool
@@ -307,15 +312,12 @@ disk_called act reads no_disk_call = apart (calls_no_disk act) (and_parts (reads
 
 -- an act that makes no call of the disk changes nothing there
 no_disk_reads : (act : Act) → calls_no_disk act ≡ true → reads_only act ≡ true
-no_disk_reads (acts.Blob name checked) no_disk_call = cc
-no_disk_reads (acts.Chunk digest checked) no_disk_call = cc
-no_disk_reads (acts.Plain (CloseIndex number count size csum)) no_disk_call = cc
-no_disk_reads (acts.Plain Finish) no_disk_call = cc
-no_disk_reads (acts.Plain Abort) no_disk_call = cc
-no_disk_reads (acts.Plain (Forget snapshot)) no_disk_call = cc
-no_disk_reads acts.Step no_disk_call = cc
-no_disk_reads acts.End no_disk_call = cc
-no_disk_reads act no_disk_call = refl
+no_disk_reads act no_disk_call = by_disk (profile act).disk no_disk_call
+  where
+    by_disk : (disk : OnDisk) → not (is_called disk) ≡ true → not (is_changed disk) ≡ true
+    by_disk uncalled no_disk_call = refl
+    by_disk read no_disk_call = refl
+    by_disk (changed change) no_disk_call = cc
 
 pub not_still : {P : Type 0} (act : Act) → is_still act ≡ false → is_still act ≡ true → P
 not_still act other is = absurd (false_true (sym other ∙ is))

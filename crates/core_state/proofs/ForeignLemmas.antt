@@ -27,6 +27,7 @@ use Rattle.store_model.specs.Weave.{first_fault}
 use Rattle.store_history.specs.declared.act.Act.{Act}
 use Rattle.store_history.specs.declared.act.Act.TheVariants as acts
 use Rattle.store_history.specs.declared.act.Answer.{Answer}
+use Rattle.store_history.specs.Acts.{sent_chunk}
 use Rattle.store_history.specs.Saved.{book_name}
 use Rattle.backup_session.specs.Session.{Open}
 use Rattle.backup_session.specs.Steps.{begun_at}
@@ -66,8 +67,7 @@ misses_file q none key name = (none key name, λ e. none key (name ++ codes ".tm
 
 -- nor the name under which the act puts a chunk
 abbrev pub MissesChunk : List ℕ → Act → Type 0
-MissesChunk q (acts.Chunk digest checked) = Misses q (chunk_name digest.0)
-MissesChunk q act = Unit {0}
+MissesChunk q act = IfSome (sent_chunk act) (λ c. Misses q (chunk_name (c.0).0))
 
 -- each path of a change is another
 abbrev MissesAll : List ℕ → Change → Type 0

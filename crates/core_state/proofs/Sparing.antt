@@ -11,8 +11,6 @@ use Rattle.store_types.specs.declared.refusal.Refusal.{Refusal}
 use Rattle.store_types.specs.declared.refusal.Refusal.TheVariants as refusals
 use Rattle.store_files.specs.Archive.{File, Snapshot}
 use Rattle.store_files.specs.Folder.{file_path}
-use Rattle.wire_commands.specs.declared.command.Command.{Command}
-use Rattle.wire_commands.specs.declared.command.Command.TheVariants as commands
 use Rattle.wire_commands.specs.declared.reply.Reply.{Reply}
 use Rattle.wire_commands.specs.declared.reply.Reply.TheVariants as replies
 use Rattle.store_model.specs.Stands.{StandsFor, IsSnapshot}
@@ -20,13 +18,13 @@ use Rattle.store_model.specs.Store as model
 use Rattle.store_model.specs.Store.{Store, Writer, session}
 use Rattle.store_model.proofs.StandsLemmas.{Apart}
 use Rattle.store_history.specs.declared.act.Act.{Act}
-use Rattle.store_history.specs.declared.act.Act.TheVariants as acts
+use Rattle.store_history.specs.Profile.{new_file, new_chunk, new_index, new_manifest, no_files, no_snapshot, swept, OnDisk, uncalled, read, changed, profile}
 use Rattle.backup_session.specs.Indexes.{text_of}
 use Rattle.backup_session.specs.Session.{Open}
 use Rattle.backup_session.specs.Shown.{shown}
 use Rattle.backup_session.specs.Steps.{begun_at}
 use Rattle.core_state.specs.declared.kept.Writing.{Writing}
-use Rattle.core_state.specs.Changes.{Change, MayLeave, blob_put, by_reply, by_writer, change_of, drops, file_put, finishes, forgets, index_put, installs, put_paths, stays, stores, undone}
+use Rattle.core_state.specs.Changes.{Change, MayLeave, blob_put, by_reply, by_writer, change_of, change_on, drops, file_put, finishes, forgets, index_put, installs, put_paths, stays, stores, undone}
 use Rattle.core_state.specs.Holds.{IsSound, IsWriter}
 use Rattle.core_state.specs.Kept.{KeptAt}
 use Rattle.core_state.specs.Shown.{shown_files, shown_session, shown_writer}
@@ -101,11 +99,14 @@ module _ (snapshots : List Snapshot) (w : Writer) (each : All IsSnapshot snapsho
 -- ---- acts
 
 -- all but a FINISH, a FORGET and a CHUNK
+abbrev pub spares_on : OnDisk → Bool
+spares_on (changed new_manifest) = false
+spares_on (changed (no_snapshot snapshot)) = false
+spares_on (changed (new_chunk digest checked)) = false
+spares_on disk = true
+
 abbrev pub spares_all : Act → Bool
-spares_all (acts.Plain commands.Finish) = false
-spares_all (acts.Plain (commands.Forget snapshot)) = false
-spares_all (acts.Chunk digest checked) = false
-spares_all act = true
+spares_all act = spares_on (profile act).disk
 
 module _ (s : Store) (lane : ℕ) (sound : IsSound s) (k : KeptAt) (shown : k.session ≡ shown_session s.snapshots (session s lane)) where
   by_session : (change : Writing → Change) → ((w : Writer) → IsWriter s.snapshots w → Spares s.snapshots (change (shown_writer w))) → Spares s.snapshots (by_writer k.session change)
@@ -119,25 +120,17 @@ module _ (s : Store) (lane : ℕ) (sound : IsSound s) (k : KeptAt) (shown : k.se
   spares_drops : Spares s.snapshots (by_writer k.session (λ w. drops (put_paths w.files)))
   spares_drops = by_session (λ w. drops (put_paths w.files)) (λ w h. spares_paths s.snapshots w sound.each h w.files)
 
-  spares_command : (c : Command) → spares_all (acts.Plain c) ≡ true → Spares s.snapshots (change_of (acts.Plain c) k)
-  spares_command (commands.CloseIndex number count size csum) is =
+  spares_by : (disk : OnDisk) → spares_on disk ≡ true → Spares s.snapshots (change_on disk k)
+  spares_by uncalled is = tt
+  spares_by read is = tt
+  spares_by (changed (new_file name checked)) is = by_session (blob_put name checked) (λ w h. spares_blob s.snapshots w sound.each h name checked)
+  spares_by (changed (new_chunk digest checked)) is = cc
+  spares_by (changed (new_index number)) is =
       by_session (λ w. index_put (begun_at number (w.session).writer) w) (λ w h. spares_index s.snapshots w sound.each h (begun_at number ((shown_writer w).session).writer))
-  spares_command commands.Abort is = spares_drops
-  spares_command commands.Finish is = cc
-  spares_command (commands.Forget snapshot) is = cc
-  spares_command c is = tt
+  spares_by (changed new_manifest) is = cc
+  spares_by (changed no_files) is = spares_drops
+  spares_by (changed (no_snapshot snapshot)) is = cc
+  spares_by (changed swept) is = tt
 
   pub spares_change : (act : Act) → spares_all act ≡ true → Spares s.snapshots (change_of act k)
-  spares_change (acts.Plain c) is = spares_command c is
-  spares_change (acts.JobGroup c) is = tt
-  spares_change (acts.Blob name checked) is = by_session (blob_put name checked) (λ w h. spares_blob s.snapshots w sound.each h name checked)
-  spares_change (acts.Chunk digest checked) is = cc
-  spares_change (acts.ReadFile name offset) is = tt
-  spares_change (acts.ReadChunk name entry) is = tt
-  spares_change (acts.RemoteList c) is = tt
-  spares_change (acts.RemoteFile snapshot name offset) is = tt
-  spares_change (acts.RemoteChunk digest) is = tt
-  spares_change acts.Start is = tt
-  spares_change acts.Step is = tt
-  spares_change acts.Short is = tt
-  spares_change acts.End is = spares_drops
+  spares_change act is = spares_by (profile act).disk is

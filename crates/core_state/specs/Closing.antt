@@ -3,9 +3,8 @@ use Rattle.std.specs.Prelude.{◌≡◌, ℕ, Bool, true, false, Option, Some, N
 use Rattle.disk_trait.specs.declared.disk.DiskError.{DiskError}
 use Rattle.disk_trait.specs.declared.disk.DiskError.TheVariants.{NoMemory, Failed}
 use Rattle.wire_commands.specs.declared.reply.Reply.{Reply}
-use Rattle.wire_commands.specs.declared.command.Command.TheVariants.{Abort, CloseReader}
 use Rattle.store_history.specs.declared.act.Act.{Act}
-use Rattle.store_history.specs.declared.act.Act.TheVariants.{Plain}
+use Rattle.store_history.specs.Profile.{OnSessions, ends_writer, ends_reader, profile}
 use Rattle.core_state.specs.declared.parts.Parts.{Parts}
 use Rattle.core_state.specs.declared.state.Core.{Core}
 use Rattle.core_state.specs.Indexed.{row_at}
@@ -25,10 +24,13 @@ is_reader (Writer w) = false
 is_reader (Reader r) = true
 
 -- an ABORT ends a writer, a CLOSE_READER a reader
+abbrev pub is_ended : OnSessions → Session → Bool
+is_ended ends_writer session = is_writer session
+is_ended ends_reader session = is_reader session
+is_ended sessions session = false
+
 abbrev pub closes : Act → Session → Bool
-closes (Plain Abort) session = is_writer session
-closes (Plain CloseReader) session = is_reader session
-closes _ session = false
+closes act session = is_ended (profile act).sessions session
 
 -- after a fault of the disk an act that would end a session is refused
 abbrev pub closes_by : Option ℕ → Act → Session → Bool

@@ -333,10 +333,19 @@ gives_blob _ = false
 
 -- what a read of the remote gives
 abbrev pub may_give : Act → Reply → Bool
+may_give (acts.Plain command) reply = false
+may_give (acts.JobGroup command) reply = false
+may_give (acts.Blob name checked) reply = false
+may_give (acts.Chunk digest checked) reply = false
+may_give (acts.ReadFile name offset) reply = false
+may_give (acts.ReadChunk name entry) reply = false
 may_give (acts.RemoteList command) reply = gives_keys reply
 may_give (acts.RemoteFile snapshot name offset) reply = gives_file offset reply
 may_give (acts.RemoteChunk digest) reply = gives_blob reply
-may_give _ reply = false
+may_give acts.Start reply = false
+may_give acts.Step reply = false
+may_give acts.Short reply = false
+may_give acts.End reply = false
 
 -- a collector that starts has no reply
 abbrev pub answers_start : Reply → Bool
@@ -372,7 +381,13 @@ command_answers (commands.List after) reply = answers_list reply
 command_answers (commands.Files snapshot) reply = answers_files reply
 command_answers (commands.Forget snapshot) reply = answers_forget reply
 command_answers (commands.Group name) reply = answers_group reply
-command_answers _ reply = false
+command_answers (commands.Chunk digest blob) reply = false
+command_answers (commands.Blob file blob) reply = false
+command_answers (commands.Prune group keep dry) reply = false
+command_answers (commands.Verify snapshot) reply = false
+command_answers (commands.Sync group) reply = false
+command_answers commands.Gc reply = false
+command_answers commands.Bye reply = false
 
 -- the first step of a job
 abbrev pub job_answers : Command → Reply → Bool
@@ -392,7 +407,7 @@ may_answer (acts.RemoteChunk digest) reply = answers_unread reply
 may_answer acts.Start reply = answers_start reply
 may_answer acts.Step reply = answers_step reply
 may_answer acts.End reply = answers_end reply
-may_answer _ reply = false
+may_answer acts.Short reply = false
 
 -- what a command gives, or its refusal, as a reply
 abbrev pub reply_told : Result Reply Refusal → Reply

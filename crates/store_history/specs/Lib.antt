@@ -1,4 +1,5 @@
 pub mod Acts
+pub mod Profile
 pub mod History
 pub mod Remote
 pub mod Pulling
