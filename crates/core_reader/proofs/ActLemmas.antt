@@ -59,9 +59,9 @@ readers_refused d readings old new lane (Plain (OpenReader snapshot)) answer ref
   answers = refused_tells d readings old new lane (reader_told snapshot) answer refuses;
   opened = unopened d readings old new lane answer (is_reader (session_at new.parts lane) ≡ true) refuses;
 }
-readers_refused d readings old new lane (Plain (Range file offset len)) answer refuses = λ honest. refused_tells d readings old new lane (bytes_told (row_at old.parts lane) file offset len (d.content (old.parts).disk)) answer refuses
+readers_refused d readings old new lane (Plain (Range file offset len)) answer refuses = λ honest. refused_tells d readings old new lane (bytes_told file offset len (d.content (old.parts).disk)) answer refuses
 readers_refused d readings old new lane (ReadFile name offset) answer refuses = λ honest. refused_tells d readings old new lane (part_told name offset (d.content (old.parts).disk)) answer refuses
-readers_refused d readings old new lane (ReadChunk name entry) answer refuses = λ honest. refused_tells d readings old new lane (chunk_told (row_at old.parts lane) name entry (d.content (old.parts).disk)) answer refuses
+readers_refused d readings old new lane (ReadChunk name entry) answer refuses = λ honest. refused_tells d readings old new lane (chunk_told name entry (d.content (old.parts).disk)) answer refuses
 readers_refused d readings old new lane act answer refuses = tt
 
 -- by what stood on the disk as the act was begun
@@ -72,11 +72,6 @@ read_done {D} d readings old mid acted new lane at wanted result answer admitted
     subst (λ m. CoreTells (wanted m) old lane answer) (ap (λ (p : Parts D). d.content p.disk) before)
     (done_tells d readings old mid acted new lane at (wanted (d.content (mid.parts).disk)) result answer admitted (tells (subst (λ (p : Parts D). d.honest p.disk) (sym before) honest)) e)
 
--- what the lane keeps of indexes as it is begun
-row_before : {D E C : Type 0} (readings : C → Option Readings) (old mid : Core D E C) (lane : ℕ) (at : Place) → IsAdmitted readings old mid lane at → row_at mid.parts at.lane ≡ row_at old.parts lane
-row_before {D} readings old mid lane at admitted =
-    ap (λ (p : Parts D). row_at p at.lane) ((admitted.ready).begun).parts ∙ ap (row_at old.parts) admitted.lane_is
-
 pub readers_done : {D E C : Type 0} (d : Ghosts D) (readings : C → Option Readings) (old mid acted new : Core D E C) (lane : ℕ) (at : Place) (act : Act) (result : Result Reply Stop) (answer : Answer)
     → IsAdmitted readings old mid lane at → ActAnswersBy d mid.parts acted.parts at act result → Settles d acted new at.lane at.moment (told result) answer → CoreAnswersBy d old new lane act answer
 readers_done d readings old mid acted new lane at (Plain (OpenReader snapshot)) result answer admitted tells e = record {
@@ -84,11 +79,9 @@ readers_done d readings old mid acted new lane at (Plain (OpenReader snapshot)) 
   opened = opens_so d acted new lane at result answer admitted.lane_is tells.opened e;
 }
 readers_done d readings old mid acted new lane at (Plain (Range file offset len)) result answer admitted tells e =
-    subst (λ r. CoreReads d (bytes_told r file offset len) old lane answer) (row_before readings old mid lane at admitted)
-    (read_done d readings old mid acted new lane at (bytes_told (row_at mid.parts at.lane) file offset len) result answer admitted tells e)
+    read_done d readings old mid acted new lane at (bytes_told file offset len) result answer admitted tells e
 readers_done d readings old mid acted new lane at (ReadFile name offset) result answer admitted tells e =
     read_done d readings old mid acted new lane at (part_told name offset) result answer admitted tells e
 readers_done d readings old mid acted new lane at (ReadChunk name entry) result answer admitted tells e =
-    subst (λ r. CoreReads d (chunk_told r name entry) old lane answer) (row_before readings old mid lane at admitted)
-    (read_done d readings old mid acted new lane at (chunk_told (row_at mid.parts at.lane) name entry) result answer admitted tells e)
+    read_done d readings old mid acted new lane at (chunk_told name entry) result answer admitted tells e
 readers_done d readings old mid acted new lane at act result answer admitted tells e = tt

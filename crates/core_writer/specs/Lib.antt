@@ -1,3 +1,13 @@
+pub mod Uploaded
+pub mod Pending
+pub mod Names
+pub mod NotedChunks
+pub mod Does
+pub mod Stepped
+pub mod Previous
+pub mod NewIndexes
+pub mod Calls
+pub mod CommandClauses
 pub mod Opened
 pub mod AnsweredBy
 pub mod Ended

@@ -7,7 +7,7 @@ use Rattle.store_history.specs.declared.act.Act.{Act}
 use Rattle.store_history.specs.declared.act.Act.TheVariants.{Plain}
 use Rattle.store_stops.specs.declared.stop.Stop.{Stop}
 use Rattle.core_state.specs.declared.parts.Parts.{Parts}
-use Rattle.core_uploads.specs.Previous.{NotesPooled}
+use Rattle.core_writer.specs.Previous.{NotesPooled}
 
 -- a PREVIOUS by how it ended; the other acts note nothing
 abbrev pub Notes : {D : Type 0} → Ghosts D → Parts D → Parts D → ℕ → Act → Result Reply Stop → Type 0

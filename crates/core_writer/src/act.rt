@@ -6,7 +6,6 @@ ghost use Rattle.store_history.specs.declared.act.Act.TheVariants.{End};
 ghost use Rattle.store_history.specs.Acts.{IsWellFormed, family_of};
 ghost use Rattle.core_state.specs.Applies.{ActApplies, ActKeeps};
 ghost use Rattle.core_state.specs.Commands.{ActDoes, ActLeaves};
-ghost use Rattle.core_state.specs.Indexed.{row_at};
 ghost use Rattle.core_state.specs.Reserved.{HasRoom};
 ghost use Rattle.core_state.specs.Stops.{ended_by};
 ghost use Rattle.core_state.specs.Unreadables.{ActUnreadable, CoreUnreadable};
@@ -15,15 +14,17 @@ ghost use Rattle.core_writer.specs.Notes.{Notes};
 ghost use Rattle.core_writer.specs.Touching.{ActTouches};
 ghost use Rattle.core_writer.specs.WriterActs.{asked_of_writer};
 
+use crate::archives::{close_index, new_dynamic, new_fixed};
 use crate::ending::{abort, end};
 use crate::finishing::finish;
 use crate::opening::open_writer;
+use crate::previous_files::previous;
 use crate::touching::{append_touched, chunk_touched};
+use crate::uploads::blob;
 use core_state::{
     Act, Admitted, Answer, Core, Family, Parts, Place, Upkeep, begin, end_session, enter,
     next_place, settle,
 };
-use core_uploads::{blob, close_index, new_dynamic, new_fixed, previous};
 use disk_trait::Disk;
 use port_traits::Clock;
 use std::alloc::Global;
@@ -46,8 +47,7 @@ fn perform<D: Disk>(
     ensures leaves { ActLeaves D.Disk parts.old parts.new at act result }
     ensures touches { ActTouches upkeep.old upkeep.new at act result }
     ensures from_state { ActAnswersBy parts.old at act result }
-    ensures unreadable { ActUnreadable D.Disk (asked_of_writer (row_at parts.old at.lane) act)
-        parts.old at result }
+    ensures unreadable { ActUnreadable D.Disk (asked_of_writer act) parts.old at result }
     ensures notes { Notes D.Disk parts.old parts.new at.lane act result }
 {
     match act {
@@ -104,8 +104,7 @@ pub fn writer_act<D: Disk, E, C: Clock>(
     // on any disk OPEN_WRITER answers what the core keeps
     ensures from_state { CoreAnswersBy core.old lane act result }
     // a file of the base is unreadable exactly where it is, as far as the disk tells
-    ensures unreadable { CoreUnreadable D.Disk (asked_of_writer (row_at core.old.parts lane) act)
-        core.old lane result }
+    ensures unreadable { CoreUnreadable D.Disk (asked_of_writer act) core.old lane result }
     // what the lane keeps of indexes then, and which pieces of one its writer may name
     ensures notes { Notes D.Disk core.old.parts core.new.parts lane act (ended_by result.reply) }
 {

@@ -8,7 +8,7 @@ use Rattle.core_state.specs.declared.indexes.Indexes.{Indexes}
 use Rattle.core_state.specs.declared.kept.Listed.{Listed}
 use Rattle.core_state.specs.declared.kept.Session.{Session}
 use Rattle.core_state.specs.Unreadables.{Asked}
-use Rattle.core_uploads.specs.Previous.{asked_of_base}
+use Rattle.core_writer.specs.Previous.{asked_of_base}
 use Rattle.core_collect.specs.Acts.{asked_of_collector}
 use Rattle.core_reader.specs.Asked.{asked_file}
 use Rattle.core_admin.specs.FilesTold.{asked_files}

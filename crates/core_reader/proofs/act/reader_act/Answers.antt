@@ -1,5 +1,6 @@
 use Rattle.std.proofs.Common.{Some, refl, sym, subst}
 use Rattle.store_history.proofs.Families.{reads_formed, reads_step, reads_untouching}
+use Rattle.core_state.specs.Kept.{kept_at}
 use Rattle.core_state.specs.Begins.{IsReady}
 use Rattle.core_state.specs.Indexed.{row_at}
 use Rattle.core_state.specs.Settles.{reply_by}
@@ -75,8 +76,8 @@ returns-in-At-clause-unreadable g c =
     let at = c.in-At.at in
     let begun = c.in-At.ensures.begun in
     let ready = subst (λ l. IsReady g.C.Clock.readings c.args.core.now c.begin.new.core l at.moment) (sym begun.lane_is) begun.ready in
-    subst (λ l. TellsUnreadable d old.disk (asked_file (row_at old l) c.args.act (session_at old l) old.catalogue.listed) c.settle.result.entry.kind c.settle.result.reply) begun.lane_is
-    (tells_done d g.C.Clock.readings c.args.core.now c.begin.new.core _ _ at.lane at.moment (λ p. asked_file (row_at p at.lane) c.args.act (session_at p at.lane) p.catalogue.listed) _ _ ready
+    subst (λ l. TellsUnreadable d old.disk (asked_file c.args.act (kept_at old l)) c.settle.result.entry.kind c.settle.result.reply) begun.lane_is
+    (tells_done d g.C.Clock.readings c.args.core.now c.begin.new.core _ _ at.lane at.moment (λ p. asked_file c.args.act (kept_at p at.lane)) _ _ ready
     c.perform-ended.ensures.unreadable c.settle.ensures)
 
 pub returns-in-At-clause-damaged : goal.returns-in-At-clause-damaged
@@ -86,9 +87,9 @@ returns-in-At-clause-damaged g c =
     let at = c.in-At.at in
     let begun = c.in-At.ensures.begun in
     let ready = subst (λ l. IsReady g.C.Clock.readings c.args.core.now c.begin.new.core l at.moment) (sym begun.lane_is) begun.ready in
-    subst (λ l. TellsDamaged d old.disk (MayName (row_at old l) c.args.act (session_at old l) old.catalogue.listed) (damage_by (row_at old l) c.args.act (session_at old l) old.catalogue.listed) c.settle.result.entry.kind c.settle.result.reply) begun.lane_is
-    (damages_done d g.C.Clock.readings c.args.core.now c.begin.new.core _ _ at.lane at.moment (λ p. MayName (row_at p at.lane) c.args.act (session_at p at.lane) p.catalogue.listed)
-    (λ p. damage_by (row_at p at.lane) c.args.act (session_at p at.lane) p.catalogue.listed) _ _ ready
+    subst (λ l. TellsDamaged d old.disk (MayName c.args.act (kept_at old l)) (damage_by c.args.act (kept_at old l)) c.settle.result.entry.kind c.settle.result.reply) begun.lane_is
+    (damages_done d g.C.Clock.readings c.args.core.now c.begin.new.core _ _ at.lane at.moment (λ p. MayName c.args.act (kept_at p at.lane))
+    (λ p. damage_by c.args.act (kept_at p at.lane)) _ _ ready
     c.perform-ended.ensures.damaged c.settle.ensures)
 
 pub returns-in-Answered-clause-notes : goal.returns-in-Answered-clause-notes

@@ -1,9 +1,8 @@
 use Rattle.std.proofs.Common.{refl, sym, subst}
 use Rattle.store_history.proofs.Families.{writes_step}
 use Rattle.core_state.specs.Begins.{IsReady}
-use Rattle.core_state.specs.Indexed.{row_at}
+use Rattle.core_state.specs.Kept.{kept_at}
 use Rattle.core_state.specs.Unreadables.{TellsUnreadable}
-use Rattle.core_state.specs.Wanted.{session_at}
 use Rattle.core_state.proofs.Applying.{refused_applies, refused_keeps_all, done_applies, done_keeps_all}
 use Rattle.core_state.proofs.Unreadables.{tells_refused, tells_done}
 use Rattle.core_writer.specs.WriterActs.{asked_of_writer}
@@ -50,9 +49,9 @@ returns-in-At-clause-unreadable g c = let d = g.D.Disk in
     let at = c.in-At.at in
     let admitted = c.in-At.ensures.begun in
     let old = c.args.core.now.parts in
-    subst (λ l. TellsUnreadable d old.disk (asked_of_writer (row_at old l) c.args.act (session_at old l) old.catalogue.listed) c.settle.result.entry.kind c.settle.result.reply) admitted.lane_is
+    subst (λ l. TellsUnreadable d old.disk (asked_of_writer c.args.act (kept_at old l)) c.settle.result.entry.kind c.settle.result.reply) admitted.lane_is
     (tells_done d g.C.Clock.readings c.args.core.now c.begin.new.core _ _ at.lane at.moment
-    (λ p. asked_of_writer (row_at p at.lane) c.args.act (session_at p at.lane) p.catalogue.listed) _ _ (subst (λ l. IsReady g.C.Clock.readings c.args.core.now c.begin.new.core l at.moment) (sym admitted.lane_is) admitted.ready)
+    (λ p. asked_of_writer c.args.act (kept_at p at.lane)) _ _ (subst (λ l. IsReady g.C.Clock.readings c.args.core.now c.begin.new.core l at.moment) (sym admitted.lane_is) admitted.ready)
     c.perform-ended.ensures.unreadable c.settle.ensures)
 
 pub returns-in-Answered-clause-notes : goal.returns-in-Answered-clause-notes
