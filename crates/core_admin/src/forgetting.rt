@@ -58,7 +58,7 @@ fn want_free(locks: &LockBook, key: &SnapshotKey) -> Result<(), Stop>
 
 /// The tests of FORGET, in order: the lane has no session; the text names a snapshot; it is there; no lane holds it, else
 /// the least is told.
-#[tactic(auto, unfolding(to_forget), using(core_state::proofs::Texts::no_snapshot_has_text))]
+#[tactic(auto, using(core_state::proofs::Texts::no_snapshot_has_text), unfolding(crate::specs::Forgotten::to_forget))]
 fn to_forget<D>(
     parts: &Parts<D>,
     alloc: Global,

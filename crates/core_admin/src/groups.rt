@@ -67,7 +67,7 @@ fn counts_fit(keep: &Keep) -> bool
 }
 
 /// The tests of a PRUNE, in order: the lane has no session; the text names a group; no count is above 1,000.
-#[tactic(auto, unfolding(to_prune), using(core_state::proofs::Texts::too_many_has_text))]
+#[tactic(auto, using(core_state::proofs::Texts::too_many_has_text), unfolding(crate::specs::Listings::to_prune))]
 fn to_prune<D>(
     parts: &Parts<D>,
     alloc: Global,
