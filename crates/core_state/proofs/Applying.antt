@@ -1,5 +1,5 @@
 -- The two records of a command, lifted once over the beginning and the entry of an act.
-use Rattle.std.proofs.Common.{◌≡◌, ◌<◌, ◌≤◌, ◌||◌, ℕ, Bool, true, false, length, is_some, Option, Some, None, Result, Ok, Err, IfOk, IfSome, IsSome, IsTrue, IsErrOf, inl, refl, sym, ap, subst, ◌∙◌, arith}
+use Rattle.std.proofs.Common.{◌≡◌, ◌<◌, ◌≤◌, ℕ, true, false, length, is_some, Option, Some, None, Result, Ok, Err, IfOk, IfSome, IsSome, IsTrue, IsErrOf, inl, refl, sym, ap, subst, ◌∙◌, arith}
 use Rattle.store_files.specs.Folder.{HasWholeChunks}
 use Rattle.core_state.specs.Chunks.{HoldsOnly, IsSafe}
 use Rattle.disk_trait.specs.Disk.{Serves}
@@ -34,7 +34,7 @@ use Rattle.core_state.specs.Changes.{Change, IsFirm, LeavesChange, after, by_rep
 use Rattle.core_state.specs.Catalogue.{listed_by}
 use Rattle.core_state.specs.Closing.{HasClosed, HasEnded, closes, closes_by, is_closing, is_writer}
 use Rattle.core_state.specs.Collectors.{collector_by}
-use Rattle.core_state.specs.Commands.{ActDoes, ActLeaves, IsNoRefusal, change_at, is_still, is_collectors, is_step, keeps_row, row_stays, row_stays_by}
+use Rattle.core_state.specs.Commands.{ActDoes, ActLeaves, IsNoRefusal, change_at, is_collectors, is_step, keeps_row, row_stays, row_stays_by}
 use Rattle.core_state.specs.Entering.{held_by}
 use Rattle.core_state.specs.History.{History, event_of, pieces_of, then_event, world}
 use Rattle.core_state.specs.Holds.{Holds}
@@ -175,14 +175,6 @@ step_plain Short step = cc
 step_plain End step = cc
 step_plain (Plain command) step = no_collector command
 step_plain act step = refl
-
--- it leaves sessions and locks, where it does or is a collector's
-step_still : (act : Act) → class_of act ≡ stepping → (is_still act || is_collectors act) ≡ true → is_still act ≡ true
-step_still act step is = first_holds (is_still act) (is_collectors act) (step_plain act step) is
-  where
-    first_holds : (a b : Bool) → b ≡ false → (a || b) ≡ true → a ≡ true
-    first_holds true b off is = refl
-    first_holds false b off is = absurd (true_false (sym is ∙ off))
 
 step_asked : (act : Act) → class_of act ≡ stepping → IsAsked (class_of act)
 step_asked act step = subst IsAsked (sym step) tt
@@ -417,7 +409,7 @@ module _ {D E C : Type 0} (d : Ghosts D) (clock : clocks.Ghosts C) where
             ∙ ap (λ p. listed_by act (Some (reply_by (told result))) at.number (kept_at p at.lane)) before
             ∙ ap (λ n. listed_by act (Some (reply_by (told result))) n (kept_at old.parts at.lane)) (number ∙ sym (settles.place ∙ ap (λ j. length j.entries.items) rest.journal))
             ∙ ap (λ r. listed_by act r answer.place (kept_at old.parts at.lane)) (sym reply);
-        admin = λ is. (ap (λ p. p.sessions.items) settles.parts ∙ (leaves.admin (step_still act step is)).0 ∙ ap (λ p. p.sessions.items) before, ap (λ p. p.locks) settles.parts ∙ (leaves.admin (step_still act step is)).1 ∙ ap (λ p. p.locks) before);
+        admin = λ is. (ap (λ p. p.sessions.items) settles.parts ∙ (leaves.admin is).0 ∙ ap (λ p. p.sessions.items) before, ap (λ p. p.locks) settles.parts ∙ (leaves.admin is).1 ∙ ap (λ p. p.locks) before);
         ended = λ ends done. subst (λ p. HasEnded p at.lane) (sym settles.parts) (done_told _ result (leaves.ended ends) (if_plain answer.reply _ reply done));
         rows = λ i keeps. ap (λ p. row_at p i) settles.parts ∙ leaves.rows i (λ is. row_told act result does.plain (sym (ap (λ r. row_stays_by r act) reply) ∙ keeps is)) ∙ ap (λ p. row_at p i) before;
         halted = where_none _ _ ready.no_fault;

@@ -26,7 +26,7 @@ use Rattle.store_model.specs.Steps.{outcome, answered}
 use Rattle.store_history.specs.declared.act.Act.{Act}
 use Rattle.store_history.specs.declared.act.Act.TheVariants as acts
 use Rattle.store_history.specs.History.{World, act_outcome, data_in}
-use Rattle.store_history.specs.Profile.{OnDisk, uncalled, read, changed, OnList, same_list, lists, takes_out, OnSessions, ends_reader, ends_writer, are_ended, is_called, is_changed, profile}
+use Rattle.store_history.specs.Profile.{OnDisk, no_call, only_reads, disk_change, OnList, same_list, lists, takes_out, OnSessions, ends_reader, ends_writer, are_ended, is_called, is_changed, profile}
 use Rattle.restore_reader.specs.Session.{Reading}
 use Rattle.store_stops.specs.declared.stop.Stop.{Stop}
 use Rattle.core_state.specs.declared.entering.Place.{Place}
@@ -286,18 +286,18 @@ reads_stay : (act : Act) (k : KeptAt) → reads_only act ≡ true → change_of 
 reads_stay act k only = by_disk (profile act).disk only
   where
     by_disk : (disk : OnDisk) → not (is_changed disk) ≡ true → change_on disk k ≡ stays
-    by_disk uncalled only = refl
-    by_disk read only = refl
-    by_disk (changed change) only = cc
+    by_disk no_call only = refl
+    by_disk only_reads only = refl
+    by_disk (disk_change change) only = cc
 
 -- of an act that only reads it says nothing
 reads_pass : (act : Act) (s : Store) (lane : ℕ) → reads_only act ≡ true → PassesItsTests act s lane
 reads_pass act s lane only = by_disk (profile act).disk only
   where
     by_disk : (disk : OnDisk) → not (is_changed disk) ≡ true → PassesFor disk s lane
-    by_disk uncalled only = tt
-    by_disk read only = tt
-    by_disk (changed change) only = cc
+    by_disk no_call only = tt
+    by_disk only_reads only = tt
+    by_disk (disk_change change) only = cc
 
 -- the acts that read the disk, and change nothing there
 abbrev pub reads_disk : Act → Bool
@@ -315,9 +315,9 @@ no_disk_reads : (act : Act) → calls_no_disk act ≡ true → reads_only act �
 no_disk_reads act no_disk_call = by_disk (profile act).disk no_disk_call
   where
     by_disk : (disk : OnDisk) → not (is_called disk) ≡ true → not (is_changed disk) ≡ true
-    by_disk uncalled no_disk_call = refl
-    by_disk read no_disk_call = refl
-    by_disk (changed change) no_disk_call = cc
+    by_disk no_call no_disk_call = refl
+    by_disk only_reads no_disk_call = refl
+    by_disk (disk_change change) no_disk_call = cc
 
 pub not_still : {P : Type 0} (act : Act) → is_still act ≡ false → is_still act ≡ true → P
 not_still act other is = absurd (false_true (sym other ∙ is))

@@ -1,5 +1,5 @@
 -- A command that stops by its decision: what it does, leaves and tells then.
-use Rattle.std.proofs.Common.{◌≡◌, ℕ, true, Result, Ok, Err, IfOk, IsErrOf, IsTrue, refl, sym, ap}
+use Rattle.std.proofs.Common.{◌≡◌, ℕ, true, Result, Err, IfOk, IsErrOf, IsTrue, refl, sym, ap}
 use Rattle.disk_trait.specs.declared.disk.Disk.{Ghosts}
 use Rattle.store_types.specs.Chain.Refusing.{◌>>=◌}
 use Rattle.store_types.specs.declared.refusal.Refusal.{Refusal}
@@ -61,7 +61,7 @@ module _ {A B D : Type 0} (d : Ghosts D) (shown : A → B) (wanted : KeptAt → 
       → ((s : Store) → Holds d old s → (r : Refusal) → wanted (kept_at old at.lane) ≡ Err r → act_does s at.lane at.moment act ≡ Err r)
       → ActDoes d old new at act result
   decided_does answers is =
-      stopped_does {A = A} d old new at act (Err stop) stop result stops refl
+      stopped_does d {A = A} old new at act (Err stop) stop result stops refl
       (reads_none d old.disk new.disk _ same (unfailed shown wanted old at.lane stop decides)) kept
       (decided_text shown wanted old at.lane stop decides)
       (decided shown wanted old at.lane (λ r. IsTrue (may_answer act (replies.Refused r))) stop decides answers)

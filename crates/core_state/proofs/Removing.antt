@@ -18,6 +18,7 @@ use Rattle.wire_commands.specs.declared.reply.Reply.TheVariants.{Done}
 use Rattle.store_model.specs.AdminSteps.{forget}
 use Rattle.store_model.specs.Steps.{outcome}
 use Rattle.store_model.proofs.Done.{done}
+use Rattle.store_model.proofs.HeadLemmas.{idle_key_found}
 use Rattle.store_model.specs.Stands.{IsSnapshot, names_content}
 use Rattle.store_model.specs.Store.{Store, Outcome, snapshot_named, without_snapshot}
 use Rattle.core_state.specs.declared.kept.StoredFile.{StoredFile}
@@ -44,7 +45,7 @@ unfolding outcome
 forget_is s lane text = by_outcome (forget s lane text) refl
   where
     by_outcome : (o : Outcome) → forget s lane text ≡ o → ForgetIs s lane text
-    by_outcome (Ok after) e = let d = done s lane 0 (Forget text) after e in gives d.0 d.1 d.3 d.4 (e ∙ ap (λ x. Ok x) d.6)
+    by_outcome (Ok after) e = let d = done s lane 0 (Forget text) after e in gives d.0 d.1 (idle_key_found s lane text d.0 d.2).1 d.3 (e ∙ ap (λ x. Ok x) d.5)
     by_outcome (Err r) e = fails r e
 
 -- ---- and what it takes away

@@ -18,7 +18,7 @@ use Rattle.store_model.specs.Store as model
 use Rattle.store_model.specs.Store.{Store, Writer, session}
 use Rattle.store_model.proofs.StandsLemmas.{Apart}
 use Rattle.store_history.specs.declared.act.Act.{Act}
-use Rattle.store_history.specs.Profile.{new_file, new_chunk, new_index, new_manifest, no_files, no_snapshot, swept, OnDisk, uncalled, read, changed, profile}
+use Rattle.store_history.specs.Profile.{new_file, new_chunk, new_index, new_manifest, no_files, no_snapshot, swept, OnDisk, no_call, only_reads, disk_change, profile}
 use Rattle.backup_session.specs.Indexes.{text_of}
 use Rattle.backup_session.specs.Session.{Open}
 use Rattle.backup_session.specs.Shown.{shown}
@@ -100,9 +100,9 @@ module _ (snapshots : List Snapshot) (w : Writer) (each : All IsSnapshot snapsho
 
 -- all but a FINISH, a FORGET and a CHUNK
 abbrev pub spares_on : OnDisk → Bool
-spares_on (changed new_manifest) = false
-spares_on (changed (no_snapshot snapshot)) = false
-spares_on (changed (new_chunk digest checked)) = false
+spares_on (disk_change new_manifest) = false
+spares_on (disk_change (no_snapshot snapshot)) = false
+spares_on (disk_change (new_chunk digest checked)) = false
 spares_on disk = true
 
 abbrev pub spares_all : Act → Bool
@@ -121,16 +121,16 @@ module _ (s : Store) (lane : ℕ) (sound : IsSound s) (k : KeptAt) (shown : k.se
   spares_drops = by_session (λ w. drops (put_paths w.files)) (λ w h. spares_paths s.snapshots w sound.each h w.files)
 
   spares_by : (disk : OnDisk) → spares_on disk ≡ true → Spares s.snapshots (change_on disk k)
-  spares_by uncalled is = tt
-  spares_by read is = tt
-  spares_by (changed (new_file name checked)) is = by_session (blob_put name checked) (λ w h. spares_blob s.snapshots w sound.each h name checked)
-  spares_by (changed (new_chunk digest checked)) is = cc
-  spares_by (changed (new_index number)) is =
+  spares_by no_call is = tt
+  spares_by only_reads is = tt
+  spares_by (disk_change (new_file name checked)) is = by_session (blob_put name checked) (λ w h. spares_blob s.snapshots w sound.each h name checked)
+  spares_by (disk_change (new_chunk digest checked)) is = cc
+  spares_by (disk_change (new_index number)) is =
       by_session (λ w. index_put (begun_at number (w.session).writer) w) (λ w h. spares_index s.snapshots w sound.each h (begun_at number ((shown_writer w).session).writer))
-  spares_by (changed new_manifest) is = cc
-  spares_by (changed no_files) is = spares_drops
-  spares_by (changed (no_snapshot snapshot)) is = cc
-  spares_by (changed swept) is = tt
+  spares_by (disk_change new_manifest) is = cc
+  spares_by (disk_change no_files) is = spares_drops
+  spares_by (disk_change (no_snapshot snapshot)) is = cc
+  spares_by (disk_change swept) is = tt
 
   pub spares_change : (act : Act) → spares_all act ≡ true → Spares s.snapshots (change_of act k)
   spares_change act is = spares_by (profile act).disk is

@@ -18,7 +18,7 @@ use Rattle.wire_commands.specs.declared.reply.Reply.{Reply}
 use Rattle.wire_commands.specs.declared.reply.Reply.TheVariants as replies
 use Rattle.snapshot_files.specs.Forgotten.{Forgets, ForgetsFirm, MayLose, without}
 use Rattle.store_history.specs.declared.act.Act.{Act}
-use Rattle.store_history.specs.Profile.{DiskChange, new_file, new_chunk, new_index, new_manifest, no_files, no_snapshot, swept, OnDisk, uncalled, read, changed, profile}
+use Rattle.store_history.specs.Profile.{DiskChange, new_file, new_chunk, new_index, new_manifest, no_files, no_snapshot, swept, OnDisk, no_call, only_reads, disk_change, profile}
 use Rattle.backup_session.specs.Indexes.{text_of}
 use Rattle.backup_session.specs.Session.{Open}
 use Rattle.backup_session.specs.Steps.{begun_at}
@@ -117,9 +117,9 @@ change_by (no_snapshot snapshot) k = forgotten (result_ok (named_kept snapshot k
 change_by swept k = stays
 
 abbrev pub change_on : OnDisk → KeptAt → Change
-change_on uncalled k = stays
-change_on read k = stays
-change_on (changed change) k = change_by change k
+change_on no_call k = stays
+change_on only_reads k = stays
+change_on (disk_change change) k = change_by change k
 
 -- of a collector's acts it says nothing
 abbrev pub change_of : Act → KeptAt → Change

@@ -9,15 +9,15 @@ use Rattle.store_model.specs.Store.{Store}
 use Rattle.store_model.specs.WriterSteps.{finish}
 use Rattle.store_history.specs.declared.act.Act.{Act}
 use Rattle.store_history.specs.declared.act.Answer.{Answer}
-use Rattle.store_history.specs.Profile.{new_chunk, new_manifest, no_snapshot, OnDisk, changed, profile}
+use Rattle.store_history.specs.Profile.{new_chunk, new_manifest, no_snapshot, OnDisk, disk_change, profile}
 use Rattle.core_state.specs.declared.state.Core.{Core}
 use Rattle.core_state.specs.Holds.{Holds}
 
 -- the tests of a FINISH or a FORGET had passed, and a CHUNK was to put a piece's blob
 abbrev pub PassesFor : OnDisk → Store → ℕ → Type 0
-PassesFor (changed new_manifest) s lane = IsOk (finish s lane)
-PassesFor (changed (no_snapshot snapshot)) s lane = IsOk (forget s lane snapshot)
-PassesFor (changed (new_chunk digest (Ok bytes))) s lane = IsChunk digest.0 bytes
+PassesFor (disk_change new_manifest) s lane = IsOk (finish s lane)
+PassesFor (disk_change (no_snapshot snapshot)) s lane = IsOk (forget s lane snapshot)
+PassesFor (disk_change (new_chunk digest (Ok bytes))) s lane = IsChunk digest.0 bytes
 PassesFor disk s lane = Unit {0}
 
 abbrev pub PassesItsTests : Act → Store → ℕ → Type 0

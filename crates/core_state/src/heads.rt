@@ -12,7 +12,7 @@ use store_types::{GroupKey, Refusal, SnapshotKey};
 
 impl<D> Parts<D> {
     /// The snapshot that the text names.
-    #[tactic(auto, unfolding(key_in), using(crate::proofs::Texts::bad_name_has_text))]
+    #[tactic(auto, using(crate::proofs::Texts::bad_name_has_text), unfolding(crate::specs::Heads::key_in))]
     pub fn key_in(&self, alloc: Global, lane: u32, text: &[u8]) -> Result<SnapshotKey, Stop>
         ensures decides { Decides (λ key. key) (key_in text.now) self.now lane result }
         ensures grammar { IfOk result IsKey }
@@ -24,7 +24,7 @@ impl<D> Parts<D> {
     }
 
     /// The group that the text names.
-    #[tactic(auto, unfolding(group_in), using(crate::proofs::Texts::bad_name_has_text))]
+    #[tactic(auto, using(crate::proofs::Texts::bad_name_has_text), unfolding(crate::specs::Heads::group_in))]
     pub fn group_in(&self, alloc: Global, lane: u32, text: &[u8]) -> Result<GroupKey, Stop>
         ensures decides { Decides (λ group. group) (group_in text.now) self.now lane result }
         ensures grammar { IfOk result IsGroup }
@@ -36,8 +36,13 @@ impl<D> Parts<D> {
     }
 
     /// The snapshot that the text names, or none where the text is empty.
-    #[tactic(auto, unfolding(after_in))]
-    pub fn after_in(&self, alloc: Global, lane: u32, text: &[u8]) -> Result<Option<SnapshotKey>, Stop>
+    #[tactic(auto, unfolding(crate::specs::Heads::after_in))]
+    pub fn after_in(
+        &self,
+        alloc: Global,
+        lane: u32,
+        text: &[u8],
+    ) -> Result<Option<SnapshotKey>, Stop>
         ensures decides { Decides (λ after. after) (after_in text.now) self.now lane result }
         ensures grammar { IfOk result (λ after. IfSome after IsKey) }
     {
@@ -48,7 +53,7 @@ impl<D> Parts<D> {
     }
 
     /// The lane has no session.
-    #[tactic(auto, unfolding(idle_in))]
+    #[tactic(auto, unfolding(crate::specs::Heads::idle_in))]
     pub fn idle_in(&self, lane: u32) -> Result<(), Stop>
         requires { lane < 64 }
         ensures decides { Decides (λ done. done) idle_in self.now lane result }
@@ -57,7 +62,7 @@ impl<D> Parts<D> {
     }
 
     /// The lane has no session, and the text names this snapshot.
-    #[tactic(auto, unfolding(idle_key))]
+    #[tactic(auto, unfolding(crate::specs::Heads::idle_key))]
     pub fn idle_key(&self, alloc: Global, lane: u32, text: &[u8]) -> Result<SnapshotKey, Stop>
         requires { lane < 64 }
         ensures decides { Decides (λ key. key) (idle_key text.now) self.now lane result }
@@ -68,7 +73,7 @@ impl<D> Parts<D> {
     }
 
     /// The lane has no session, and the text names this group.
-    #[tactic(auto, unfolding(idle_group))]
+    #[tactic(auto, unfolding(crate::specs::Heads::idle_group))]
     pub fn idle_group(&self, alloc: Global, lane: u32, text: &[u8]) -> Result<GroupKey, Stop>
         requires { lane < 64 }
         ensures decides { Decides (λ group. group) (idle_group text.now) self.now lane result }

@@ -1,7 +1,7 @@
 -- What a lane's loop needs: what is next by the front of its input, what an answer leaves, and how the lane ends.
 -- `next_job`, `next_plain`, `next_bye`, `next_no_command`, `next_too_long`, `plain_act` and `leads_short` wait for several lanes: nothing names them yet.
 use Rattle.std.specs.Result.{is_ok}
-use Rattle.std.proofs.Common.{◌≡◌, ◌≢◌, ℕ, ◌-◌, Bool, true, false, ◌||◌, List, [], ◌∷◌, ◌++◌, length, Option, Some, None, Result, Ok, Err, refl, sym, ap, subst, ◌∙◌, arith, ◌==◌, if◌then◌else◌, is_none}
+use Rattle.std.proofs.Common.{◌≡◌, ◌≢◌, ℕ, ◌-◌, Bool, true, false, ◌&&◌, ◌||◌, List, [], ◌∷◌, ◌++◌, length, Option, Some, None, Result, Ok, Err, refl, sym, ap, subst, ◌∙◌, arith, ◌==◌, if◌then◌else◌, is_none}
 use Rattle.store_types.specs.declared.refusal.Refusal.{Refusal}
 use Rattle.store_types.specs.declared.refusal.Refusal.TheVariants.{BadFrame, TooLong}
 use Rattle.store_types.specs.declared.refusal.Refusal.TheVariants.{BadBlob as BadBlobOf}
@@ -178,11 +178,14 @@ leads_command vs p q c left v r led on is asks says =
 
 -- memory was wanting, for a frame that is no command or not yet known
 pub short_runs : (e : Ending) (q : Position) (v : Event) (vs : List Event) (told : List Reply) → q.is_over ≡ false → q.is_spent ≡ false → q.task ≡ None → may_want q.left ≡ true
-    → v.act ≡ acts.Short → Runs e (record (heard q v.answer) { is_unheld = true }) vs told → Runs e q (v ∷ vs) told
+    → v.act ≡ acts.Short → kind v ≡ MEMORY_KIND → Runs e (record (heard q v.answer) { is_unheld = true }) vs told → Runs e q (v ∷ vs) told
 unfolding position_after
-short_runs e q v vs told off on none may asks runs =
+short_runs e q v vs told off on none may asks two runs =
     subst (λ c. (q.is_over ≡ false) × Does c e q v vs × Runs e (heard_as c e q v.answer) vs told) (sym (ap class_of asks))
-    (off, (on, wants_frame q none may), subst (λ (t : Option Task). Runs e (record (heard q v.answer) { is_unheld = is_none t }) vs told) (sym none) runs)
+    (off, (on, wants_frame q none may), subst (λ b. Runs e (record (heard q v.answer) { is_unheld = b }) vs told) (sym is_unheld) runs)
+  where
+    is_unheld : (is_none q.task && (kind v == MEMORY_KIND)) ≡ true
+    is_unheld = ap (λ (t : Option Task). is_none t && (kind v == MEMORY_KIND)) none ∙ ap (λ n. n == MEMORY_KIND) two
 
 -- the lane's end
 pub end_runs : (e : Ending) (q : Position) (v : Event) → q.is_over ≡ false → IsShut q.task → v.act ≡ acts.End → kind v ≡ END_KIND → EndsSo e q (next_at q)

@@ -20,7 +20,7 @@ use Rattle.store_history.specs.declared.act.Event.{Event}
 use Rattle.store_history.specs.Acts.{Class, stepping, reaching, starting, sweeping, wanting, ending, class_of}
 use Rattle.store_history.specs.History.{World, open_on, moved, kind_of, lane, moment, kind, reply}
 use Rattle.store_history.specs.Legal.{Right}
-use Rattle.store_history.specs.LaneRun.{Task, steps, pulls, sweeps, Ahead, ahead, job_in, Position, lane_of, next_at, tells, used_up, goes_on, pulls_on, heard_at, heard, heard_as, last_words, end_faulted, end_heard, position_after, Asks, Does, IsIdle}
+use Rattle.store_history.specs.LaneRun.{Task, steps, pulls, sweeps, Ahead, ahead, job_in, Position, lane_of, next_at, tells, used_up, goes_on, pulls_on, heard_at, heard, leaves_unheld, heard_as, last_words, end_faulted, end_heard, position_after, Asks, Does, IsIdle}
 use Rattle.store_history.specs.Pulling.{Pulling, sought}
 use Rattle.store_history.specs.Remote.{IsRemote}
 use Rattle.store_history.proofs.Beside.{BesideBy, bare, no_pull, pull_in}
@@ -214,4 +214,4 @@ module _ (R : Option (List Snapshot)) (w : World) (qs : List Position) (k m : 鈩
       by_class reaching is does right = heard_beside false reaching v vs is (位 h. cc) does right
       by_class starting is does right = heard_beside false starting v vs is (位 h. cc) does right
       by_class sweeping is does right = heard_beside false sweeping v vs is (位 h. cc) does right
-      by_class wanting is does right = heard_beside (is_none p.task) wanting v vs is (位 h. cc) does right
+      by_class wanting is does right = heard_beside (leaves_unheld p v.answer) wanting v vs is (位 h. cc) does right

@@ -31,7 +31,7 @@ use Rattle.store_history.specs.declared.act.Event.{Event}
 use Rattle.store_history.specs.Acts.{Class, stepping, reaching, starting, sweeping, wanting, ending, class_of}
 use Rattle.store_history.specs.History.{World, open_on, halted_on, act_outcome, moved, EntryKind, kind_of, step_kind, pass_kind, short_kind, start_kind, close_kind, fault_kind, end_kind, remote_kind, no_kind, kind, reply}
 use Rattle.store_history.specs.Legal.{Right, Says, Refuses}
-use Rattle.store_history.specs.LaneRun.{Task, steps, pulls, sweeps, Ahead, ahead, pull, pull_ahead, ahead_by, job_in, Position, lane_of, next_at, tells, goes_on, pulls_on, heard_at, heard, heard_as, Asks, Does, IsIdle, IsShut}
+use Rattle.store_history.specs.LaneRun.{Task, steps, pulls, sweeps, Ahead, ahead, pull, pull_ahead, ahead_by, job_in, Position, lane_of, next_at, tells, goes_on, pulls_on, heard_at, heard, leaves_unheld, heard_as, Asks, Does, IsIdle, IsShut}
 use Rattle.store_history.specs.Pulling as model
 use Rattle.store_history.specs.Pulling.{Pulling, comparing, SyncJob, act_of, compared, sought, take, is_ending}
 use Rattle.store_history.specs.Remote.{IsList, IsRemote, may_read, ReadsIn, Reads}
@@ -517,7 +517,7 @@ module _ (R : Option (List Snapshot)) (w : World) (qs : List Position) (k m : �
         by_pull y left n h = h
 
     -- memory was wanting for no frame
-    held : (v : Event) → Turns v.act (kind v) (heard p v.answer) → Turns v.act (kind v) (record (heard p v.answer) { is_unheld = is_none p.task })
+    held : (v : Event) → Turns v.act (kind v) (heard p v.answer) → Turns v.act (kind v) (record (heard p v.answer) { is_unheld = leaves_unheld p v.answer })
     held v turns = subst (Turns v.act (kind v)) (sym (heard_open p v.answer (ap is_none going))) turns
 
     pulled_by : (c : Class) (e : Ending) (v : Event) (vs : List Event) (b : Pulls R p x (at qs k)) → c ≡ class_of v.act → Does c e p v vs → Right R w k m v.act (reply v) c (kind_of (kind v))

@@ -1,6 +1,6 @@
 -- That a frame could not be held changes nothing but how the lane may end.
-use Rattle.std.proofs.Common.{◌≡◌, ℕ, ◌-◌, Bool, true, false, ◌||◌, List, [], ◌∷◌, ◌++◌, Option, Some, None, is_none, refl, sym, ap, subst, ◌∙◌, if◌then◌else◌, ◌==◌}
-use Rattle.store_types.specs.declared.order.TheConstants.{FAULT_KIND}
+use Rattle.std.proofs.Common.{◌≡◌, ℕ, ◌-◌, Bool, true, false, ◌&&◌, ◌||◌, List, [], ◌∷◌, ◌++◌, Option, Some, None, is_none, refl, sym, ap, subst, ◌∙◌, if◌then◌else◌, ◌==◌}
+use Rattle.store_types.specs.declared.order.TheConstants.{MEMORY_KIND, FAULT_KIND}
 use Rattle.wire_commands.specs.declared.reply.Reply.{Reply}
 use Rattle.wire_commands.specs.declared.reply.Reply.TheVariants.{Done, Refused}
 use Rattle.store_model.specs.declared.ending.Ending.{Ending}
@@ -13,7 +13,7 @@ use Rattle.store_history.specs.declared.act.Answer.{Answer}
 use Rattle.store_history.specs.declared.act.Event.{Event}
 use Rattle.store_history.specs.Acts.{Class, stepping, reaching, starting, sweeping, wanting, ending, class_of}
 use Rattle.store_history.specs.History.{kind, reply}
-use Rattle.store_history.specs.LaneRun.{sweeps, Ahead, ahead, pull, job_in, Position, next_at, tells, heard_at, heard, heard_as, goes_on, pulls_on, used_up, last_words, end_faulted, end_heard, position_after, EndsSo, Does, Runs}
+use Rattle.store_history.specs.LaneRun.{sweeps, Ahead, ahead, pull, job_in, Position, next_at, tells, heard_at, heard, heard_as, goes_on, pulls_on, used_up, leaves_unheld, last_words, end_faulted, end_heard, position_after, EndsSo, Does, Runs}
 use Rattle.store_history.specs.Pulling as model
 use Rattle.store_history.specs.Pulling.{SyncJob, sought, take as pull_take}
 use Rattle.store_history.specs.SoFar.{Follows}
@@ -166,16 +166,16 @@ unheld_runs b e p (v ∷ vs) told held runs = (runs.0, does_unheld b (class_of v
     by_class ending behind h =
         subst (λ q. Runs e q vs told) (sym (ended_unheld b e p (kind v) (reply v)))
         (behind (end_heard e p (kind v) (reply v)) (ended_held e p (kind v) (reply v) held) h)
-    by_class wanting behind h = subst (λ (q : Position). Runs e (unheld (is_none p.task) q) vs told) (sym (heard_unheld b p v.answer)) h
+    by_class wanting behind h = subst (λ (q : Position). Runs e (unheld (leaves_unheld p v.answer) q) vs told) (sym (heard_unheld b p v.answer)) h
     by_class stepping behind h = subst (λ q. Runs e q vs told) (sym (heard_unheld b p v.answer)) h
     by_class reaching behind h = subst (λ q. Runs e q vs told) (sym (heard_unheld b p v.answer)) h
     by_class starting behind h = subst (λ q. Runs e q vs told) (sym (heard_unheld b p v.answer)) h
     by_class sweeping behind h = subst (λ q. Runs e q vs told) (sym (heard_unheld b p v.answer)) h
 
 -- nor could it where something is open
-pub heard_open : (p : Position) (a : Answer) → is_none p.task ≡ false → unheld (is_none p.task) (heard p a) ≡ heard p a
+pub heard_open : (p : Position) (a : Answer) → is_none p.task ≡ false → unheld (leaves_unheld p a) (heard p a) ≡ heard p a
 unfolding heard
-heard_open p a opened = ap (λ b. unheld b (heard p a)) opened
+heard_open p a opened = ap (λ b. unheld (b && ((a.entry).kind == MEMORY_KIND)) (heard p a)) opened
 
 heard_held : (p : Position) (a : Answer) → (heard p a).is_unheld ≡ false
 unfolding heard
@@ -188,7 +188,7 @@ held_same p a = refl
 -- where more follows, that a frame could not be held is all that `heard` leaves out
 pub follows_heard : (b : Bool) (c : Class) (e : Ending) (p : Position) (v : Event) → Follows c p v → (t : Bool) × (heard_as c e (unheld b p) v.answer ≡ unheld t (heard p v.answer))
 follows_heard b ending e p v follows = absurd follows
-follows_heard b wanting e p v follows = (is_none p.task, ap (unheld (is_none p.task)) (heard_unheld b p v.answer))
+follows_heard b wanting e p v follows = (leaves_unheld p v.answer, ap (unheld (leaves_unheld p v.answer)) (heard_unheld b p v.answer))
 follows_heard b stepping e p v follows = (false, heard_unheld b p v.answer ∙ held_same p v.answer)
 follows_heard b reaching e p v follows = (false, heard_unheld b p v.answer ∙ held_same p v.answer)
 follows_heard b starting e p v follows = (false, heard_unheld b p v.answer ∙ held_same p v.answer)
@@ -198,7 +198,7 @@ follows_heard b sweeping e p v follows = (false, heard_unheld b p v.answer ∙ h
 pub follows_runs : (c : Class) (e : Ending) (p : Position) (v : Event) (vs : List Event) (told : List Reply) → Follows c p v → Runs e (heard p v.answer) vs told
     → Runs e (heard_as c e p v.answer) vs told
 follows_runs ending e p v vs told follows h = absurd follows
-follows_runs wanting e p v vs told follows h = unheld_runs (is_none p.task) e (heard p v.answer) vs told (heard_held p v.answer) h
+follows_runs wanting e p v vs told follows h = unheld_runs (leaves_unheld p v.answer) e (heard p v.answer) vs told (heard_held p v.answer) h
 follows_runs stepping e p v vs told follows h = h
 follows_runs reaching e p v vs told follows h = h
 follows_runs starting e p v vs told follows h = h

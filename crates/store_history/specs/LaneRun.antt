@@ -153,10 +153,14 @@ end_faulted _ p r = heard_at p 5 r (next_at p)
 abbrev pub end_heard : Ending → Position → ℕ → Option Reply → Position
 end_heard e p kind r = if kind == FAULT_KIND then end_faulted e p r else record (last_words e p (next_at p)) { is_over = true }
 
+-- want of memory while nothing is open: a frame could not be held
+abbrev pub leaves_unheld : Position → Answer → Bool
+leaves_unheld p a = is_none p.task && ((a.entry).kind == MEMORY_KIND)
+
 -- the lane after one of its answers
 abbrev pub heard_as : Class → Ending → Position → Answer → Position
 heard_as ending e p a = end_heard e p (a.entry).kind a.reply
-heard_as wanting e p a = record (heard p a) { is_unheld = is_none p.task }
+heard_as wanting e p a = record (heard p a) { is_unheld = leaves_unheld p a }
 heard_as _ e p a = heard p a
 
 unfoldable pub position_after : Ending → Position → Event → Position

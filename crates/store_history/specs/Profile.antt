@@ -27,9 +27,9 @@ pub data DiskChange : Type 0 where
   swept : DiskChange
 
 pub data OnDisk : Type 0 where
-  uncalled : OnDisk
-  read : OnDisk
-  changed : DiskChange → OnDisk
+  no_call : OnDisk
+  only_reads : OnDisk
+  disk_change : DiskChange → OnDisk
 
 pub data OnSessions : Type 0 where
   -- sessions and locks are as before
@@ -85,57 +85,57 @@ closing_by disk sessions list = record { disk = disk; sessions = sessions; row =
 
 -- one that is no act of its own (`IsPlain`) does nothing
 abbrev pub command_profile : Command → Profile
-command_profile (commands.OpenWriter snapshot) = moving uncalled begins_writer
-command_profile (commands.Previous file offset) = record { disk = read; sessions = notes; row = may_be_other; list = same_list }
-command_profile (commands.NewFixed file size chunk_size) = moving uncalled writer_goes_on
-command_profile (commands.NewDynamic file) = moving uncalled writer_goes_on
-command_profile (commands.Chunk digest blob) = still uncalled
-command_profile (commands.Append number entries) = moving uncalled writer_goes_on
-command_profile (commands.CloseIndex number count size csum) = moving (changed (new_index number)) writer_goes_on
-command_profile (commands.Blob file blob) = still uncalled
-command_profile commands.Finish = closing_by (changed new_manifest) ends lists
-command_profile commands.Abort = closing_by (changed no_files) ends_writer same_list
-command_profile (commands.OpenReader snapshot) = moving uncalled begins_reader
-command_profile (commands.Download file offset) = moving read notes
-command_profile (commands.GetChunk digest) = still read
-command_profile (commands.Range file offset length) = record { disk = read; sessions = same_sessions; row = may_be_other; list = same_list }
-command_profile commands.CloseReader = closing_by uncalled ends_reader same_list
-command_profile (commands.List after) = still uncalled
-command_profile (commands.Files snapshot) = still read
-command_profile (commands.Forget snapshot) = record { disk = changed (no_snapshot snapshot); sessions = same_sessions; row = same_row; list = takes_out snapshot }
-command_profile (commands.Prune group keep dry) = still uncalled
-command_profile (commands.Verify snapshot) = still uncalled
-command_profile (commands.Sync group) = still uncalled
-command_profile commands.Gc = still uncalled
-command_profile (commands.Group group) = still uncalled
-command_profile commands.Bye = still uncalled
+command_profile (commands.OpenWriter snapshot) = moving no_call begins_writer
+command_profile (commands.Previous file offset) = record { disk = only_reads; sessions = notes; row = may_be_other; list = same_list }
+command_profile (commands.NewFixed file size chunk_size) = moving no_call writer_goes_on
+command_profile (commands.NewDynamic file) = moving no_call writer_goes_on
+command_profile (commands.Chunk digest blob) = still no_call
+command_profile (commands.Append number entries) = moving no_call writer_goes_on
+command_profile (commands.CloseIndex number count size csum) = moving (disk_change (new_index number)) writer_goes_on
+command_profile (commands.Blob file blob) = still no_call
+command_profile commands.Finish = closing_by (disk_change new_manifest) ends lists
+command_profile commands.Abort = closing_by (disk_change no_files) ends_writer same_list
+command_profile (commands.OpenReader snapshot) = moving no_call begins_reader
+command_profile (commands.Download file offset) = moving only_reads notes
+command_profile (commands.GetChunk digest) = still only_reads
+command_profile (commands.Range file offset length) = record { disk = only_reads; sessions = same_sessions; row = may_be_other; list = same_list }
+command_profile commands.CloseReader = closing_by no_call ends_reader same_list
+command_profile (commands.List after) = still no_call
+command_profile (commands.Files snapshot) = still only_reads
+command_profile (commands.Forget snapshot) = record { disk = disk_change (no_snapshot snapshot); sessions = same_sessions; row = same_row; list = takes_out snapshot }
+command_profile (commands.Prune group keep dry) = still no_call
+command_profile (commands.Verify snapshot) = still no_call
+command_profile (commands.Sync group) = still no_call
+command_profile commands.Gc = still no_call
+command_profile (commands.Group group) = still no_call
+command_profile commands.Bye = still no_call
 
 abbrev pub profile : Act → Profile
 profile (acts.Plain command) = command_profile command
-profile (acts.JobGroup command) = still uncalled
-profile (acts.Blob name checked) = moving (changed (new_file name checked)) writer_goes_on
-profile (acts.Chunk digest checked) = moving (changed (new_chunk digest checked)) writer_goes_on
-profile (acts.ReadFile name offset) = still read
-profile (acts.ReadChunk name entry) = record { disk = read; sessions = same_sessions; row = may_be_paged; list = same_list }
-profile (acts.RemoteList command) = still uncalled
-profile (acts.RemoteFile snapshot name offset) = still uncalled
-profile (acts.RemoteChunk digest) = still uncalled
-profile acts.Start = still uncalled
-profile acts.Step = still (changed swept)
-profile acts.Short = still uncalled
-profile acts.End = closing_by (changed no_files) ends same_list
+profile (acts.JobGroup command) = still no_call
+profile (acts.Blob name checked) = moving (disk_change (new_file name checked)) writer_goes_on
+profile (acts.Chunk digest checked) = moving (disk_change (new_chunk digest checked)) writer_goes_on
+profile (acts.ReadFile name offset) = still only_reads
+profile (acts.ReadChunk name entry) = record { disk = only_reads; sessions = same_sessions; row = may_be_paged; list = same_list }
+profile (acts.RemoteList command) = still no_call
+profile (acts.RemoteFile snapshot name offset) = still no_call
+profile (acts.RemoteChunk digest) = still no_call
+profile acts.Start = still no_call
+profile acts.Step = still (disk_change swept)
+profile acts.Short = still no_call
+profile acts.End = closing_by (disk_change no_files) ends same_list
 
 -- ---- what is told of them
 
 abbrev pub is_called : OnDisk → Bool
-is_called uncalled = false
-is_called read = true
-is_called (changed change) = true
+is_called no_call = false
+is_called only_reads = true
+is_called (disk_change change) = true
 
 abbrev pub is_changed : OnDisk → Bool
-is_changed uncalled = false
-is_changed read = false
-is_changed (changed change) = true
+is_changed no_call = false
+is_changed only_reads = false
+is_changed (disk_change change) = true
 
 abbrev pub are_same : OnSessions → Bool
 are_same same_sessions = true
