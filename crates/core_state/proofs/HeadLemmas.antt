@@ -1,5 +1,6 @@
 -- Which refusals a command's head has, and that it is the plain store's.
-use Rattle.std.proofs.Common.{◌≡◌, ◌∙◌, ◌<◌, ◌==◌, ℕ, Bool, true, false, if◌then◌else◌, length, List, Option, Some, None, Result, Ok, Err, refl, ap, subst}
+use Rattle.std.proofs.Common.{◌≡◌, ◌∙◌, ◌<◌, ◌==◌, ℕ, Bool, true, false, if◌then◌else◌, length, List, Option, Some, None, Result, Ok, Err, IsErrAnd, refl, sym, ap, subst}
+use Rattle.store_types.specs.declared.names.GroupKey.{GroupKey}
 use Rattle.store_types.specs.declared.names.SnapshotKey.{SnapshotKey}
 use Rattle.store_types.specs.declared.refusal.Refusal.{Refusal}
 use Rattle.store_types.specs.declared.refusal.Refusal.TheVariants.{BadName, WrongState}
@@ -10,7 +11,10 @@ use Rattle.store_files.specs.Archive.{Snapshot}
 use Rattle.store_model.specs.Heads as model
 use Rattle.store_model.specs.Store as store
 use Rattle.store_model.specs.Store.{Store, session}
+use Rattle.store_stops.specs.declared.stop.Stop.{Stop}
+use Rattle.store_stops.specs.declared.stop.Stop.TheVariants.{Refused, NoMemory, DiskFailed}
 use Rattle.core_state.specs.declared.parts.Parts.{Parts}
+use Rattle.core_state.specs.Decides.{Decides}
 use Rattle.core_state.specs.Heads.{after_in, group_in, idle_group, idle_in, idle_key, key_in}
 use Rattle.core_state.specs.Holds.{Shows}
 use Rattle.core_state.specs.Kept.{KeptAt, kept_at}
@@ -98,6 +102,27 @@ module _ (k : KeptAt) (text : List ℕ) where
       by_session : (r : Result (Unit {0}) Refusal) → (r >>= λ u. key_in text k) ≡ Ok key → key_in text k ≡ Ok key
       by_session (Ok u) e = e
       by_session (Err refusal) e = cc
+
+  pub idle_group_named : (group : GroupKey) → idle_group text k ≡ Ok group → group_of text ≡ Some group
+  unfolding idle_group group_in
+  idle_group_named group e = by_session (idle_in k) e
+    where
+      by_session : (r : Result (Unit {0}) Refusal) → (r >>= λ u. or_else BadName (group_of text)) ≡ Ok group → group_of text ≡ Some group
+      by_session (Ok u) e = found BadName (group_of text) group e
+      by_session (Err refusal) e = cc
+
+-- ---- a decision that its first test stops
+
+module _ {A B C E D : Type 0} (shown : A → B) (first : KeptAt → Result B Refusal) (also : C → E) (wanted : KeptAt → Result E Refusal) (parts : Parts D) (lane : ℕ)
+    (so : (r : Refusal) → first (kept_at parts lane) ≡ Err r → wanted (kept_at parts lane) ≡ Err r) where
+  stops_first : (stop : Stop) → Decides shown first parts lane (Err stop) → Decides also wanted parts lane (Err stop)
+  stops_first (Refused r) says = (so r says.0, says.1)
+  stops_first NoMemory says = tt
+  stops_first DiskFailed says = absurd says
+
+  pub decided_first : (stop : Stop) (result : Result C Stop) → IsErrAnd result (λ x. x ≡ stop) → Decides shown first parts lane (Err stop) → Decides also wanted parts lane result
+  decided_first stop (Ok x) is says = absurd is
+  decided_first stop (Err x) is says = subst (λ y. Decides also wanted parts lane (Err y)) (sym is) (stops_first stop says)
 
 -- ---- they are the plain store's
 

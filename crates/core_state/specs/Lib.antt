@@ -26,6 +26,7 @@ pub mod Closing
 pub mod Reserved
 pub mod Records
 pub mod Found
+pub mod ListedRows
 pub mod Foreign
 pub mod Catalogue
 pub mod Catalogued

@@ -9,6 +9,7 @@ mod heads;
 mod indexes;
 mod journal;
 mod kept;
+mod listed_row;
 mod marked;
 mod noting;
 mod pages;
@@ -25,6 +26,7 @@ pub use entering::{Admitted, Place, begin, enter, halted, next_place, settle, se
 pub use indexes::{Indexes, OpenIndex, OpenIndexes, OpenPage, RangedPage};
 pub use journal::{HELD, Journal};
 pub use kept::{Kept, Listed, Session, StoredFile, Writing};
+pub use listed_row::ListedRow;
 pub use marked::{MarkedPage, MarkedPages};
 pub use noting::is_on;
 pub use pages::ReadPage;
