@@ -44,7 +44,7 @@ use Rattle.core_state.specs.Shown.{files_named, shown_file, shown_files, shown_s
 use Rattle.core_state.specs.Sweeps.{FitsRemoved, HasNumber, HasPages, ShowsSweep, by_number, digests_in, left_at, left_in, left_of_kept, unmarked_by, visits_by}
 use Rattle.core_state.specs.Decides.{Decides}
 use Rattle.core_state.specs.Heads.{idle_in}
-use Rattle.core_state.specs.Kept.{KeptAt, kept_at}
+use Rattle.core_state.specs.Kept.{KeptAt}
 use Rattle.core_collect.specs.Starting.{GivesCollector, IsNewCollector, earlier_of, indexes_in, indexes_of, oldest_kept, start_told}
 use Rattle.core_collect.proofs.Lists.{each_numbered}
 
@@ -262,17 +262,6 @@ module _ (c : Option Collector) (k : KeptAt) where
   pub told_free : idle_in k ≡ Ok tt → c ≡ None → first_unreadable k.catalogue ≡ None → start_told c k ≡ Ok tt
   unfolding start_told
   told_free idle none whole = ap after_session idle ∙ ap (λ o. after_busy (busy o)) none ∙ ap (if_none Unreadable) whole
-
--- where its head stops it, it is stopped so
-pub stopped_by_head : {D : Type 0} (parts : Parts D) (lane : ℕ) (c : Option Collector) (stop : Stop) (result : Result (Unit {0}) Stop) → IsErrAnd result (λ x. x ≡ stop)
-    → Decides (λ (idle : Unit {0}). idle) idle_in parts lane (Err stop) → Decides (λ (may : Unit {0}). may) (start_told c) parts lane result
-stopped_by_head parts lane c stop (Ok u) is decides = absurd is
-stopped_by_head parts lane c stop (Err x) is decides = subst (λ y. Decides (λ (may : Unit {0}). may) (start_told c) parts lane (Err y)) (sym is) (by_stop stop decides)
-  where
-    by_stop : (y : Stop) → Decides (λ (idle : Unit {0}). idle) idle_in parts lane (Err y) → Decides (λ (may : Unit {0}). may) (start_told c) parts lane (Err y)
-    by_stop (stops.Refused refusal) decides = (told_session c (kept_at parts lane) refusal decides.0, decides.1)
-    by_stop stops.NoMemory decides = tt
-    by_stop stops.DiskFailed decides = absurd decides
 
 pub busy_has_text : (lane : ℕ) → lane < 2 ^ 32 → ReplyHasText (Refused (CollectorBusy lane))
 unfolding reply_text refusal_text

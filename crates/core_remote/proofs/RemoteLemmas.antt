@@ -7,7 +7,7 @@ use Rattle.store_types.specs.declared.names.Digest32.{Digest32}
 use Rattle.store_types.specs.declared.names.FileName.{FileName}
 use Rattle.store_types.specs.declared.names.GroupKey.{GroupKey}
 use Rattle.store_types.specs.declared.refusal.Refusal.{Refusal}
-use Rattle.store_types.specs.declared.refusal.Refusal.TheVariants.{BadName, NoRemote}
+use Rattle.store_types.specs.declared.refusal.Refusal.TheVariants.{NoRemote}
 use Rattle.store_files.specs.Archive.{Snapshot}
 use Rattle.wire_commands.specs.declared.command.Command.{Command}
 use Rattle.wire_commands.specs.declared.command.Command.TheVariants.{Sync}
@@ -29,11 +29,11 @@ use Rattle.store_history.proofs.Families.{by_remote}
 use Rattle.core_state.specs.declared.parts.Parts.{Parts}
 use Rattle.store_stops.specs.declared.stop.Stop.{Stop}
 use Rattle.store_stops.specs.declared.stop.Stop.TheVariants as stops
-use Rattle.core_state.specs.Heads.{group_in, idle_group, idle_in}
+use Rattle.core_state.specs.Heads.{idle_group}
 use Rattle.core_state.specs.Holds.{Shows}
 use Rattle.core_state.specs.Kept.{KeptAt, kept_at}
 use Rattle.core_state.specs.Replies.{may_answer, may_give, refuses_sync}
-use Rattle.core_state.proofs.HeadLemmas.{idle_group_is, idle_group_refuses, refuses_then, refuses_unless}
+use Rattle.core_state.proofs.HeadLemmas.{idle_group_is, idle_group_named, idle_group_refuses, refuses_then, refuses_unless}
 use Rattle.core_state.proofs.RemoteReads.{GivesFit}
 use Rattle.snapshot_files.specs.Reads.{StopHasText}
 use Rattle.core_remote.specs.RemoteActs.{EndsBy, HasName, read_told}
@@ -106,21 +106,13 @@ unless_there : (has : Bool) → unless NoRemote has ≡ done → has ≡ true
 unless_there true e = refl
 unless_there false e = cc
 
-group_named : (text : List ℕ) (x : KeptAt) (g : GroupKey) → idle_group text x ≡ Ok g → IsSome (group_of text)
-unfolding idle_group group_in
-group_named text x g e = let (u, idle, named) = passed (idle_in x) (λ _. or_else BadName (group_of text)) g e in there (group_of text) named
-  where
-    there : (o : Option GroupKey) → or_else BadName o ≡ Ok g → IsSome o
-    there None e = cc
-    there (Some h) e = refl
-
 -- where it is, what it names is there to be named
 pub has_name : (has : Bool) (x : KeptAt) (act : Act) → family_of act ≡ Reaches → IsWellFormed act → read_told act has x ≡ done → HasName act
 has_name has x =
     by_read (λ act. read_told act has x ≡ done → HasName act) (λ group. begun group) (λ snapshot name offset named told. named) (λ digest told. tt)
   where
     begun : (group : List ℕ) → read_told (RemoteList (Sync group)) has x ≡ done → IsSome (group_of group)
-    begun group e = let (g, head, there) = passed (idle_group group x) (λ _. unless NoRemote has) tt e in group_named group x g head
+    begun group e = let (g, head, there) = passed (idle_group group x) (λ _. unless NoRemote has) tt e in ap is_some (idle_group_named x group g head)
 
 -- and there is a remote
 pub has_remote : (has : Bool) (x : KeptAt) (act : Act) → family_of act ≡ Reaches → IsWellFormed act → read_told act has x ≡ done → has ≡ true

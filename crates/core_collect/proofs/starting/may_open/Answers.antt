@@ -1,14 +1,18 @@
 use Rattle.std.proofs.Common.{◌≡◌, ◌∙◌, Some, None, Result, Ok, Err, length, rules, refl, sym, ap, arith}
 use Rattle.store_types.specs.declared.refusal.Refusal.{Refusal}
 use Rattle.core_state.specs.Found.{first_unreadable}
+use Rattle.core_state.specs.Heads.{idle_in}
 use Rattle.core_state.specs.Kept.{kept_at}
+use Rattle.core_state.proofs.HeadLemmas.{decided_first}
 use Rattle.core_state.proofs.Texts.{unreadable_has_text}
-use Rattle.core_collect.proofs.StartLemmas.{stopped_by_head, told_busy, told_damaged, told_free}
+use Rattle.core_collect.specs.Starting.{start_told}
+use Rattle.core_collect.proofs.StartLemmas.{told_busy, told_damaged, told_free, told_session}
 use Rattle.core_collect.proofs.starting.may_open.Goals as goal
 
 pub returns-in_err-idle_in-clause-decides : goal.returns-in_err-idle_in-clause-decides
 returns-in_err-idle_in-clause-decides g c =
-    stopped_by_head c.args.parts.now c.args.lane c.args.collector.now c.in_err-idle_in.field-0.0 _ c.from_residual.ensures.1 c.in_err-idle_in.ensures.decides
+    decided_first (λ idle. idle) idle_in (λ may. may) (start_told c.args.collector.now) c.args.parts.now c.args.lane (told_session c.args.collector.now (kept_at c.args.parts.now c.args.lane))
+    c.in_err-idle_in.field-0.0 _ c.from_residual.ensures.1 c.in_err-idle_in.ensures.decides
 
 pub returns-in-Some-clause-decides : goal.returns-in-Some-clause-decides
 returns-in-Some-clause-decides g c =
