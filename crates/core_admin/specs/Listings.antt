@@ -1,5 +1,5 @@
 -- LIST, GROUP and the first step of a PRUNE, by what they find.
-use Rattle.std.specs.Prelude.{◌≡◌, ◌<◌, ◌≤◌, ℕ, List, map, filter, length, take, min, Option, is_some, if◌then◌else◌, Result, Ok, IsTrue}
+use Rattle.std.specs.Prelude.{◌≡◌, ◌<◌, ◌≤◌, ℕ, List, map, filter, length, take, Option, is_some, Result, Ok, IsTrue}
 use Rattle.store_types.specs.declared.names.Keep.{Keep}
 use Rattle.store_types.specs.declared.names.SnapshotKey.{SnapshotKey}
 use Rattle.store_types.specs.declared.names.GroupKey.{GroupKey}
@@ -18,12 +18,9 @@ use Rattle.core_state.specs.declared.kept.Kept.{Kept}
 use Rattle.core_state.specs.declared.kept.Listed.{Listed}
 use Rattle.core_state.specs.Heads.{after_in, group_in, idle_group}
 use Rattle.core_state.specs.Kept.{KeptAt}
+use Rattle.core_state.specs.ListedRows.{files_counted}
 
 -- ---- LIST
-
--- of a damaged snapshot no files are told; a whole one has 64 at most, so their number fits its field
-abbrev pub files_counted : Kept → ℕ
-files_counted k = if is_some k.unreadable then 0 else min (length k.files) 255
 
 abbrev pub row_of : Kept → ListRow
 row_of k = record { snapshot = key_text k.key; damaged = is_some k.unreadable; files = files_counted k }

@@ -8,24 +8,14 @@ ghost use Rattle.store_history.specs.declared.act.Act.TheVariants.{Plain};
 ghost use Rattle.core_state.specs.Commands.{PlainDoes, PlainLeaves};
 ghost use Rattle.core_state.specs.Named.{is_named_snapshot};
 ghost use Rattle.core_admin.specs.AnsweredBy.{ActAnswersBy};
-ghost use Rattle.core_admin.specs.Listings.{IsListable, files_counted, row_of as row_of_kept, rows_of as rows_of_first};
+ghost use Rattle.core_admin.specs.Listings.{IsListable, row_of as row_of_kept, rows_of as rows_of_first};
 
-use core_state::{Kept, Listed, Parts, Place};
+use core_state::{Kept, Listed, ListedRow, Parts, Place};
 use disk_trait::Disk;
 use std::alloc::{AllocError, Global};
 use store_stops::Stop;
 use store_types::{Bytes, LIST_LIMIT, Rows};
 use wire_commands::{ListRow, Reply};
-
-/// How many files are told of a snapshot: of a damaged one none.
-fn file_count(kept: &Kept) -> u8
-    ensures { result ≡ files_counted kept.now }
-{
-    if kept.unreadable.is_some() {
-        return 0;
-    }
-    kept.files.as_slice().len().min(255) as u8
-}
 
 /// What is told of a snapshot.
 pub fn row_of(alloc: Global, kept: &Kept) -> Result<ListRow, AllocError>
@@ -34,10 +24,11 @@ pub fn row_of(alloc: Global, kept: &Kept) -> Result<ListRow, AllocError>
     ensures listable { IfOk result IsListable }
 {
     let snapshot = Bytes::from_vec(kept.key.print(alloc)?.into_bytes());
+    let row = ListedRow::of(kept);
     Ok(ListRow {
         snapshot,
-        damaged: kept.unreadable.is_some(),
-        files: file_count(kept),
+        damaged: row.damaged,
+        files: row.files,
     })
 }
 

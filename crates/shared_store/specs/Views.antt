@@ -20,7 +20,7 @@ use Rattle.core_state.specs.declared.kept.Listed.{Listed}
 use Rattle.core_state.specs.declared.state.Core.{Core}
 use Rattle.core_state.specs.Catalogue.{listed_by}
 use Rattle.core_state.specs.Kept.{kept_at}
-use Rattle.core_admin.specs.Listings.{files_counted}
+use Rattle.core_state.specs.ListedRows.{files_counted}
 use Rattle.listing_views.specs.declared.chunk.Chunk.{Chunk}
 use Rattle.listing_views.specs.declared.listed.Listed as shown
 use Rattle.listing_views.specs.declared.poster.Poster.{Poster}
