@@ -1,5 +1,5 @@
 -- What a FORGET answers, and what it leaves, by what was found.
-use Rattle.std.proofs.Common.{◌≡◌, ◌<◌, ◌^◌, ℕ, true, false, map, List, [], ◌∷◌, Some, None, Result, Ok, Err, IsErrOf, IsErrAnd, inl, inr, refl, sym, ap, subst, ◌∙◌, arith}
+use Rattle.std.proofs.Common.{◌≡◌, ◌<◌, ◌^◌, ℕ, true, false, IsTrue, map, List, [], ◌∷◌, Some, None, Result, Ok, Err, IsErrOf, IsErrAnd, inl, inr, refl, sym, ap, subst, ◌∙◌, arith}
 use Rattle.std.specs.FinMap.{get, remove}
 use Rattle.std.specs.Result.{result_ok}
 use Rattle.sha2.specs.Sha256.{sha256}

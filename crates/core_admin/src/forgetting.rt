@@ -8,8 +8,8 @@ ghost use Rattle.lock_book.specs.Locks.{least_sharer};
 ghost use Rattle.wire_commands.specs.declared.command.Command.TheVariants.{Forget};
 ghost use Rattle.store_history.specs.declared.act.Act.TheVariants.{Plain};
 ghost use Rattle.core_state.specs.Changes.{names_beside as names_of_kept};
-ghost use Rattle.snapshot_files.specs.Reads.{StopHasText};
-ghost use Rattle.store_stops.specs.Stops.{Gives};
+ghost use Rattle.wire_commands.specs.HasText.{ReplyHasText};
+ghost use Rattle.wire_commands.specs.declared.reply.Reply.TheVariants.{Refused};
 ghost use Rattle.core_state.specs.Commands.{PlainDoes, PlainLeaves};
 ghost use Rattle.core_state.specs.Decides.{Decides};
 ghost use Rattle.core_state.specs.Found.{kept_named};
@@ -46,25 +46,20 @@ struct Target {
 
 /// That no lane holds the snapshot; else it is refused with the least that does.
 #[tactic(auto, using(crate::proofs::ForgetLemmas::snapshot_busy_has_text))]
-fn want_free(locks: &LockBook, key: &SnapshotKey) -> Result<(), Stop>
-    ensures value { Gives (λ free. free) result (if_none SnapshotBusy (least_sharer locks.now key.now)) }
-    ensures text { IfErr result StopHasText }
+fn want_free(locks: &LockBook, key: &SnapshotKey) -> Result<(), Refusal>
+    ensures value { result ≡ if_none SnapshotBusy (least_sharer locks.now key.now) }
+    ensures text { IfErr result (λ r. ReplyHasText (Refused r)) }
 {
     match locks.free_for_removal(key) {
         Ok(()) => Ok(()),
-        Err(LaneHolds { lane }) => Err(Stop::Refused(Refusal::SnapshotBusy { lane })),
+        Err(LaneHolds { lane }) => Err(Refusal::SnapshotBusy { lane }),
     }
 }
 
 /// The tests of FORGET, in order: the lane has no session; the text names a snapshot; it is there; no lane holds it, else
 /// the least is told.
 #[tactic(auto, using(core_state::proofs::Texts::no_snapshot_has_text), unfolding(crate::specs::Forgotten::to_forget))]
-fn to_forget<D>(
-    parts: &Parts<D>,
-    alloc: Global,
-    lane: u32,
-    snapshot: &[u8],
-) -> Result<Target, Stop>
+fn to_forget<D>(parts: &Parts<D>, alloc: Global, lane: u32, snapshot: &[u8]) -> Result<Target, Stop>
     requires { lane < 64 }
     ensures decides { Decides (λ t. t.key) (to_forget snapshot.now) parts.now lane result }
     ensures names { IfOk result (λ t. option_map (λ k. names_of_kept k.files) (kept_named t.key parts.now.catalogue.listed) ≡ Some t.names.items) }
