@@ -229,8 +229,8 @@ ended_at_once start k left taken size given e words before s given' vs ends gave
   ends = vs;
   split = refl;
   ended = are_ends k vs ends;
-  last = s.last;
-  leads = s.comes;
+  last = record s.last { is_unheld = (s.comes).0 };
+  leads = (s.comes).1;
   off = s.off;
   gave = gave;
 }
