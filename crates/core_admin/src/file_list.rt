@@ -19,16 +19,16 @@ ghost use Rattle.core_state.specs.Unreadables.{ActUnreadable};
 ghost use Rattle.store_stops.specs.declared.stop.Stop.TheVariants.{DiskFailed};
 ghost use Rattle.core_admin.specs.AnsweredBy.{ActAnswersBy};
 ghost use Rattle.core_admin.specs.FileRows.{row_shown, rows_shown, sized_row};
-ghost use Rattle.core_admin.specs.FilesTold.{GivesRows, HasBytes, IsFileRow, ListsThere, TellsOfBytes, asked_files};
+ghost use Rattle.core_admin.specs.FilesTold.{Finds, GivesRows, HasBytes, IsFileRow, ListsThere, TellsOfBytes, asked_files, whole_of};
 
-use core_state::{Kept, Parts, Place, StoredFile};
+use core_state::{Catalogue, Kept, Parts, Place, StoredFile};
 use disk_trait::{Disk, DiskError};
 use manifest::{FileFact, Manifest};
 use sha2::{Digest, Sha256};
 use snapshot_files::{manifest_path_of, read_manifest};
 use std::alloc::{AllocError, Global};
 use store_stops::Stop;
-use store_types::{Bytes, Digest32, FILE_LIMIT, FileName, LISTED_LIMIT, Refusal, Rows};
+use store_types::{Bytes, Digest32, FILE_LIMIT, FileName, LISTED_LIMIT, Refusal, Rows, SnapshotKey};
 use wire_commands::{FileRow, Reply};
 
 /// A manifest's file, and what it lists.
@@ -158,6 +158,21 @@ fn rows_read<D: Disk>(disk: &mut D, alloc: Global, kept: &Kept) -> Result<Rows<F
     Ok(rows)
 }
 
+/// What FILES tests behind its text: the snapshot is there; no file is known to make it damaged, else that file is told.
+fn whole_of<'a>(catalogue: &'a Catalogue, key: &SnapshotKey) -> Result<&'a Kept, Stop>
+    ensures finds { Finds (whole_of key.now catalogue.now.listed) result }
+    ensures key { IfOk result (λ k. k.now.key ≡ key.now) }
+{
+    let Some(kept) = catalogue.named(key) else {
+        return Err(Stop::Refused(Refusal::NoSnapshot));
+    };
+    if let Some(name) = &kept.unreadable {
+        let name = name.clone()?;
+        return Err(Stop::Refused(Refusal::Unreadable { name }));
+    }
+    Ok(kept)
+}
+
 /// The files of a snapshot, in byte order, as its manifest lists them; of the manifest itself its own size and checksum. It
 /// reads the manifest's file, and changes nothing.
 ///
@@ -179,13 +194,7 @@ pub fn files<D: Disk>(
     ensures unreadable { ActUnreadable D.Disk (asked_files snapshot.now) parts.old at result }
 {
     let key = parts.key_in(alloc, at.lane, snapshot)?;
-    let Some(kept) = parts.catalogue.named(&key) else {
-        return Err(Stop::Refused(Refusal::NoSnapshot));
-    };
-    if let Some(name) = &kept.unreadable {
-        let name = name.clone()?;
-        return Err(Stop::Refused(Refusal::Unreadable { name }));
-    }
+    let kept = whole_of(&parts.catalogue, &key)?;
     let rows = rows_read(&mut parts.disk, alloc, kept)?;
     Ok(Reply::Files(rows))
 }
