@@ -3,7 +3,6 @@ pub mod RowTexts
 pub mod FactLemmas
 pub mod FactRows
 pub mod Told
-pub mod ListLemmas
 pub mod Freeing
 pub mod Remaining
 pub mod TakenOut

@@ -7,18 +7,18 @@ use Rattle.wire_commands.specs.declared.reply.Reply.{Reply}
 use Rattle.store_history.specs.declared.act.Act.{Act}
 use Rattle.store_history.specs.declared.act.Act.TheVariants.{Plain, JobGroup}
 use Rattle.core_state.specs.declared.entering.Place.{Place}
-use Rattle.core_state.specs.declared.kept.Listed.{Listed}
 use Rattle.core_state.specs.declared.parts.Parts.{Parts}
 use Rattle.store_stops.specs.declared.stop.Stop.{Stop}
 use Rattle.core_state.specs.Commands.{ActDoes, ActLeaves}
+use Rattle.core_state.specs.Kept.{KeptAt}
 use Rattle.core_state.specs.Unreadables.{Asked}
 use Rattle.core_admin.specs.AnsweredBy.{ActAnswersBy}
 use Rattle.core_admin.specs.FilesTold.{asked_files}
 
 -- the file that an act asks for: the manifest of the snapshot whose files it tells, or the file that makes it damaged
-abbrev pub asked_of_admin : Act → List Listed → Option Asked
-asked_of_admin (Plain (Files snapshot)) catalogue = asked_files snapshot catalogue
-asked_of_admin act catalogue = None
+abbrev pub asked_of_admin : Act → KeptAt → Option Asked
+asked_of_admin (Plain (Files snapshot)) k = asked_files snapshot k
+asked_of_admin act k = None
 
 -- ---- the first step of a PRUNE, which changes nothing
 

@@ -27,7 +27,7 @@ fn perform<D: Disk>(parts: &mut Parts<D>, alloc: Global, at: Place, act: Act) ->
     ensures does { ActDoes D.Disk parts.old parts.new at act result }
     ensures leaves { ActLeaves D.Disk parts.old parts.new at act result }
     ensures from_state { ActAnswersBy D.Disk parts.old at act result }
-    ensures unreadable { ActUnreadable D.Disk (λ _. asked_of_admin act) parts.old at result }
+    ensures unreadable { ActUnreadable D.Disk (asked_of_admin act) parts.old at result }
 {
     match act {
         Act::Plain(Command::List { after }) => list(parts, alloc, at, after.as_slice()),
@@ -61,7 +61,7 @@ pub fn admin_act<D: Disk, E, C: Clock>(
     // on any disk its own tests answer what the core keeps; FILES, on an honest one, what stands there
     ensures from_state { CoreAnswersBy D.Disk core.old lane act result }
     // a manifest is unreadable exactly where it is, as far as the disk tells
-    ensures unreadable { CoreUnreadable D.Disk (λ _. asked_of_admin act) core.old lane result }
+    ensures unreadable { CoreUnreadable D.Disk (asked_of_admin act) core.old lane result }
 {
     match begin(core, alloc, lane, &act) {
         Admitted::Answered(answer) => {

@@ -19,7 +19,7 @@ use Rattle.store_model.specs.Steps.{outcome}
 use Rattle.core_state.specs.Kept.{KeptAt, kept_at}
 use Rattle.core_state.specs.declared.parts.Parts.{Parts}
 use Rattle.core_state.specs.Holds.{Holds}
-use Rattle.core_state.specs.Replies.{refuses_range, reply_told}
+use Rattle.store_history.specs.Replies.{refuses_range, reply_told}
 use Rattle.core_state.specs.declared.entering.Place.{Place}
 use Rattle.wire_commands.specs.HasText.{ReplyHasText}
 use Rattle.restore_reader.specs.Answers.{RefusesRange as PlanRefuses}

@@ -23,7 +23,7 @@ use Rattle.core_state.specs.Unreadables.{ActUnreadable}
 use Rattle.core_state.proofs.Telling.{asks_none, calls_asked, needs_none, plain_tells}
 use Rattle.core_writer.specs.AnsweredBy.{writer_told}
 use Rattle.core_writer.specs.Previous.{NotesPooled, asked_of_base}
-use Rattle.core_writer.specs.Words.{TakesLocks, writer_words}
+use Rattle.core_writer.specs.WriterWords.{TakesLocks, writer_words}
 
 -- nothing is said
 untold_by : {D : Type 0} (d : Ghosts D) (disk : D) (outcome : Result Reply DiskError) (k : Rattle.core_state.specs.Kept.KeptAt) → IfOk outcome (untold d disk k)

@@ -14,4 +14,4 @@ pub mod Ended
 pub mod Finished
 pub mod Stopping
 pub mod Touching
-pub mod Words
+pub mod WriterWords

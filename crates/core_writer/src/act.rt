@@ -9,7 +9,7 @@ ghost use Rattle.core_state.specs.Commands.{ActDoes, ActLeaves};
 ghost use Rattle.core_state.specs.Reserved.{HasRoom};
 ghost use Rattle.core_state.specs.Tells.{ActTells, CoreTells};
 ghost use Rattle.core_writer.specs.Touching.{ActTouches};
-ghost use Rattle.core_writer.specs.Words.{writer_words};
+ghost use Rattle.core_writer.specs.WriterWords.{writer_words};
 
 use crate::archives::{close_index, new_dynamic, new_fixed};
 use crate::ending::{abort, end};

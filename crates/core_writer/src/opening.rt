@@ -12,11 +12,11 @@ ghost use Rattle.core_state.specs.Commands.{PlainDoes, PlainLeaves};
 ghost use Rattle.core_state.specs.Decides.{Decides};
 ghost use Rattle.core_state.specs.Found.{lent_key};
 ghost use Rattle.core_state.specs.FromState.{ActTells};
-ghost use Rattle.core_state.specs.Replies.{refuses_writer};
+ghost use Rattle.store_history.specs.Replies.{refuses_writer};
 ghost use Rattle.core_writer.specs.AnsweredBy.{writer_told};
 ghost use Rattle.core_writer.specs.Opened.{LendsBase, TakesBase, base_on, begins_with, other_holder, to_write as base_to_write};
 ghost use Rattle.core_writer.specs.Stopping.{RefusesBy};
-ghost use Rattle.core_writer.specs.Words.{TakesLocks};
+ghost use Rattle.core_writer.specs.WriterWords.{TakesLocks};
 
 use crate::testing::{want_newer, want_room};
 use core_state::{Catalogue, Parts, Place, Session, Writing};

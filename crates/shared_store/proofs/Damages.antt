@@ -1,6 +1,6 @@
 -- An act that is no reader's and reads no remote needs no chunk, and tells of none that is damaged. And which acts ask for no file.
 use Rattle.disk_trait.specs.declared.disk.Disk.{Ghosts}
-use Rattle.std.proofs.Common.{◌≡◌, ℕ, true, false, List, Option, None, Some, refl, sym, ap, subst, ◌∙◌}
+use Rattle.std.proofs.Common.{◌≡◌, ℕ, true, false, Option, None, Some, refl, sym, ap, subst, ◌∙◌}
 use Rattle.disk_trait.specs.Files.{Files}
 use Rattle.store_types.specs.declared.names.Digest32.{Digest32}
 use Rattle.store_types.specs.declared.refusal.ChunkFault.{ChunkFault}
@@ -14,16 +14,12 @@ use Rattle.store_history.specs.declared.act.Act.TheVariants.{Plain, JobGroup, Re
 use Rattle.store_history.specs.declared.act.Answer.{Answer}
 use Rattle.store_history.specs.declared.act.Family.TheVariants.{Reads}
 use Rattle.store_history.specs.Acts.{family_of}
-use Rattle.core_state.specs.declared.kept.Listed.{Listed}
-use Rattle.core_state.specs.declared.kept.Session.{Session}
 use Rattle.core_state.specs.declared.state.Core.{Core}
-use Rattle.core_state.specs.declared.indexes.Indexes.{Indexes}
-use Rattle.core_state.specs.Indexed.{row_at}
+use Rattle.core_state.specs.Kept.{KeptAt, kept_at}
 use Rattle.core_state.specs.Answers.{HasCause, done, short, failed, halted, EndHasCause, ended, end_failed, StartHasCause, start_opens, start_as_any, StepHasCause, step_passes, step_ends, step_as_any, IsCaused}
-use Rattle.core_state.specs.Commands.{is_remotes}
-use Rattle.core_state.specs.Replies.{may_answer, may_end}
+use Rattle.store_history.specs.RemoteDisk.{is_remotes}
+use Rattle.store_history.specs.Replies.{may_answer, may_end}
 use Rattle.core_state.specs.Unreadables.{TellsUnreadable}
-use Rattle.core_state.specs.Wanted.{session_at}
 use Rattle.core_state.proofs.Unreadables.{tells_other as none_asked}
 use Rattle.core_reader.specs.Damages.{CoreDamaged, damage_by}
 
@@ -98,11 +94,11 @@ never_damaged (JobGroup (Prune group keep dry)) digest found other = refl
 never_damaged (JobGroup command) digest found other = refl
 never_damaged act digest found other = refl
 
-no_damage : (row : Indexes) (act : Act) (session : Session) (catalogue : List Listed) (files : Files) → (family_of act ≡ Reads → ⊥) → damage_by row act session catalogue files ≡ None
-no_damage row (Plain (GetChunk id)) session catalogue files other = absurd (other refl)
-no_damage row (Plain (Range file offset len)) session catalogue files other = absurd (other refl)
-no_damage row (ReadChunk name entry) session catalogue files other = absurd (other refl)
-no_damage row act session catalogue files other = refl
+no_damage : (act : Act) (k : KeptAt) (files : Files) → (family_of act ≡ Reads → ⊥) → damage_by act k files ≡ None
+no_damage (Plain (GetChunk id)) k files other = absurd (other refl)
+no_damage (Plain (Range file offset len)) k files other = absurd (other refl)
+no_damage (ReadChunk name entry) k files other = absurd (other refl)
+no_damage act k files other = refl
 
 some_damage : (digest : Digest32) (found : ChunkFault) → ◌≡◌ {A = Option (Digest32 × ChunkFault)} None (Some (digest, found)) → ⊥
 some_damage digest found e = cc
@@ -113,7 +109,7 @@ tells_whole d old new lane act answer other alone cause = record {
   named = λ digest found e. absurd (never digest found e);
   cause = λ digest found e h. absurd (never digest found e);
   damaged = λ digest found k h at.
-      absurd (some_damage digest found (sym (no_damage (row_at old.parts lane) act (session_at old.parts lane) (old.parts).catalogue.listed (d.content (old.parts).disk) other) ∙ at));
+      absurd (some_damage digest found (sym (no_damage act (kept_at old.parts lane) (d.content (old.parts).disk) other) ∙ at));
 }
   where
     never : (digest : Digest32) (found : ChunkFault) → answer.reply ≡ Some (Refused (Damaged digest found)) → ⊥

@@ -1,5 +1,5 @@
 -- A FINISH or a FORGET that is answered by want of memory before it is done.
-use Rattle.std.proofs.Common.{◌≡◌, ◌∙◌, ◌<◌, ℕ, true, false, List, Option, None, refl, sym, ap, subst, arith}
+use Rattle.std.proofs.Common.{◌≡◌, ◌∙◌, ◌<◌, ℕ, true, false, Option, None, refl, sym, ap, subst, arith}
 use Rattle.std.specs.Prelude.{IfSome}
 use Rattle.disk_trait.specs.declared.disk.Disk.{Ghosts}
 use Rattle.port_traits.specs.declared.clock.Clock as clocks
@@ -12,16 +12,14 @@ use Rattle.store_history.specs.declared.act.Answer.{Answer}
 use Rattle.store_history.specs.declared.act.Family.TheVariants.{Reads}
 use Rattle.store_history.specs.Acts.{IsWellFormed, class_of, family_of, stepping}
 use Rattle.core_state.specs.declared.collector.Collector.{Collector}
-use Rattle.core_state.specs.declared.kept.Listed.{Listed}
 use Rattle.core_state.specs.declared.kept.Session.{Session}
 use Rattle.core_state.specs.declared.state.Core.{Core}
 use Rattle.core_state.specs.declared.entering.Admitted.TheVariants.{Answered}
-use Rattle.core_state.specs.declared.indexes.Indexes.{Indexes}
-use Rattle.core_state.specs.Indexed.{row_at}
 use Rattle.core_state.specs.Applies.{ActApplies, ActKeeps}
 use Rattle.core_state.specs.Begins.{AdmittedHasText, IsNotShort, IsShort, Refuses, short}
 use Rattle.core_state.specs.Closing.{closes, is_closing}
-use Rattle.core_state.specs.Commands.{is_remotes}
+use Rattle.store_history.specs.RemoteDisk.{is_remotes}
+use Rattle.core_state.specs.Kept.{KeptAt, kept_at}
 use Rattle.core_state.specs.Stops.{ended_by}
 use Rattle.core_state.specs.Unreadables.{TellsUnreadable}
 use Rattle.core_state.specs.Wanted.{session_at}
@@ -67,10 +65,10 @@ no_reads act is reads = off is
 no_short : {P : Type 0} (act : Act) → is_listing act ≡ true → act ≡ Short → P
 no_short act is wants = off (sym (ap is_listing wants) ∙ is)
 
-asks_none : (row : Indexes) (act : Act) (lane : ℕ) (collector : Option Collector) (session : Session) (catalogue : List Listed) → is_listing act ≡ true → asked row act lane collector session catalogue ≡ None
-asks_none row (Plain Finish) lane collector session catalogue is = refl
-asks_none row (Plain (Forget snapshot)) lane collector session catalogue is = refl
-asks_none row act lane collector session catalogue is = off is
+asks_none : (act : Act) (collector : Option Collector) (k : KeptAt) → is_listing act ≡ true → asked act collector k ≡ None
+asks_none (Plain Finish) collector k is = refl
+asks_none (Plain (Forget snapshot)) collector k is = refl
+asks_none act collector k is = off is
 
 no_command : {P : Type 0} (kind : ℕ) → kind ≡ MEMORY_KIND → kind ≡ COMMAND_KIND → P
 no_command kind two none = absurd (apart (sym two ∙ none))
@@ -106,7 +104,7 @@ module _ {D E C : Type 0} (d : Ghosts D) (e : Ghosts E) (clock : clocks.Ghosts C
         alone = λ alone. applies;
         keeps = keeps;
         unreadable = λ alone.
-            subst (λ a. TellsUnreadable d (old.parts).disk a (answer.entry).kind answer.reply) (sym (asks_none (row_at old.parts lane) act lane old.collector (session_at old.parts lane) (old.parts).catalogue.listed listing))
+            subst (λ a. TellsUnreadable d (old.parts).disk a (answer.entry).kind answer.reply) (sym (asks_none act old.collector (kept_at old.parts lane) listing))
             (short_asks_none d old new (old.parts).disk answer (is.entered).reply_is);
         damaged = λ alone. tells_whole d old new lane act answer (no_reads act listing) alone applies.cause;
         from_state = answers act listing;

@@ -9,11 +9,9 @@ use Rattle.store_history.specs.declared.act.Act.TheVariants.{Short}
 use Rattle.store_history.specs.declared.act.Answer.{Answer}
 use Rattle.store_history.specs.declared.act.Event.{Event}
 use Rattle.core_state.specs.declared.state.Core.{Core}
-use Rattle.core_state.specs.Indexed.{row_at}
 use Rattle.core_state.specs.Applies.{ActApplies, ActKeeps, CoreApplies}
-use Rattle.core_state.specs.Commands.{is_remotes}
+use Rattle.store_history.specs.RemoteDisk.{is_remotes, reads_remote}
 use Rattle.core_state.specs.History.{event_of}
-use Rattle.core_state.specs.Remotes.{reads_remote}
 use Rattle.core_state.specs.Stops.{ended_by}
 use Rattle.core_state.specs.Unreadables.{CoreUnreadable}
 use Rattle.core_reader.specs.Damages.{CoreDamaged}
@@ -34,7 +32,7 @@ pub record HasApplied {D E C : Type 0} (d : Ghosts D) (e : Ghosts E) (clock : cl
   -- leaves
   pub keeps : ActKeeps d old new lane act answer
   -- of the store's own files and chunks; those of the remote see below
-  pub unreadable : is_remotes act ≡ false → CoreUnreadable d (asked (row_at old.parts lane) act lane old.collector) old lane answer
+  pub unreadable : is_remotes act ≡ false → CoreUnreadable d (asked act old.collector) old lane answer
   pub damaged : is_remotes act ≡ false → CoreDamaged d old lane act answer
   -- on any disk and any remote OPEN_WRITER, OPEN_READER, the tests of a command on the store as a whole and of a read of the
   -- remote, and a collector's acts answer what the core keeps; of FILES, whether there is such a snapshot. On an honest disk,

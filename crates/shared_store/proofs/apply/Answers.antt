@@ -5,12 +5,11 @@ use Rattle.store_history.specs.declared.act.Family.{Family}
 use Rattle.store_history.specs.declared.act.Family.TheVariants.{Reads, Writes, Manages, Collects, Reaches, Wants, Ends}
 use Rattle.store_history.specs.Acts.{class_of, family_of, is_reaching}
 use Rattle.store_history.proofs.Families.{by_end, by_want}
-use Rattle.core_state.specs.Indexed.{row_at}
 use Rattle.core_state.specs.Applies.{ActApplies, ActKeeps}
-use Rattle.core_state.specs.Commands.{is_remotes}
+use Rattle.store_history.specs.RemoteDisk.{is_remotes}
 use Rattle.core_state.specs.Stops.{ended_by}
 use Rattle.core_state.specs.Unreadables.{TellsUnreadable}
-use Rattle.core_state.specs.Wanted.{session_at}
+use Rattle.core_state.specs.Kept.{kept_at}
 use Rattle.core_state.proofs.Applying.{short_applies, short_keeps_all}
 use Rattle.core_state.proofs.RemoteReads.{applies_beside}
 use Rattle.shared_store.specs.Asked.{asked}
@@ -66,7 +65,7 @@ returns-in-Reads g c =
       keeps = c.reader_act.ensures.keeps;
       unreadable = λ alone.
           subst (λ a. TellsUnreadable g.D.Disk (old.parts).disk a (answer.entry).kind answer.reply)
-          (sym (readers_ask (row_at old.parts c.args.lane) c.args.lane old.collector (session_at old.parts c.args.lane) (old.parts).catalogue.listed act is)) c.reader_act.ensures.unreadable;
+          (sym (readers_ask old.collector (kept_at old.parts c.args.lane) act is)) c.reader_act.ensures.unreadable;
       damaged = λ alone. c.reader_act.ensures.damaged;
       from_state = readers_answer g.D.Disk old new c.args.lane answer act is c.reader_act.ensures.from_state;
       by_remote = unread act Reads is refl;
@@ -89,7 +88,7 @@ returns-in-Writes g c =
       keeps = c.writer_act.ensures.keeps;
       unreadable = λ alone.
           subst (λ a. TellsUnreadable g.D.Disk (old.parts).disk a (answer.entry).kind answer.reply)
-          (sym (writers_ask (row_at old.parts c.args.lane) c.args.lane old.collector (session_at old.parts c.args.lane) (old.parts).catalogue.listed act is)) c.writer_act.ensures.unreadable;
+          (sym (writers_ask old.collector (kept_at old.parts c.args.lane) act is)) c.writer_act.ensures.unreadable;
       damaged = λ alone. tells_whole g.D.Disk old new c.args.lane act answer (other act Writes is (λ e. cc)) alone (c.writer_act.ensures.applies).cause;
       from_state = writers_answer g.D.Disk old new c.args.lane answer act is c.writer_act.ensures.from_state;
       by_remote = unread act Writes is refl;
@@ -112,7 +111,7 @@ returns-in-Manages g c =
       keeps = c.admin_act.ensures.keeps;
       unreadable = λ alone.
           subst (λ a. TellsUnreadable g.D.Disk (old.parts).disk a (answer.entry).kind answer.reply)
-          (sym (admins_ask (row_at old.parts c.args.lane) c.args.lane old.collector (session_at old.parts c.args.lane) (old.parts).catalogue.listed act is)) c.admin_act.ensures.unreadable;
+          (sym (admins_ask old.collector (kept_at old.parts c.args.lane) act is)) c.admin_act.ensures.unreadable;
       damaged = λ alone. tells_whole g.D.Disk old new c.args.lane act answer (other act Manages is (λ e. cc)) alone (c.admin_act.ensures.applies).cause;
       from_state = admins_answer g.D.Disk old new c.args.lane answer act is c.admin_act.ensures.from_state;
       by_remote = unread act Manages is refl;
@@ -135,7 +134,7 @@ returns-in-Collects g c =
       keeps = c.collect_act.ensures.keeps;
       unreadable = λ alone.
           subst (λ a. TellsUnreadable g.D.Disk (old.parts).disk a (answer.entry).kind answer.reply)
-          (sym (collectors_ask (row_at old.parts c.args.lane) c.args.lane old.collector (session_at old.parts c.args.lane) (old.parts).catalogue.listed act is)) c.collect_act.ensures.unreadable;
+          (sym (collectors_ask old.collector (kept_at old.parts c.args.lane) act is)) c.collect_act.ensures.unreadable;
       damaged = λ alone. tells_whole g.D.Disk old new c.args.lane act answer (other act Collects is (λ e. cc)) alone (c.collect_act.ensures.applies).cause;
       from_state = collectors_answer g.D.Disk old new c.args.lane answer act is c.collect_act.ensures.from_state;
       by_remote = unread act Collects is refl;
@@ -183,7 +182,7 @@ returns-in-Wants g c =
       alone = λ alone. applies;
       keeps = keeps;
       unreadable = λ alone.
-          subst (λ a. TellsUnreadable g.D.Disk (old.parts).disk (asked (row_at old.parts c.args.lane) a c.args.lane old.collector (session_at old.parts c.args.lane) (old.parts).catalogue.listed) (answer.entry).kind answer.reply) (sym so)
+          subst (λ a. TellsUnreadable g.D.Disk (old.parts).disk (asked a old.collector (kept_at old.parts c.args.lane)) (answer.entry).kind answer.reply) (sym so)
           (short_asks_none g.D.Disk old new (old.parts).disk answer (c.short.ensures.entered).reply_is);
       damaged = λ alone. tells_whole g.D.Disk old new c.args.lane act answer (other act Wants is (λ e. cc)) alone applies.cause;
       from_state = short_answers g.D.Disk old new c.args.lane answer act is;
@@ -209,7 +208,7 @@ returns-in-Ends g c =
       alone = λ alone. applies;
       keeps = keeps;
       unreadable = λ alone.
-          subst (λ a. TellsUnreadable g.D.Disk (old.parts).disk (asked (row_at old.parts c.args.lane) a c.args.lane old.collector (session_at old.parts c.args.lane) (old.parts).catalogue.listed) (answer.entry).kind answer.reply) (sym so)
+          subst (λ a. TellsUnreadable g.D.Disk (old.parts).disk (asked a old.collector (kept_at old.parts c.args.lane)) (answer.entry).kind answer.reply) (sym so)
           (end_asks_none g.D.Disk old new (old.parts).disk answer (c.end_act.ensures.applies).cause);
       damaged = λ alone. tells_whole g.D.Disk old new c.args.lane act answer (other act Ends is (λ e. cc)) alone applies.cause;
       from_state = end_answers g.D.Disk old new c.args.lane answer act is;

@@ -2,7 +2,7 @@ use Rattle.std.proofs.Common.{refl}
 use Rattle.store_history.proofs.Families.{writes_step}
 use Rattle.core_state.proofs.Applying.{refused_applies, refused_keeps_all, done_applies, done_keeps_all}
 use Rattle.core_state.proofs.Telling.{done_tells, refused_tells}
-use Rattle.core_writer.specs.Words.{writer_words}
+use Rattle.core_writer.specs.WriterWords.{writer_words}
 use Rattle.core_writer.proofs.act.writer_act.Goals as goal
 
 pub returns-in-Answered-clause-applies : goal.returns-in-Answered-clause-applies
