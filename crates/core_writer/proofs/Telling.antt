@@ -16,7 +16,7 @@ use Rattle.core_state.specs.declared.parts.Parts.{Parts}
 use Rattle.core_state.specs.Calls.{ActCalls}
 use Rattle.core_state.specs.FromState as from_states
 use Rattle.core_state.specs.Kept.{kept_at}
-use Rattle.core_state.specs.Replies.{may_answer}
+use Rattle.store_history.specs.Replies.{may_answer}
 use Rattle.core_state.specs.Stops.{told}
 use Rattle.core_state.specs.Tells.{ActTells, plain_words, untold}
 use Rattle.core_state.specs.Unreadables.{ActUnreadable}
