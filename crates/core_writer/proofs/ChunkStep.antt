@@ -42,7 +42,6 @@ use Rattle.core_state.specs.Holds.{HasUploads, Holds, IsOnDisk, Shows}
 use Rattle.core_state.specs.Changes.{by_writer, change_of, chunk_put, stores}
 use Rattle.core_state.specs.PassedTests.{PassesItsTests}
 use Rattle.core_state.specs.Wanted.{session_at, want_writer}
-use Rattle.core_state.specs.declared.kept.Listed.{Listed}
 use Rattle.core_state.specs.declared.kept.Session.TheVariants.{Idle}
 use Rattle.core_state.proofs.Commanding.{is_writing}
 use Rattle.core_state.proofs.LockLemmas.{locked_writes_on}

@@ -3,18 +3,9 @@ use Rattle.std.specs.Prelude.{ℕ, List, Option, Result, Ok}
 use Rattle.store_types.specs.declared.names.SnapshotKey.{SnapshotKey}
 use Rattle.store_types.specs.declared.refusal.Refusal.{Refusal}
 use Rattle.store_types.specs.Chain.Refusing.{◌>>=◌}
-use Rattle.wire_commands.specs.declared.command.Command.TheVariants.{OpenWriter}
 use Rattle.wire_commands.specs.declared.reply.Reply.{Reply}
 use Rattle.wire_commands.specs.declared.reply.Reply.TheVariants.{Base}
 use Rattle.store_model.specs.WriterSteps.{base_text}
-use Rattle.store_history.specs.declared.act.Act.{Act}
-use Rattle.store_history.specs.declared.act.Act.TheVariants.{Plain}
-use Rattle.store_history.specs.declared.act.Answer.{Answer}
-use Rattle.core_state.specs.declared.entering.Place.{Place}
-use Rattle.core_state.specs.declared.parts.Parts.{Parts}
-use Rattle.core_state.specs.declared.state.Core.{Core}
-use Rattle.store_stops.specs.declared.stop.Stop.{Stop}
-use Rattle.core_state.specs.FromState.{ActTells, CoreTells}
 use Rattle.core_state.specs.Kept.{KeptAt}
 use Rattle.core_writer.specs.Opened.{to_write}
 

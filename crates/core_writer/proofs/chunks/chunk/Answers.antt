@@ -1,5 +1,5 @@
 use Rattle.std.proofs.Common.{◌≡◌, ◌<◌, ◌∙◌, ap, refl, sym, subst, ℕ, List, length, get_or, set, Ok, Err, Fits, w8, rules, arith}
-use Rattle.std.proofs.lemmas.List.{get_or-set_same}
+use Rattle.std.proofs.lemmas.List.{get_or-set_same, get_or-set_other}
 use Rattle.wire_commands.specs.declared.reply.Reply.TheVariants.{Done}
 use Rattle.store_history.specs.declared.act.Act.TheVariants.{Chunk}
 use Rattle.store_history.specs.Acts.{IsCheckedChunk}
@@ -12,7 +12,7 @@ use Rattle.core_state.specs.Changes.{IsFirm, LeavesChange, after, stores}
 use Rattle.core_state.specs.declared.kept.Session.TheVariants.{Idle}
 use Rattle.core_state.specs.Closing.{is_writer}
 use Rattle.core_state.specs.Named.{is_named}
-use Rattle.core_state.proofs.Commanding.{failed_does, failed_leaves, is_writing, others_set, refused_does, refused_leaves, same_kept, unwritten_does, unwritten_leaves, writer_shown, writes_does, writes_leaves}
+use Rattle.core_state.proofs.Commanding.{failed_does, failed_leaves, is_writing, refused_does, refused_leaves, same_kept, unwritten_does, unwritten_leaves, writer_shown, writes_does, writes_leaves}
 use Rattle.core_state.proofs.NamedLemmas.{list_all-set, list_all-at}
 use Rattle.core_state.proofs.Texts.{done_has_text}
 use Rattle.core_writer.specs.NotedChunks.{with_blob_noted}
@@ -177,4 +177,4 @@ returns-clause-leaves g c = let d = g.D.Disk in
     ap is_writer
     (get_or-set_same old.sessions.items c.args.at.lane c.take_chunk.new.session Idle within ∙ c.in_ok-take_chunk.ensures.ok
     ∙ ap (with_blob_noted c.args.digest.now c.as_slice-blob.result.now) is))
-    (λ i keeps. refl) (others_set old _ c.args.at.lane c.take_chunk.new.session refl)
+    (λ i keeps. refl) (λ i other. get_or-set_other old.sessions.items c.args.at.lane i c.take_chunk.new.session Idle other)
