@@ -2,7 +2,7 @@ use Rattle.std.proofs.Common.{◌≡◌, rules, sym, subst}
 use Rattle.wire_commands.specs.declared.command.Command.TheVariants.{Previous}
 use Rattle.store_history.specs.declared.act.Act.TheVariants.{Plain}
 use Rattle.core_state.specs.Tells.{ActTells}
-use Rattle.core_writer.specs.Words.{writer_words}
+use Rattle.core_writer.specs.WriterWords.{writer_words}
 use Rattle.core_writer.proofs.Telling.{told_previous}
 use Rattle.core_writer.proofs.act.perform.Goals as goal
 
