@@ -29,7 +29,7 @@ use Rattle.store_stops.specs.Stops.{Gives, IfRefused}
 use Rattle.store_stops.specs.declared.stop.Stop.{Stop}
 use Rattle.store_stops.specs.declared.stop.Stop.TheVariants as stops
 use Rattle.core_state.specs.Unreadables.{Asked, part_read, TellsUnreadable}
-use Rattle.core_state.specs.Replies.{answers_files, reply_told}
+use Rattle.store_history.specs.Replies.{answers_files, reply_told}
 use Rattle.core_state.specs.Unchanged.{SameKept, is_uncalled}
 use Rattle.core_state.proofs.Commanding.{refused_as, refused_does, short_does}
 use Rattle.core_state.proofs.Unreadables.{tells_other, tells_failed, tells_read}

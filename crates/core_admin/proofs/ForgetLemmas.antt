@@ -30,7 +30,7 @@ use Rattle.core_state.specs.Changes.{Change, IsFirm, LeavesChange, MayLeave, aft
 use Rattle.core_state.specs.Commands.{ActDoes, ActLeaves, change_at}
 use Rattle.core_state.specs.Found.{kept_named}
 use Rattle.core_state.specs.Kept.{KeptAt, kept_at}
-use Rattle.core_state.specs.Replies.{answers_forget, reply_told}
+use Rattle.store_history.specs.Replies.{answers_forget, reply_told}
 use Rattle.store_stops.specs.Stops.{stop_of}
 use Rattle.core_state.specs.Unchanged.{SameKept}
 use Rattle.core_state.specs.declared.entering.Place.{Place}

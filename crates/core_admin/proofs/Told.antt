@@ -25,7 +25,7 @@ use Rattle.core_state.specs.Found.{is_behind, is_in}
 use Rattle.core_state.specs.Heads.{after_in, group_in, idle_group}
 use Rattle.core_state.specs.Holds.{Shows}
 use Rattle.core_state.specs.Kept.{KeptAt, kept_at}
-use Rattle.core_state.specs.Replies.{answers_prune, reply_told}
+use Rattle.store_history.specs.Replies.{answers_prune, reply_told}
 use Rattle.core_state.specs.Shown.{shown_file, shown_snapshot}
 use Rattle.core_state.proofs.HeadLemmas.{after_in_is, group_in_is, idle_group_is, idle_group_refuses, refuses_none, refuses_then, refuses_unless}
 use Rattle.core_admin.specs.Listings.{row_of, rows_behind, list_told, texts_in, group_told, prune_told, to_prune}

@@ -25,7 +25,7 @@ use Rattle.store_stops.specs.declared.stop.Stop.TheVariants as stops
 use Rattle.core_state.specs.Heads.{named_kept}
 use Rattle.core_state.specs.Kept.{KeptAt}
 use Rattle.core_state.specs.Listing.{listing_at}
-use Rattle.core_state.specs.Replies.{reply_told}
+use Rattle.store_history.specs.Replies.{reply_told}
 use Rattle.store_stops.specs.Stops.{Gives}
 use Rattle.core_state.specs.Unreadables.{Asked, as_listing, known}
 use Rattle.core_admin.specs.declared.file_list.ManifestFile.{ManifestFile}

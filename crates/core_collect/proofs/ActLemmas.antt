@@ -19,7 +19,7 @@ use Rattle.core_state.specs.declared.collector.Early.{Early}
 use Rattle.core_state.specs.declared.state.Core.{Core}
 use Rattle.core_state.specs.Answers.{HasCause, StartHasCause, StepHasCause, done, failed, halted, short, start_as_any, start_opens, step_as_any, step_ends, step_passes}
 use Rattle.core_state.specs.Collectors.{is_cut, is_on, refusal_of as early_refusal}
-use Rattle.core_state.specs.Replies.{may_answer}
+use Rattle.store_history.specs.Replies.{may_answer}
 use Rattle.core_state.specs.Unreadables.{Asked, TellsUnreadable, known, part_read}
 use Rattle.core_state.specs.Kept.{kept_at}
 use Rattle.core_collect.specs.Acts.{CollectUnreadable, asked_by, asked_of_collector, refusal_of}

@@ -42,7 +42,7 @@ use Rattle.core_state.specs.Entering.{held_by}
 use Rattle.core_state.specs.History.{History, StandsFor, event_of, then_event, world}
 use Rattle.core_state.specs.KeepsTouches.{KeepsTouches, swept_of, touches_of_history}
 use Rattle.core_state.specs.Numbers.{AreNumbered}
-use Rattle.core_state.specs.Replies.{refuses_start}
+use Rattle.store_history.specs.Replies.{refuses_start}
 use Rattle.core_state.specs.Settles.{IsEntered, Settles}
 use Rattle.core_state.specs.Stops.{told}
 use Rattle.snapshot_files.specs.Reads.{StopHasText}

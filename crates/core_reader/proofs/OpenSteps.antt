@@ -31,7 +31,7 @@ use Rattle.core_state.specs.Found.{kept_named}
 use Rattle.core_state.specs.Heads.{idle_key}
 use Rattle.core_state.specs.Holds.{IsSound, IsReader, IsOnDisk, Shows}
 use Rattle.core_state.specs.Kept.{KeptAt, kept_at}
-use Rattle.core_state.specs.Replies.{may_answer}
+use Rattle.store_history.specs.Replies.{may_answer}
 use Rattle.core_state.specs.Settles.{kind_by, reply_by}
 use Rattle.core_state.specs.Shown.{shown_snapshot}
 use Rattle.core_state.specs.Stops.{told}
@@ -58,6 +58,10 @@ module _ (text : List ℕ) (k : KeptAt) where
   open_is : to_open text k ≡ (idle_key text k >>= behind_key)
   unfolding to_open
   open_is = refl
+
+  pub open_damaged : (key : SnapshotKey) (x : Kept) (name : List ℕ) → idle_key text k ≡ Ok key → kept_named key k.catalogue ≡ Some x → x.unreadable ≡ Some name → to_open text k ≡ Err (Unreadable name)
+  unfolding to_open
+  open_damaged key x name head there damage = rw (head, there, damage) refl
 
   -- what has each refusal that may be
   pub open_refuses : (P : Refusal → Type 0) → ((state : SessionState) → P (WrongState state)) → P BadName → P NoSnapshot → ((name : List ℕ) → P (Unreadable name))
@@ -104,7 +108,7 @@ module _ (text : List ℕ) (k : KeptAt) where
         (λ at. other NoSnapshot (λ name is. cc) (asked_is ∙ ap damage_told at)) damaged r e e
       where
         other : (q : Refusal) → ((name : List ℕ) → Some (replies.Refused q) ≡ Some (replies.Refused (Unreadable name)) → ⊥) → asked_open text k ≡ None → Tells (Err (Refused q))
-        other q apart none = tells_other d disk (asked_open text k) 0 (Some (replies.Refused q)) apart none
+        other q apart unasked = tells_other d disk (asked_open text k) 0 (Some (replies.Refused q)) apart unasked
 
         damaged : (name : List ℕ) → to_open text k ≡ Err (Unreadable name) → Tells (Err (Refused (Unreadable name)))
         damaged name at = tells_read d disk (asked_open text k) (as_known name) (Err (Unreadable name)) (asked_is ∙ ap damage_told at) refl (λ h. refl)

@@ -32,7 +32,7 @@ use Rattle.store_stops.specs.declared.stop.Stop.TheVariants as stops
 use Rattle.core_state.specs.Heads.{idle_group}
 use Rattle.core_state.specs.Holds.{Shows}
 use Rattle.core_state.specs.Kept.{KeptAt, kept_at}
-use Rattle.core_state.specs.Replies.{may_answer, may_give, refuses_sync}
+use Rattle.store_history.specs.Replies.{may_answer, may_give, refuses_sync}
 use Rattle.core_state.proofs.HeadLemmas.{idle_group_is, idle_group_named, idle_group_refuses, refuses_then, refuses_unless}
 use Rattle.core_state.proofs.RemoteReads.{GivesFit}
 use Rattle.snapshot_files.specs.Reads.{StopHasText}

@@ -19,8 +19,9 @@ use Rattle.store_stops.specs.declared.stop.Stop.TheVariants as stops
 use Rattle.core_state.specs.Applies.{ActApplies, ActKeeps, CoreApplies}
 use Rattle.core_state.specs.Begins.{AdmittedHasText, FillsUp, IsAdmitted, Refuses, halted, short}
 use Rattle.core_state.specs.History.{History, StandsFor, world}
-use Rattle.core_state.specs.Remotes.{RemoteStays, SettlesRead, ShowsRemote, kind_by, reads_remote, reply_by}
-use Rattle.core_state.specs.Replies.{may_give}
+use Rattle.core_state.specs.Remotes.{SettlesRead, kind_by, reply_by}
+use Rattle.store_history.specs.RemoteDisk.{RemoteStays, ShowsRemote, reads_remote}
+use Rattle.store_history.specs.Replies.{may_give}
 use Rattle.core_state.specs.Kept.{kept_at}
 use Rattle.core_state.proofs.Applying.{refused_remote}
 use Rattle.core_state.proofs.RemoteLemmas.{stays_there}

@@ -29,8 +29,8 @@ use Rattle.store_stops.specs.declared.stop.Stop.{Stop}
 use Rattle.store_stops.specs.declared.stop.Stop.TheVariants as stops
 use Rattle.core_state.specs.Heads.{idle_group}
 use Rattle.core_state.specs.Kept.{KeptAt, kept_at}
-use Rattle.core_state.specs.Remotes.{faults_of}
-use Rattle.core_state.specs.Replies.{reply_told}
+use Rattle.store_history.specs.RemoteDisk.{faults_of}
+use Rattle.store_history.specs.Replies.{reply_told}
 
 -- ---- what refuses it
 

@@ -1,7 +1,8 @@
 -- The two records of a command, lifted once over the beginning and the entry of an act.
 use Rattle.std.proofs.Common.{◌≡◌, ◌<◌, ◌≤◌, ℕ, true, false, length, is_some, Option, Some, None, Result, Ok, Err, IfOk, IfSome, IsSome, IsTrue, IsErrOf, inl, refl, sym, ap, subst, ◌∙◌, arith}
 use Rattle.store_files.specs.Folder.{HasWholeChunks}
-use Rattle.core_state.specs.Chunks.{HoldsOnly, IsSafe}
+use Rattle.core_state.specs.Chunks.{IsSafe}
+use Rattle.store_history.specs.ChunkFiles.{HoldsOnly}
 use Rattle.disk_trait.specs.Disk.{Serves}
 use Rattle.disk_trait.specs.Files.{Files}
 use Rattle.disk_trait.specs.declared.disk.Disk.{Ghosts}
@@ -41,7 +42,7 @@ use Rattle.core_state.specs.Holds.{Holds}
 use Rattle.core_state.specs.Indexed.{row_at}
 use Rattle.core_state.specs.Kept.{kept_at}
 use Rattle.core_state.specs.Records.{IsTimely}
-use Rattle.core_state.specs.Replies.{may_answer}
+use Rattle.store_history.specs.Replies.{may_answer}
 use Rattle.core_state.specs.Settles.{Settles, fault_by, kind_by, reply_by, with_fault}
 use Rattle.core_state.specs.Stops.{told}
 use Rattle.core_state.specs.Upkeeps.{touches_kept}
@@ -289,6 +290,7 @@ module _ {D E C : Type 0} (d : Ghosts D) (clock : clocks.Ghosts C) where
         listed = ap (λ p. p.catalogue.listed) parts ∙ sym (ap (λ r. listed_by act r answer.place (kept_at old.parts lane)) is
             ∙ unlisted act refusal answer.place (kept_at old.parts lane));
         admin = λ _. (ap (λ p. p.sessions.items) parts, ap (λ p. p.locks) parts);
+        others = λ i _. ap (λ p. session_at p i) parts;
         ended = λ _. undone answer refusal is;
         rows = λ i _. ap (λ p. row_at p i) parts;
         halted = where_some _ _ (refused_same d clock.readings old new lane answer refuses);
@@ -410,6 +412,7 @@ module _ {D E C : Type 0} (d : Ghosts D) (clock : clocks.Ghosts C) where
             ∙ ap (λ n. listed_by act (Some (reply_by (told result))) n (kept_at old.parts at.lane)) (number ∙ sym (settles.place ∙ ap (λ j. length j.entries.items) rest.journal))
             ∙ ap (λ r. listed_by act r answer.place (kept_at old.parts at.lane)) (sym reply);
         admin = λ is. (ap (λ p. p.sessions.items) settles.parts ∙ (leaves.admin is).0 ∙ ap (λ p. p.sessions.items) before, ap (λ p. p.locks) settles.parts ∙ (leaves.admin is).1 ∙ ap (λ p. p.locks) before);
+        others = λ i other. ap (λ p. session_at p i) settles.parts ∙ leaves.others i other ∙ ap (λ p. session_at p i) before;
         ended = λ ends done. subst (λ p. HasEnded p at.lane) (sym settles.parts) (done_told _ result (leaves.ended ends) (if_plain answer.reply _ reply done));
         rows = λ i keeps. ap (λ p. row_at p i) settles.parts ∙ leaves.rows i (λ is. row_told act result does.plain (sym (ap (λ r. row_stays_by r act) reply) ∙ keeps is)) ∙ ap (λ p. row_at p i) before;
         halted = where_none _ _ ready.no_fault;

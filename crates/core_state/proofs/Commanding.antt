@@ -1,6 +1,6 @@
 -- What a command's exits need to prove its two records.
 use Rattle.std.proofs.Common.{◌≡◌, ◌<◌, ◌↔◌, ℕ, Bool, ◌&&◌, not, List, true, false, length, get_or, get_or-set_same, set, Option, Some, Result, Ok, Err, IfOk, IsErrOf, IsErrAnd, IsTrue, inl, inr, ⊎_elim, refl, sym, ap, subst, ◌∙◌, arith}
-use Rattle.std.proofs.lemmas.List.{get_or_default}
+use Rattle.std.proofs.lemmas.List.{get_or-set_other, get_or_default}
 use Rattle.std.proofs.lemmas.Bool.{and_parts}
 use Rattle.std.specs.FinMap.{get}
 use Rattle.disk_trait.specs.Files.{Files}
@@ -39,12 +39,12 @@ use Rattle.core_state.specs.Catalogue.{listed_by, listed_on}
 use Rattle.core_state.specs.Changes.{Change, IsFirm, LeavesChange, MayLeave, after, by_stop, change_of, change_on, stays, undone, installs, stores, drops, finishes, forgets}
 use Rattle.core_state.specs.Chunks.{Adds, IsSafe}
 use Rattle.core_state.specs.Closing.{HasClosed, HasEnded, closes, is_ended, is_reader, is_writer}
-use Rattle.core_state.specs.Commands.{ActDoes, ActLeaves, IsNoRefusal, LeavesRows, RowsStay, change_at, ends_session, calls_no_disk, is_still, leaves_writer, reads_only, row_stays}
+use Rattle.core_state.specs.Commands.{ActDoes, ActLeaves, IsNoRefusal, LeavesRows, OthersStay, RowsStay, change_at, ends_session, calls_no_disk, is_still, leaves_writer, reads_only, row_stays}
 use Rattle.core_state.specs.Kept.{KeptAt, kept_at}
 use Rattle.core_state.specs.PassedTests.{PassesFor, PassesItsTests}
 use Rattle.core_state.specs.Indexed.{FitsRows, row_in}
 use Rattle.core_state.specs.Holds.{Holds, IsOnDisk, Shows, Does, Acts}
-use Rattle.core_state.specs.Replies.{may_answer}
+use Rattle.store_history.specs.Replies.{may_answer}
 use Rattle.core_state.specs.Settles.{reply_by}
 use Rattle.core_state.specs.Shown.{shown_session, shown_reader, shown_writer}
 use Rattle.core_state.specs.States.{state_of}
@@ -71,6 +71,13 @@ pub writes_set : {D : Type 0} (old new : Parts D) (lane : ℕ) (left : Session) 
 writes_set old new lane left lt sets writes =
     let within : lane < length old.sessions.items = omega (arith, old.lanes, old.sessions.ok.0, lt) in
     ap (λ (xs : List Session). is_writer (get_or xs lane Idle)) sets ∙ ap is_writer (get_or-set_same old.sessions.items lane left Idle within) ∙ writes
+
+-- no other lane's session has changed
+pub others_same : {D : Type 0} (old new : Parts D) (lane : ℕ) → new.sessions.items ≡ old.sessions.items → OthersStay old new lane
+others_same old new lane same i other = ap (λ (xs : List Session). get_or xs i Idle) same
+
+pub others_set : {D : Type 0} (old new : Parts D) (lane : ℕ) (left : Session) → new.sessions.items ≡ set old.sessions.items lane left → OthersStay old new lane
+others_set old new lane left sets i other = ap (λ (xs : List Session). get_or xs i Idle) sets ∙ get_or-set_other old.sessions.items lane i left Idle other
 
 refusals_same : {A : Type 0} (a b : Refusal) → ◌≡◌ {A = Result A Refusal} (Err a) (Err b) → a ≡ b
 refusals_same a b e = cc
@@ -510,6 +517,7 @@ module _ {D : Type 0} (d : Ghosts D) where
     closed = closed_so old new at act result idly closed;
     ended = ends_none old new at act result idly;
     writes = still_writes old new at act result idly kept;
+    others = others_same old new at.lane kept.sessions;
     rows = rows;
   }
 
@@ -711,8 +719,8 @@ module _ {D : Type 0} (d : Ghosts D) where
   pub changed_leaves : (old new : Parts D) (at : Place) (act : Act) (reply : Reply) → new.disk ≡ old.disk → IsNoRefusal reply → change_at old at.lane act ≡ stays
       → new.catalogue.listed ≡ listed_by act (Some reply) at.number (kept_at old at.lane)
       → is_still act ≡ false → (ends_session act ≡ true → HasEnded new at.lane) → (leaves_writer act ≡ true → is_writer (session_at new at.lane) ≡ true) → LeavesRows old new at.lane act
-      → ActLeaves d old new at act (Ok reply)
-  changed_leaves old new at act reply same plain change listed other ended writes rows =
+      → OthersStay old new at.lane → ActLeaves d old new at act (Ok reply)
+  changed_leaves old new at act reply same plain change listed other ended writes rows others =
       let none = reads_none old.disk new.disk ⊥ same (λ f. f) in record {
         unchanged = done_unchanged old new reply plain;
         no_disk_call = λ _. same;
@@ -727,6 +735,7 @@ module _ {D : Type 0} (d : Ghosts D) where
         closed = λ closing. (ended (closes_ends act (session_at old at.lane) closing)).session;
         ended = ended;
         writes = writes;
+        others = others;
         rows = rows;
       }
 
@@ -753,8 +762,8 @@ module _ {D : Type 0} (d : Ghosts D) where
       → new.catalogue.listed ≡ listed_by act (Some reply) at.number (kept_at old at.lane)
       → (is_still act ≡ true → (new.sessions.items ≡ old.sessions.items) × (new.locks ≡ old.locks))
       → Adds d old new act (Ok reply) → (ends_session act ≡ true → HasEnded new at.lane) → (leaves_writer act ≡ true → is_writer (session_at new at.lane) ≡ true) → LeavesRows old new at.lane act
-      → ActLeaves d old new at act (Ok reply)
-  writes_leaves old new at act reply plain called content crash firm listed admin adds ended writes rows = record {
+      → OthersStay old new at.lane → ActLeaves d old new at act (Ok reply)
+  writes_leaves old new at act reply plain called content crash firm listed admin adds ended writes rows others = record {
     unchanged = done_unchanged old new reply plain;
     no_disk_call = λ no_disk_call. absurd (false_true (sym called ∙ no_disk_call));
     reads = λ only h. content h ∙ ap (λ change. after change (d.content old.disk)) (reads_stay act (kept_at old at.lane) only);
@@ -768,6 +777,7 @@ module _ {D : Type 0} (d : Ghosts D) where
     closed = λ closing. (ended (closes_ends act (session_at old at.lane) closing)).session;
     ended = ended;
     writes = writes;
+    others = others;
     rows = rows;
   }
 
@@ -828,6 +838,7 @@ module _ {D : Type 0} (d : Ghosts D) where
         closed = λ closing. absurd (going was closing);
         ended = λ _. tt;
         writes = λ _. tt;
+        others = others_same old new at.lane kept.sessions;
         rows = rows_kept old new at.lane true kept.indexes;
       }
       by_error disks.Failed was = record {
@@ -844,5 +855,6 @@ module _ {D : Type 0} (d : Ghosts D) where
         closed = λ closing. tt;
         ended = λ _. tt;
         writes = λ _. tt;
+        others = others_same old new at.lane kept.sessions;
         rows = rows_kept old new at.lane true kept.indexes;
       }

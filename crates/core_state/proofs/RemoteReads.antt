@@ -33,19 +33,20 @@ use Rattle.core_state.specs.Catalogue.{listed_by}
 use Rattle.core_state.specs.Changes.{IsFirm, after, by_reply, stays}
 use Rattle.core_state.specs.Closing.{closes, closes_by, is_closing}
 use Rattle.core_state.specs.Collectors.{collector_by, open_in, shown_collecting}
-use Rattle.core_state.specs.Commands.{change_at, ends_session, is_remotes, leaves_writer}
+use Rattle.core_state.specs.Commands.{change_at, ends_session, leaves_writer}
+use Rattle.store_history.specs.RemoteDisk.{is_remotes, RemoteStays, ShowsRemote, faults_of, reads_remote}
 use Rattle.core_state.specs.Kept.{KeptAt, kept_at}
 use Rattle.core_state.specs.PassedTests.{PassesItsTests}
 use Rattle.core_state.specs.Entering.{held_by}
 use Rattle.core_state.specs.History.{History, StandsFor, event_of, then_event, world}
 use Rattle.core_state.specs.Indexed.{row_at}
-use Rattle.core_state.specs.Remotes.{RemoteServes, RemoteStays, SettlesRead, ShowsRemote, faults_of, kind_by, reads_remote, reply_by}
-use Rattle.core_state.specs.Replies.{may_answer, may_give}
+use Rattle.core_state.specs.Remotes.{RemoteServes, SettlesRead, kind_by, reply_by}
+use Rattle.store_history.specs.Replies.{may_answer, may_give}
 use Rattle.core_state.specs.Unchanged.{Unchanged}
 use Rattle.core_state.specs.Upkeeps.{touches_kept}
 use Rattle.core_state.specs.Wanted.{session_at}
 use Rattle.core_state.proofs.Answered.{IsAsked, WorldMoves, begun_acted, refused_stands}
-use Rattle.core_state.proofs.Answering.{entered_answered, refused_answered, refused_told, where_none}
+use Rattle.core_state.proofs.Answering.{entered_answered, refused_answered, refused_told, same_honest, where_none}
 use Rattle.core_state.proofs.Applying.{IsNoEnd, class_told, closes_none, early_by, no_start_kind, refused_collector, refused_kept, refused_remote}
 use Rattle.core_state.proofs.Caused.{refused_caused}
 use Rattle.core_state.proofs.Collecting.{short_shown, step_shown}
@@ -221,6 +222,7 @@ module _ {D E C : Type 0} (d : Ghosts D) (e : Ghosts E) (clock : clocks.Ghosts C
         firm = λ _ _. subst (IsFirm d (old.parts).disk (new.parts).disk) (sym change) tt;
         listed = ap (λ p. p.catalogue.listed) parts ∙ sym (remote_lists answer.reply answer.place (kept_at old.parts k) act remotes);
         admin = λ _. (ap (λ p. p.sessions.items) parts, ap (λ p. p.locks) parts);
+        others = λ i _. ap (λ p. session_at p i) parts;
         ended = λ ends. absurd (remote_ends act remotes ends);
         rows = λ i _. ap (λ p. row_at p i) parts;
         halted = where_none _ _ ready.no_fault;
@@ -243,7 +245,7 @@ module _ {D E C : Type 0} (d : Ghosts D) (e : Ghosts E) (clock : clocks.Ghosts C
   answered : GivesFit act ended → IsAnswered d old new k answer
   answered fit =
       entered_answered d old acted new k m n (Some (reply_by ended)) answer settles (b.entries).entries (b.entries).calls (fit_text act ended fit)
-      (b.fault ∙ ready.no_fault ∙ sym (unfaulted ended)) (let x = ap (λ p. d.faults p.disk) b.parts in omega (arith, x)) (λ five. absurd ((kind_calm ended).1 five))
+      (b.fault ∙ ready.no_fault ∙ sym (unfaulted ended)) (let x = ap (λ p. d.faults p.disk) b.parts in omega (arith, x)) (same_honest d _ _ (ap (λ p. p.disk) b.parts)) (λ five. absurd ((kind_calm ended).1 five))
     where
       unfaulted : (r : Result Reply Stop) → Rattle.core_state.specs.Answers.fault_after (length (old.journal).entries.items) (kind_by r) old.fault ≡ None
       unfaulted (Ok reply) = ready.no_fault

@@ -16,14 +16,15 @@ use Rattle.core_state.specs.Catalogue.{Lists}
 use Rattle.core_state.specs.Changes.{IsFirm, LeavesChange, after, by_reply}
 use Rattle.core_state.specs.Closing.{HasEnded, is_closing, is_writer}
 use Rattle.core_state.specs.Collectors.{collector_by}
-use Rattle.core_state.specs.Commands.{IsNoRefusal, RowsStay, change_at, ends_session, is_collectors, calls_no_disk, is_step, is_still, leaves_writer, reads_only, row_stays_by}
+use Rattle.core_state.specs.Commands.{IsNoRefusal, OthersStay, RowsStay, change_at, ends_session, is_collectors, calls_no_disk, is_step, is_still, leaves_writer, reads_only, row_stays_by}
 use Rattle.core_state.specs.PassedTests.{PassedItsTestsAt}
 use Rattle.core_state.specs.History.{History, IsClear, StandsFor, then_event, event_of}
 use Rattle.core_state.specs.KeepsTouches.{KeepsTouches}
 use Rattle.core_state.specs.Passes.{StepLeaves}
 use Rattle.core_state.specs.Records.{IsTimely, Records}
 use Rattle.core_state.specs.Recovers.{Recovers, TellsMoments}
-use Rattle.core_state.specs.Remotes.{RemoteServes, ShowsRemote, reads_remote}
+use Rattle.core_state.specs.Remotes.{RemoteServes}
+use Rattle.store_history.specs.RemoteDisk.{ShowsRemote, reads_remote}
 use Rattle.core_state.specs.Reserved.{Keeps}
 use Rattle.core_state.specs.Unchanged.{Unchanged}
 use Rattle.core_state.specs.Upkeeps.{touches_kept}
@@ -105,6 +106,7 @@ pub record ActKeeps {D E C : Type 0} (d : Ghosts D) (old new : Core D E C) (lane
   pub rows : RowsStay old.parts new.parts lane (row_stays_by answer.reply act)
   -- after the disk failed no call of it is made
   pub halted : IfSome old.fault (λ _. (new.parts).disk ≡ (old.parts).disk)
+  pub others : OthersStay old.parts new.parts lane
   -- the lane has a writer, once it was begun and until it is ended
   pub writes : leaves_writer act ≡ true → IsDone answer → is_writer (session_at new.parts lane) ≡ true
   -- the remote is called only by an act that reads it

@@ -1,7 +1,11 @@
 -- Acts that end a session, and how many entries of the order a lane's end may still make.
 use Rattle.std.specs.Prelude.{◌≡◌, ℕ, Bool, true, false, Option, Some, None, Result, Ok, Err, slice_index_or}
+use Rattle.std.specs.List.{Contains}
 use Rattle.disk_trait.specs.declared.disk.DiskError.{DiskError}
 use Rattle.disk_trait.specs.declared.disk.DiskError.TheVariants.{NoMemory, Failed}
+use Rattle.store_types.specs.declared.names.GroupKey.{GroupKey}
+use Rattle.store_types.specs.declared.names.SnapshotKey.{SnapshotKey}
+use Rattle.lock_book.specs.Locks.{group_holder, sharers}
 use Rattle.wire_commands.specs.declared.reply.Reply.{Reply}
 use Rattle.store_history.specs.declared.act.Act.{Act}
 use Rattle.store_history.specs.Profile.{OnSessions, ends_writer, ends_reader, profile}
@@ -58,7 +62,9 @@ HasClosed parts lane (Ok reply) = slice_index_or parts.sessions.items lane Idle 
 HasClosed parts lane (Err NoMemory) = ⊥
 HasClosed parts lane (Err Failed) = Unit {0}
 
--- A lane whose session has ended: it has none, and nothing is kept of indexes for it.
+-- A lane whose session has ended: it has none, nothing is kept of indexes for it, and it holds no group and no snapshot.
 pub record HasEnded {D : Type 0} (parts : Parts D) (lane : ℕ) : Type 0 where
   pub session : session_at parts lane ≡ Idle
   pub row : row_at parts lane ≡ Unread
+  pub group : (group : GroupKey) → group_holder parts.locks group ≡ Some lane → ⊥
+  pub shared : (key : SnapshotKey) → Contains (sharers parts.locks key) lane → ⊥

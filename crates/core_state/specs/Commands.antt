@@ -13,7 +13,7 @@ use Rattle.wire_commands.specs.declared.command.Command.{Command}
 use Rattle.store_model.specs.Store.{Store}
 use Rattle.store_history.specs.declared.act.Act.{Act}
 use Rattle.store_history.specs.declared.act.Act.TheVariants.{Plain}
-use Rattle.store_history.specs.Acts.{class_of, family_of, is_collecting, is_managing, is_reaching, is_sweeping}
+use Rattle.store_history.specs.Acts.{class_of, family_of, is_collecting, is_managing, is_sweeping}
 use Rattle.store_history.specs.History.{World, act_outcome}
 use Rattle.store_history.specs.Profile.{are_ended, are_same, have_writer, is_called, is_changed, is_paged, is_same_row, profile}
 use Rattle.core_state.specs.declared.entering.Place.{Place}
@@ -29,7 +29,7 @@ use Rattle.core_state.specs.PassedTests.{PassesItsTests}
 use Rattle.core_state.specs.Holds.{Acts, Holds}
 use Rattle.core_state.specs.Indexed.{row_at}
 use Rattle.core_state.specs.Kept.{kept_at}
-use Rattle.core_state.specs.Replies.{may_answer}
+use Rattle.store_history.specs.Replies.{may_answer}
 use Rattle.core_state.specs.Settles.{reply_by}
 use Rattle.core_state.specs.Stops.{told}
 use Rattle.core_state.specs.Unchanged.{Unchanged}
@@ -75,10 +75,6 @@ is_step act = is_sweeping (class_of act)
 abbrev pub is_admins : Act → Bool
 is_admins act = is_managing (family_of act)
 
--- the acts that read the remote
-abbrev pub is_remotes : Act → Bool
-is_remotes act = is_reaching (family_of act)
-
 -- the acts of a collector
 abbrev pub is_collectors : Act → Bool
 is_collectors act = is_collecting (family_of act)
@@ -101,6 +97,10 @@ row_stays_by reply act = keeps_row act
 -- All other lanes keep what they kept; the lane too, where what it keeps stays.
 abbrev pub RowsStay : {D : Type 0} → Parts D → Parts D → ℕ → Bool → Type 0
 RowsStay old new lane stays = (i : ℕ) → (i ≡ lane → stays ≡ true) → row_at new i ≡ row_at old i
+
+-- no other lane's session has changed
+abbrev pub OthersStay : {D : Type 0} → Parts D → Parts D → ℕ → Type 0
+OthersStay old new lane = (i : ℕ) → (i ≡ lane → ⊥) → session_at new i ≡ session_at old i
 
 -- so it is after an act that was done
 abbrev pub LeavesRows : {D : Type 0} → Parts D → Parts D → ℕ → Act → Type 0
@@ -146,6 +146,7 @@ pub record ActLeaves {D : Type 0} (d : Ghosts D) (old new : Parts D) (at : Place
   pub closed : closes act (session_at old at.lane) ≡ true → HasClosed new at.lane (told result)
   pub ended : ends_session act ≡ true → IfOk result (λ _. HasEnded new at.lane)
   pub writes : leaves_writer act ≡ true → IfOk result (λ _. is_writer (session_at new at.lane) ≡ true)
+  pub others : OthersStay old new at.lane
   -- what the lanes keep of indexes
   pub rows : RowsStay old new at.lane (row_stays result act)
 

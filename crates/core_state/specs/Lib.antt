@@ -7,7 +7,6 @@ pub mod States
 pub mod Kept
 pub mod Decides
 pub mod Heads
-pub mod Replies
 pub mod MarkedPage
 pub mod Entries
 pub mod Collectors
@@ -27,12 +26,12 @@ pub mod Reserved
 pub mod Records
 pub mod Found
 pub mod ListedRows
-pub mod Foreign
 pub mod Catalogue
 pub mod Catalogued
 pub mod Changes
 pub mod Listing
 pub mod Unreadables
+pub mod Damages
 pub mod Calls
 pub mod Stops
 pub mod Remotes
@@ -40,6 +39,7 @@ pub mod Wanted
 pub mod PassedTests
 pub mod Commands
 pub mod FromState
+pub mod Tells
 pub mod Passes
 pub mod Applies
 pub mod Recovers

@@ -12,8 +12,7 @@ use Rattle.store_history.specs.History.{kind}
 use Rattle.store_history.specs.LaneRun.{Task, Position, heard, leaves_unheld, heard_as, position_after, text}
 use Rattle.store_history.specs.SoFar.{Leads}
 use Rattle.store_history.proofs.Unheld.{unheld, heard_unheld, follows_heard}
-use Rattle.lane.specs.Acting.{gave_all}
-use Rattle.lane.specs.AtOnce.{GaveAllButOne, GaveSo, position_by}
+use Rattle.lane.specs.AtOnce.{gave_all, GaveAllButOne, GaveSo, position_by}
 
 -- ---- where events lead to
 

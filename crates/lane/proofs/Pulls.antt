@@ -20,7 +20,7 @@ use Rattle.store_history.specs.SoFar.{goes_further, Follows, Leads}
 use Rattle.store_history.proofs.Growing.{leads_more, pulls_on_spent}
 use Rattle.store_history.proofs.Unheld.{flagged}
 use Rattle.store_history.proofs.Wanting.{wants_pulling}
-use Rattle.core_state.specs.Replies.{may_answer, may_give}
+use Rattle.store_history.specs.Replies.{may_answer, may_give}
 use Rattle.core_state.specs.History.{History}
 use Rattle.lane.specs.declared.acts.Told.{Told}
 use Rattle.lane.specs.Acting.{Did, IsRefused}

@@ -36,8 +36,8 @@ use Rattle.shared_store.specs.Comes.{with_events}
 use Rattle.lane.specs.declared.acts.Told.{Told}
 use Rattle.lane.specs.declared.input.Input.{Input}
 use Rattle.lane.specs.declared.ending.Last.{Last}
-use Rattle.lane.specs.Acting.{AnswersShort, Gives, IsEndedBy, went_on, gave_all, short_ending}
-use Rattle.lane.specs.AtOnce.{GaveSo}
+use Rattle.lane.specs.Acting.{AnswersShort, Gives, IsEndedBy, went_on, short_ending}
+use Rattle.lane.specs.AtOnce.{gave_all, GaveSo}
 use Rattle.lane.specs.Doing.{IsNext, Does}
 use Rattle.lane.specs.Fronts.{IsCommandAhead}
 use Rattle.lane.specs.Progress.{Start, position, HasServed, HasStopped, HasWords}
@@ -102,7 +102,7 @@ command_served before after start k left taken taken' tail tail' size size' give
 
 -- or it is the lane's last
 ends_so : (e : Ending) (p : Position) → p.task ≡ None → IsEndedBy p.is_spent (Some e) → EndsSo e p (next_at p)
-ends_so endings.NoMemory p off by = (second_true p.is_unheld p.is_spent by, ap stops off)
+ends_so endings.NoMemory p off by = (second_true p.is_unheld p.is_spent by, off)
 ends_so endings.SinkFault p off by = tt
 ends_so endings.Clean p off by = absurd by
 ends_so (endings.Broken place) p off by = absurd by
@@ -223,8 +223,8 @@ heard_short p a r off goes says want two =
     by_next end is g first shut = absurd g
 
 short_so : (e : Ending) (o : Option Ending) (q : Position) (is_last : Bool) → e ≡ short_ending o → IsEndedBy is_last o → q.is_unheld ≡ true → q.task ≡ None → EndsSo e q (next_at q)
-short_so e None q is_last is by short_is off = subst (λ x. EndsSo x q (next_at q)) (sym is) (first_true q.is_unheld q.is_spent short_is, ap stops off)
-short_so e (Some endings.NoMemory) q is_last is by short_is off = subst (λ x. EndsSo x q (next_at q)) (sym is) (first_true q.is_unheld q.is_spent short_is, ap stops off)
+short_so e None q is_last is by short_is off = subst (λ x. EndsSo x q (next_at q)) (sym is) (first_true q.is_unheld q.is_spent short_is, off)
+short_so e (Some endings.NoMemory) q is_last is by short_is off = subst (λ x. EndsSo x q (next_at q)) (sym is) (first_true q.is_unheld q.is_spent short_is, off)
 short_so e (Some endings.SinkFault) q is_last is by short_is off = subst (λ x. EndsSo x q (next_at q)) (sym is) tt
 short_so e (Some endings.Clean) q is_last is by short_is off = absurd by
 short_so e (Some (endings.Broken place)) q is_last is by short_is off = absurd by

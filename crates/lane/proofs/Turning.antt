@@ -24,7 +24,7 @@ use Rattle.core_state.specs.History.{History}
 use Rattle.shared_store.specs.Comes.{with_events}
 use Rattle.lane.specs.declared.input.Input.{Input}
 use Rattle.lane.specs.declared.ending.Last.{Last}
-use Rattle.lane.specs.Acting.{gave_all}
+use Rattle.lane.specs.AtOnce.{gave_all}
 use Rattle.lane.specs.Fronts.{next_in, IsLastAhead}
 use Rattle.lane.specs.Progress.{Start, position, HasServed, HasStopped, HasWords}
 use Rattle.lane.specs.Ran.{Took, ReadsOut}

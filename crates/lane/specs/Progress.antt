@@ -11,8 +11,7 @@ use Rattle.store_history.specs.Seats.{AreOf}
 use Rattle.store_history.specs.SoFar.{Leads}
 use Rattle.core_state.specs.History.{History}
 use Rattle.shared_store.specs.Comes.{with_events}
-use Rattle.lane.specs.Acting.{gave_all}
-use Rattle.lane.specs.AtOnce.{GaveSo, position_by}
+use Rattle.lane.specs.AtOnce.{gave_all, GaveSo, position_by}
 use Rattle.lane.specs.Ran.{Took, ReadsOut}
 
 -- what a lane began with: the history without its events, what its source had left, and what its sink had taken

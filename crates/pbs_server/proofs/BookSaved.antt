@@ -15,9 +15,8 @@ use Rattle.store_history.specs.declared.act.Event.{Event}
 use Rattle.store_history.specs.History.{entries, kind}
 use Rattle.store_history.specs.Saved.{book_name}
 use Rattle.core_state.specs.declared.state.Core.{Core}
-use Rattle.core_state.specs.Answers.{fault_after}
-use Rattle.core_state.specs.Foreign.{IsForeign}
-use Rattle.core_state.specs.Records.{fault_in}
+use Rattle.store_history.specs.Answered.{fault_after, fault_in}
+use Rattle.store_history.specs.Foreign.{IsForeign}
 use Rattle.core_state.specs.Saving.{HasSaved, KeepsRest, LeavesBook, SavesBook, text_of_book}
 use Rattle.lane.specs.Entries.{has_kind}
 use Rattle.pbs_server.specs.Saving.{EndsSaved, saving_of}

@@ -14,11 +14,11 @@ use Rattle.store_history.specs.History.{own}
 use Rattle.store_history.specs.LaneRun.{LaneRan, Runs, begin, next_at}
 use Rattle.generator.specs.Laws.{IsCommands}
 use Rattle.store_history.proofs.Unheld.{unheld}
-use Rattle.lane.specs.declared.port.LaneReport.{LaneReport}
-use Rattle.lane.specs.declared.port.Port.{Port}
+use Rattle.store_history.specs.declared.port.LaneReport.{LaneReport}
+use Rattle.store_history.specs.declared.port.Port.{Port}
 use Rattle.lane.specs.Causes.{IsCaused}
 use Rattle.lane.specs.Ran.{EndsRead, IsReadOut, Took}
-use Rattle.lane_threads.specs.Served.{EachRan, RanAs, Run}
+use Rattle.lane.specs.Served.{EachRan, RanAs, Run}
 use Rattle.run_check.specs.Ports.{faults_at}
 use Rattle.pbs_server.specs.Completeness.{HoldsCommands}
 use Rattle.pbs_server.specs.Generating.{all_as_memory, in_memory}

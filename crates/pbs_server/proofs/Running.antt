@@ -13,18 +13,18 @@ use Rattle.store_history.specs.declared.act.Event.{Event}
 use Rattle.store_history.specs.History.{Opening, entry, entries, kind, moment}
 use Rattle.store_history.specs.Woven.{AreLanes}
 use Rattle.core_state.specs.declared.state.Core.{Core}
-use Rattle.core_state.specs.Answers.{fault_after}
+use Rattle.store_history.specs.Answered.{fault_after, AreKept}
 use Rattle.core_state.specs.History.{History, began}
-use Rattle.core_state.specs.Records.{AreKept, Reaches, Records}
-use Rattle.core_state.specs.Remotes.{failed_reads, faults_of}
+use Rattle.core_state.specs.Records.{Reaches, Records}
+use Rattle.store_history.specs.RemoteDisk.{failed_reads, faults_of}
 use Rattle.core_opening.specs.Opening.{RecordsOpened}
 use Rattle.seat_history.specs.Lanes.{LastsAreWants}
 use Rattle.shared_store.specs.Comes.{IsFresh, with_events}
-use Rattle.lane.specs.declared.port.LaneReport.{LaneReport}
-use Rattle.lane.specs.declared.port.Port.{Port}
+use Rattle.store_history.specs.declared.port.LaneReport.{LaneReport}
+use Rattle.store_history.specs.declared.port.Port.{Port}
 use Rattle.lane.specs.Entries.{has_kind}
 use Rattle.lane.proofs.Caused.{rose_later}
-use Rattle.lane_threads.specs.Served.{RanTogether}
+use Rattle.lane.specs.Together.{RanTogether}
 use Rattle.pbs_server.specs.declared.status.Status.TheVariants as statuses
 use Rattle.pbs_server.specs.Causes.{IsOrder}
 use Rattle.pbs_server.specs.Statuses.{endings_of, some_tells}

@@ -34,18 +34,19 @@ use Rattle.core_state.specs.declared.kept.Listed.{Listed}
 use Rattle.core_state.specs.declared.state.Core.{Core}
 use Rattle.core_state.specs.History.{History, StandsFor, began, world}
 use Rattle.core_state.specs.KeepsTouches.{KeepsTouches, touches_of_history}
-use Rattle.core_state.specs.Chunks.{HoldsOnly}
-use Rattle.core_state.specs.Foreign.{IsForeign}
+use Rattle.store_history.specs.ChunkFiles.{HoldsOnly}
+use Rattle.store_history.specs.Foreign.{IsForeign}
 use Rattle.core_state.specs.Records.{Records, Reaches, Starts, opened_with}
-use Rattle.core_state.specs.Remotes.{ReadNoRemote}
+use Rattle.store_history.specs.RemoteDisk.{ReadNoRemote}
 use Rattle.core_state.specs.Recovers.{Recovers, TellsMoments}
-use Rattle.opening_files.specs.Leaving.{IsFileOf, IsLeaving, Cleans}
-use Rattle.core_opening.specs.Opening.{HasBook, TouchesOpened, RecoversOpened, StandsOpened, opening_of}
+use Rattle.snapshot_files.specs.Leaving.{IsFileOf, IsLeaving, Cleans}
+use Rattle.core_opening.specs.Opening.{HasBook, TouchesOpened, RecoversOpened, StandsOpened}
+use Rattle.store_history.specs.Opened.{opening_of}
 use Rattle.shared_store.specs.Comes.{with_events}
-use Rattle.lane.specs.declared.port.LaneReport.{LaneReport}
-use Rattle.lane.specs.declared.port.Port.{Port}
+use Rattle.store_history.specs.declared.port.LaneReport.{LaneReport}
+use Rattle.store_history.specs.declared.port.Port.{Port}
 use Rattle.lane.specs.Entries.{has_kind}
-use Rattle.lane_threads.specs.Served.{EachRan, RanAs, Run}
+use Rattle.lane.specs.Served.{EachRan, RanAs, Run}
 use Rattle.pbs_server.specs.Causes.{NoDiskFault}
 use Rattle.pbs_server.specs.Ended.{rows_of}
 use Rattle.pbs_server.specs.Headline.{HasTold, IsBeside, IsPlain, StopsLeave, inputs_of, told_by}

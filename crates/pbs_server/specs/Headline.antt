@@ -25,18 +25,19 @@ use Rattle.store_history.specs.Remote.{IsRemote}
 use Rattle.store_history.specs.Saved.{HoldsBook, saved_book}
 use Rattle.store_history.specs.Sweeping.{swept}
 use Rattle.store_history.specs.Woven.{AreLanes}
-use Rattle.core_state.specs.Chunks.{HoldsOnly}
-use Rattle.core_state.specs.Foreign.{IsForeign}
-use Rattle.core_state.specs.Records.{AreKept}
-use Rattle.core_state.specs.Remotes.{ReadNoRemote, RemoteStays, ShowsRemote, faults_of}
-use Rattle.opening_files.specs.Leaving.{MayClean, Cleans}
-use Rattle.opening_files.specs.Opened.{Opens}
+use Rattle.store_history.specs.ChunkFiles.{HoldsOnly}
+use Rattle.store_history.specs.Foreign.{IsForeign}
+use Rattle.store_history.specs.Answered.{AreKept}
+use Rattle.store_history.specs.RemoteDisk.{ReadNoRemote, RemoteStays, ShowsRemote, faults_of}
+use Rattle.snapshot_files.specs.Leaving.{MayClean, Cleans}
+use Rattle.snapshot_files.specs.Opened.{Opens}
 use Rattle.core_opening.specs.declared.opening.OpenFault.{OpenFault}
-use Rattle.core_opening.specs.Opening.{StopsOpening, opening_of}
-use Rattle.lane.specs.declared.port.LaneReport.{LaneReport}
-use Rattle.lane.specs.declared.port.Port.{Port}
+use Rattle.core_opening.specs.Stops.{StopsOpening}
+use Rattle.store_history.specs.Opened.{opening_of}
+use Rattle.store_history.specs.declared.port.LaneReport.{LaneReport}
+use Rattle.store_history.specs.declared.port.Port.{Port}
 use Rattle.lane.specs.Entries.{has_kind}
-use Rattle.lane_threads.specs.Served.{EachRan, RanAs, Run}
+use Rattle.lane.specs.Served.{EachRan, RanAs, Run}
 use Rattle.pbs_server.specs.declared.status.Status.{Status}
 use Rattle.pbs_server.specs.declared.served.Served.{Served}
 use Rattle.pbs_server.specs.declared.status.Status.TheVariants as statuses

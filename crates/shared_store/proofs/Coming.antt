@@ -15,9 +15,10 @@ use Rattle.store_history.specs.History.{entry, entries}
 use Rattle.turn_lock.specs.State.{SeatState, seat_after_pass}
 use Rattle.core_state.specs.declared.parts.Parts.{Parts}
 use Rattle.core_state.specs.declared.state.Core.{Core}
-use Rattle.core_state.specs.Answers.{IsAnswered, fault_after}
+use Rattle.core_state.specs.Answers.{IsAnswered}
+use Rattle.store_history.specs.Answered.{fault_after, fault_in}
 use Rattle.core_state.specs.History.{History, event_of}
-use Rattle.core_state.specs.Records.{Reaches, fault_in}
+use Rattle.core_state.specs.Records.{Reaches}
 use Rattle.core_state.proofs.Reaching.{reaches_first, reaches_more}
 use Rattle.shared_store.specs.Applied.{ActsOn, HasActed, HasApplied}
 use Rattle.shared_store.specs.Comes.{AreAnswered, ComesTo, IsFresh, SameCore, last_calls, with_events}

@@ -17,8 +17,8 @@ use Rattle.store_history.specs.Acts.{family_of}
 use Rattle.core_state.specs.declared.state.Core.{Core}
 use Rattle.core_state.specs.Kept.{KeptAt, kept_at}
 use Rattle.core_state.specs.Answers.{HasCause, done, short, failed, halted, EndHasCause, ended, end_failed, StartHasCause, start_opens, start_as_any, StepHasCause, step_passes, step_ends, step_as_any, IsCaused}
-use Rattle.core_state.specs.Commands.{is_remotes}
-use Rattle.core_state.specs.Replies.{may_answer, may_end}
+use Rattle.store_history.specs.RemoteDisk.{is_remotes}
+use Rattle.store_history.specs.Replies.{may_answer, may_end}
 use Rattle.core_state.specs.Unreadables.{TellsUnreadable}
 use Rattle.core_state.proofs.Unreadables.{tells_other as none_asked}
 use Rattle.core_reader.specs.Damages.{CoreDamaged, damage_by}

@@ -18,7 +18,7 @@ use Rattle.core_state.specs.declared.entering.Admitted.TheVariants.{Answered}
 use Rattle.core_state.specs.Applies.{ActApplies, ActKeeps}
 use Rattle.core_state.specs.Begins.{AdmittedHasText, IsNotShort, IsShort, Refuses, short}
 use Rattle.core_state.specs.Closing.{closes, is_closing}
-use Rattle.core_state.specs.Commands.{is_remotes}
+use Rattle.store_history.specs.RemoteDisk.{is_remotes}
 use Rattle.core_state.specs.Kept.{KeptAt, kept_at}
 use Rattle.core_state.specs.Stops.{ended_by}
 use Rattle.core_state.specs.Unreadables.{TellsUnreadable}

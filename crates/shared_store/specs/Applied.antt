@@ -10,9 +10,8 @@ use Rattle.store_history.specs.declared.act.Answer.{Answer}
 use Rattle.store_history.specs.declared.act.Event.{Event}
 use Rattle.core_state.specs.declared.state.Core.{Core}
 use Rattle.core_state.specs.Applies.{ActApplies, ActKeeps, CoreApplies}
-use Rattle.core_state.specs.Commands.{is_remotes}
+use Rattle.store_history.specs.RemoteDisk.{is_remotes, reads_remote}
 use Rattle.core_state.specs.History.{event_of}
-use Rattle.core_state.specs.Remotes.{reads_remote}
 use Rattle.core_state.specs.Stops.{ended_by}
 use Rattle.core_state.specs.Unreadables.{CoreUnreadable}
 use Rattle.core_reader.specs.Damages.{CoreDamaged}

@@ -14,7 +14,8 @@ use Rattle.listing_views.specs.Rows.{rows_behind}
 use Rattle.store_types.specs.declared.names.SnapshotKey.{SnapshotKey}
 use Rattle.core_admin.specs.Listings.{rows_behind as listed_behind}
 use Rattle.shared_store.specs.Views.{AreQuiet, list_row, rows_of}
-use Rattle.core_state.specs.Records.{AreKept, Reaches, Records}
+use Rattle.core_state.specs.Records.{Reaches, Records}
+use Rattle.store_history.specs.Answered.{AreKept}
 
 -- the seat is of this turn, and does not have it
 abbrev pub CanAct : TableId → SeatState Event → Type 0

@@ -6,7 +6,7 @@ use Rattle.store_history.specs.declared.act.Family.TheVariants.{Reads, Writes, M
 use Rattle.store_history.specs.Acts.{class_of, family_of, is_reaching}
 use Rattle.store_history.proofs.Families.{by_end, by_want}
 use Rattle.core_state.specs.Applies.{ActApplies, ActKeeps}
-use Rattle.core_state.specs.Commands.{is_remotes}
+use Rattle.store_history.specs.RemoteDisk.{is_remotes}
 use Rattle.core_state.specs.Stops.{ended_by}
 use Rattle.core_state.specs.Unreadables.{TellsUnreadable}
 use Rattle.core_state.specs.Kept.{kept_at}

@@ -4,7 +4,7 @@ use Rattle.wire_commands.specs.declared.reply.Reply.TheVariants.{Keys, Refused}
 use Rattle.store_history.specs.declared.act.Act.TheVariants.{Plain}
 use Rattle.core_state.specs.Heads.{group_in}
 use Rattle.core_state.specs.Kept.{kept_at}
-use Rattle.core_state.specs.Replies.{answers_group}
+use Rattle.store_history.specs.Replies.{answers_group}
 use Rattle.core_state.proofs.Commanding.{read_does, reads_none, same_kept}
 use Rattle.core_state.proofs.Decided.{decided_does, decided_told}
 use Rattle.core_state.proofs.HeadLemmas.{group_in_refuses}

@@ -4,7 +4,7 @@ use Rattle.wire_commands.specs.declared.reply.Reply.TheVariants.{Listing, Refuse
 use Rattle.store_history.specs.declared.act.Act.TheVariants.{Plain}
 use Rattle.core_state.specs.Heads.{after_in}
 use Rattle.core_state.specs.Kept.{kept_at}
-use Rattle.core_state.specs.Replies.{answers_list}
+use Rattle.store_history.specs.Replies.{answers_list}
 use Rattle.core_state.proofs.Commanding.{read_does, reads_none, same_kept}
 use Rattle.core_state.proofs.Decided.{decided_does, decided_leaves, decided_told}
 use Rattle.core_state.proofs.HeadLemmas.{after_in_refuses}

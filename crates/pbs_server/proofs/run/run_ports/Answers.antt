@@ -1,9 +1,9 @@
 use Rattle.std.proofs.Common.{◌≡◌, ◌≤◌, ◌++◌, [], None, false, length, refl, ap, sym, subst, ◌∙◌, arith}
 use Rattle.core_state.specs.History.{began}
-use Rattle.core_state.specs.Remotes.{RemoteStays, faults_of}
+use Rattle.store_history.specs.RemoteDisk.{RemoteStays, faults_of}
 use Rattle.lane.specs.Entries.{has_kind}
-use Rattle.lane_threads.specs.Served.{RanAs}
-use Rattle.lane_threads.proofs.Halves.{each_counts}
+use Rattle.lane.specs.Served.{RanAs}
+use Rattle.lane.proofs.Halves.{each_counts}
 use Rattle.pbs_server.specs.Ended.{NoneServed, served_of}
 use Rattle.pbs_server.specs.Statuses.{endings_of, first_of, run_facts}
 use Rattle.pbs_server.proofs.Causes.{caused, save_told}
