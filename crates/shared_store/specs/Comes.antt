@@ -1,7 +1,7 @@
 -- What a core behind the turn stands for, on any disk.
 use Rattle.disk_trait.specs.declared.disk.Disk.{Ghosts}
 use Rattle.disk_trait.specs.Disk.{Rose}
-use Rattle.std.specs.Prelude.{ℕ, ◌≡◌, ◌≤◌, ◌<◌, ◌^◌, false, List, [], ◌∷◌, ◌++◌, length, map, Option, None, Some, IsSome}
+use Rattle.std.specs.Prelude.{ℕ, ◌≡◌, ◌≤◌, ◌<◌, ◌↔◌, ◌^◌, false, List, [], ◌∷◌, ◌++◌, length, map, Option, None, Some, IsSome}
 use Rattle.port_traits.specs.declared.clock.Clock as clocks
 use Rattle.turn_lock.specs.State.{SeatState, TableId}
 use Rattle.store_history.specs.declared.act.Event.{Event}
@@ -41,6 +41,8 @@ pub record ComesTo {D E C : Type 0} (d : Ghosts D) (e : Ghosts E) (clock : clock
   pub short : length events < 2 ^ 63
   pub entries_are : (core.journal).entries.items ≡ entries events
   pub reaches : (h : History) → Records clock.readings first h → h.events ≡ [] → Reaches d e clock.readings first h core (with_events h events)
+  -- an honest disk is honest still
+  pub kept : d.honest (first.parts).disk ↔ d.honest (core.parts).disk
   pub count : d.faults (first.parts).disk ≤ d.faults (core.parts).disk
   pub fault : IsSome core.fault → Rose (d.faults (first.parts).disk) (d.faults (core.parts).disk)
   pub at_rest : d.calls (core.parts).disk ≡ last_calls (d.calls (first.parts).disk) events
