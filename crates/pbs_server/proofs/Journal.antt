@@ -92,6 +92,9 @@ module _ {D E : Type 0} (d : Ghosts D) (e : Ghosts E) (disk : D) (remote : Optio
           order = h.order;
           save = h.save;
           faults = h.faults;
+          rests = h.rests;
+          kept = h.kept;
+          saved = h.saved;
           not_opened = h.not_opened;
         }
 

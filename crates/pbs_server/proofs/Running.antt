@@ -1,7 +1,7 @@
 -- Sessions on a core that came of an opened one: the history that it came to, and what was entered.
 use Rattle.disk_trait.specs.declared.disk.Disk.{Ghosts}
 use Rattle.disk_trait.specs.Disk.{Rose}
-use Rattle.std.proofs.Common.{◌≡◌, ◌≤◌, ◌<◌, ◌+◌, ℕ, true, List, [], ◌∷◌, length, Option, None, IsSome, refl, sym, ap, subst, ◌∙◌, arith}
+use Rattle.std.proofs.Common.{◌≡◌, ◌≤◌, ◌<◌, ◌+◌, ℕ, true, List, [], ◌∷◌, length, Option, None, IsSome, refl, sym, ap, subst, ◌∙◌, arith, ◌↔◌}
 use Rattle.std.specs.List.{All}
 use Rattle.std.proofs.lemmas.List.{length-map}
 use Rattle.std.proofs.lemmas.List.Elements.{All-nil, All-cons}
@@ -9,6 +9,7 @@ use Rattle.port_traits.specs.declared.clock.Clock as clocks
 use Rattle.port_traits.specs.declared.source.Source as sources
 use Rattle.port_traits.specs.declared.sink.Sink as sinks
 use Rattle.store_types.specs.declared.order.Entry.{Entry}
+use Rattle.store_history.specs.CrashPoints.{last_calls}
 use Rattle.store_history.specs.declared.act.Event.{Event}
 use Rattle.store_history.specs.History.{Opening, entry, entries, kind, moment}
 use Rattle.store_history.specs.Woven.{AreLanes}
@@ -68,6 +69,12 @@ module _ {D E C S K : Type 0} (d : Ghosts D) (e : Ghosts E) (clock : clocks.Ghos
 
   no_entries : (first.journal).entries.items ≡ []
   no_entries = begun.entries ∙ ap entries none
+
+  kept : d.honest (first.parts).disk ↔ d.honest (core.parts).disk
+  kept = subst (λ (c : Core D E C). d.honest (c.parts).disk ↔ d.honest (core.parts).disk) (x.comes).is (x.comes).kept
+
+  rests : d.calls (core.parts).disk ≡ last_calls (d.calls (first.parts).disk) x.events
+  rests = (x.comes).at_rest ∙ ap (λ (c : Core D E C). last_calls (d.calls (c.parts).disk) x.events) (x.comes).is
 
   -- the disk's count of faults never falls, and an entry of kind 5 comes only where it rose
   pub count : d.faults (first.parts).disk ≤ d.faults (core.parts).disk

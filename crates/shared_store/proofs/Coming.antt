@@ -1,7 +1,7 @@
 -- A core comes to one event after another.
 use Rattle.disk_trait.specs.declared.disk.Disk.{Ghosts}
 use Rattle.disk_trait.specs.Disk.{Rose}
-use Rattle.std.proofs.Common.{◌≡◌, ◌≤◌, ◌<◌, ◌↔◌, ◌^◌, ◌⊎◌, inl, inr, ℕ, Bool, true, false, ◌==◌, List, [], ◌∷◌, ◌++◌, length, if◌then◌else◌, Option, Some, None, IsSome, refl, sym, ap, subst, ◌∙◌, arith}
+use Rattle.std.proofs.Common.{◌≡◌, ◌≤◌, ◌<◌, ◌^◌, ◌↔◌, ◌⊎◌, inl, inr, ℕ, Bool, true, false, ◌==◌, List, [], ◌∷◌, ◌++◌, length, if◌then◌else◌, Option, Some, None, IsSome, refl, sym, ap, subst, ◌∙◌, arith}
 use Rattle.std.proofs.lemmas.Bool.{eqb-true}
 use Rattle.std.proofs.lemmas.List.{length-append, length-map, map-append}
 use mathlib.Core.List.{IsPrefix}
@@ -11,6 +11,7 @@ use Rattle.store_model.specs.Weave.{first_fault}
 use Rattle.store_history.specs.declared.act.Act.{Act}
 use Rattle.store_history.specs.declared.act.Answer.{Answer}
 use Rattle.store_history.specs.declared.act.Event.{Event}
+use Rattle.store_history.specs.CrashPoints.{last_calls}
 use Rattle.store_history.specs.History.{entry, entries}
 use Rattle.turn_lock.specs.State.{SeatState, seat_after_pass}
 use Rattle.core_state.specs.declared.parts.Parts.{Parts}
@@ -21,7 +22,7 @@ use Rattle.core_state.specs.History.{History, event_of}
 use Rattle.core_state.specs.Records.{Reaches}
 use Rattle.core_state.proofs.Reaching.{reaches_first, reaches_more}
 use Rattle.shared_store.specs.Applied.{ActsOn, HasActed, HasApplied}
-use Rattle.shared_store.specs.Comes.{AreAnswered, ComesTo, IsFresh, SameCore, last_calls, with_events}
+use Rattle.shared_store.specs.Comes.{AreAnswered, ComesTo, IsFresh, SameCore, with_events}
 use Rattle.shared_store.proofs.Reserving.{reserved_reaches}
 
 no_events : (h : History) → h.events ≡ [] → with_events h [] ≡ h
@@ -118,7 +119,7 @@ comes_act d e clock is_first old new es lane act answer lt below x c =
       short = let n = ap length c.entries_are in omega (arith, n, below, length-map es entry, length-append es (v ∷ []));
       entries_are = is.entries ∙ ap (λ xs. xs ++ answer.entry ∷ []) c.entries_are ∙ sym (entries_more es v);
       reaches = λ h r none. reaches_more d e clock c.first h old new lane act answer lt x.applies x.alone x.keeps (with_events h es) (c.reaches h r none);
-      kept = (λ h. is.kept.0 (c.kept.0 h), λ h. c.kept.1 (is.kept.1 h));
+      kept = (λ h. (is.kept).0 ((c.kept).0 h), λ h. (c.kept).1 ((is.kept).1 h));
       count = let was = c.count in let on = is.count in omega (arith, was, on);
       fault = rises d old new lane answer (d.faults (c.first.parts).disk) is c.count c.fault;
       at_rest = sym (calls_last (d.calls (c.first.parts).disk) es v);

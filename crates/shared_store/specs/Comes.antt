@@ -1,10 +1,11 @@
 -- What a core behind the turn stands for, on any disk.
 use Rattle.disk_trait.specs.declared.disk.Disk.{Ghosts}
 use Rattle.disk_trait.specs.Disk.{Rose}
-use Rattle.std.specs.Prelude.{ℕ, ◌≡◌, ◌≤◌, ◌<◌, ◌↔◌, ◌^◌, false, List, [], ◌∷◌, ◌++◌, length, map, Option, None, Some, IsSome}
+use Rattle.std.specs.Prelude.{ℕ, ◌≡◌, ◌≤◌, ◌<◌, ◌^◌, ◌↔◌, false, List, [], ◌∷◌, ◌++◌, length, map, Option, None, Some, IsSome}
 use Rattle.port_traits.specs.declared.clock.Clock as clocks
 use Rattle.turn_lock.specs.State.{SeatState, TableId}
 use Rattle.store_history.specs.declared.act.Event.{Event}
+use Rattle.store_history.specs.CrashPoints.{last_calls}
 use Rattle.store_history.specs.History.{entries}
 use Rattle.core_state.specs.declared.state.Core.{Core}
 use Rattle.core_state.specs.Entering.{SameEntries}
@@ -24,14 +25,9 @@ CanAct turn seat = (seat.turn ≡ turn) × (seat.holding ≡ false)
 abbrev pub with_events : History → List Event → History
 with_events h events = record h { events = events }
 
--- the disk's count of calls as the last of these events was answered, or where there is none this one
-abbrev pub last_calls : ℕ → List Event → ℕ
-last_calls calls [] = calls
-last_calls calls (v ∷ vs) = last_calls v.calls vs
-
 -- From a first core, which recorded a history without events, the core came to these events. Whatever history without events the first core
 -- recorded, the core reaches that one with these events: it records it, and stands for it where the first core stood for its own. The
--- disk has failed only where its count of faults rose, and was called by these events alone.
+-- disk has failed only where its count of faults rose, is honest where it was, and was called by these events alone.
 pub record ComesTo {D E C : Type 0} (d : Ghosts D) (e : Ghosts E) (clock : clocks.Ghosts C) (is_first : Core D E C → Type 0) (core : Core D E C) (events : List Event) : Type 0 where
   pub first : Core D E C
   pub is : is_first first
@@ -41,7 +37,6 @@ pub record ComesTo {D E C : Type 0} (d : Ghosts D) (e : Ghosts E) (clock : clock
   pub short : length events < 2 ^ 63
   pub entries_are : (core.journal).entries.items ≡ entries events
   pub reaches : (h : History) → Records clock.readings first h → h.events ≡ [] → Reaches d e clock.readings first h core (with_events h events)
-  -- an honest disk is honest still
   pub kept : d.honest (first.parts).disk ↔ d.honest (core.parts).disk
   pub count : d.faults (first.parts).disk ≤ d.faults (core.parts).disk
   pub fault : IsSome core.fault → Rose (d.faults (first.parts).disk) (d.faults (core.parts).disk)
