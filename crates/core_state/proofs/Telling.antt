@@ -131,32 +131,48 @@ module _ {D E C : Type 0} (words : Words D) (d : Ghosts D) (readings : C → Opt
           let kind : (answer.entry).kind ≡ FAULT_KIND = ap (λ x. x.kind) (is.entered).entry in
           damages_stopped d (old.parts).disk _ _ _ answer.reply (λ digest f e. halted_undamaged is.first digest f (sym (is.entered).reply_is ∙ e)) (λ k. absurd (omega (arith, k, kind)))
 
--- ---- an act that asks for no file, and needs no chunk
+-- ---- an act that asks for no file, or needs no chunk
 
-module _ {D : Type 0} (d : Ghosts D) (old new : Parts D) (at : Place) (act : Act) (answers : Ghosts D → D → KeptAt → Reply → Type 0) where
-  -- none of its replies names one
-  pub plain_tells : (result : Result Reply Stop) → ((name : List ℕ) → may_answer act (replies.Refused (refusals.Unreadable name)) ≡ false)
-      → ((digest : Digest32) (found : ChunkFault) → may_answer act (replies.Refused (refusals.Damaged digest found)) ≡ false)
-      → IfOk (told result) (λ reply. IsTrue (may_answer act reply)) → IfOk (told result) (answers d old.disk (kept_at old at.lane)) → ActTells (plain_words answers) d old new at result
-  plain_tells result unread undamaged may so = record {
-    answers = so;
-    unreadable = by_outcome (told result) may;
-    damaged = undamaged_by (told result) may;
-    calls = λ honest. tt;
-    notes = tt;
-  }
+module _ {D : Type 0} (d : Ghosts D) (disk : D) (act : Act) (result : Result Reply Stop) (may : IfOk (told result) (λ reply. IsTrue (may_answer act reply))) where
+  same_reply : (r : Reply) (refusal : Refusal) → Some r ≡ Some (replies.Refused refusal) → r ≡ replies.Refused refusal
+  same_reply r refusal e = cc
+
+  never : (r : Reply) (refusal : Refusal) → IsTrue (may_answer act r) → may_answer act (replies.Refused refusal) ≡ false → Some r ≡ Some (replies.Refused refusal) → ⊥
+  never r refusal may none e = false_true (sym none ∙ ap (may_answer act) (sym (same_reply r refusal e)) ∙ may)
+
+  -- none of its replies names a file
+  pub asks_none : ((name : List ℕ) → may_answer act (replies.Refused (refusals.Unreadable name)) ≡ false)
+      → TellsUnreadable d disk None (kind_by (told result)) (Some (reply_by (told result)))
+  asks_none unread = by_outcome (told result) may
     where
-      same : (r : Reply) (refusal : Refusal) → Some r ≡ Some (replies.Refused refusal) → r ≡ replies.Refused refusal
-      same r refusal e = cc
+      by_outcome : (outcome : Result Reply DiskError) → IfOk outcome (λ reply. IsTrue (may_answer act reply)) → TellsUnreadable d disk None (kind_by outcome) (Some (reply_by outcome))
+      by_outcome (Ok reply) may = tells_other d disk None 0 (Some reply) (λ name. never reply (refusals.Unreadable name) may (unread name)) refl
+      by_outcome (Err e) may = tells_failed d disk None e
 
-      never : (r : Reply) (refusal : Refusal) → IsTrue (may_answer act r) → may_answer act (replies.Refused refusal) ≡ false → Some r ≡ Some (replies.Refused refusal) → ⊥
-      never r refusal may none e = false_true (sym none ∙ ap (may_answer act) (sym (same r refusal e)) ∙ may)
+  -- none names a chunk
+  pub needs_none : (may_name : Digest32 → Type 0) → ((digest : Digest32) (found : ChunkFault) → may_answer act (replies.Refused (refusals.Damaged digest found)) ≡ false)
+      → TellsDamaged d disk may_name (λ files. None) (kind_by (told result)) (Some (reply_by (told result)))
+  needs_none may_name undamaged = by_outcome (told result) may
+    where
+      by_outcome : (outcome : Result Reply DiskError) → IfOk outcome (λ reply. IsTrue (may_answer act reply))
+          → TellsDamaged d disk may_name (λ files. None) (kind_by outcome) (Some (reply_by outcome))
+      by_outcome (Ok reply) may = damages_none d disk may_name (λ files. None) 0 (Some reply) (λ digest found. never reply (refusals.Damaged digest found) may (undamaged digest found)) (λ honest. refl)
+      by_outcome (Err e) may = damages_failed d disk may_name (λ files. None) e
 
-      by_outcome : (outcome : Result Reply DiskError) → IfOk outcome (λ reply. IsTrue (may_answer act reply)) → TellsUnreadable d old.disk None (kind_by outcome) (Some (reply_by outcome))
-      by_outcome (Ok reply) may = tells_other d old.disk None 0 (Some reply) (λ name. never reply (refusals.Unreadable name) may (unread name)) refl
-      by_outcome (Err e) may = tells_failed d old.disk None e
+-- neither
+pub plain_tells : {D : Type 0} (d : Ghosts D) (old new : Parts D) (at : Place) (act : Act) (answers : Ghosts D → D → KeptAt → Reply → Type 0) (result : Result Reply Stop)
+    → ((name : List ℕ) → may_answer act (replies.Refused (refusals.Unreadable name)) ≡ false)
+    → ((digest : Digest32) (found : ChunkFault) → may_answer act (replies.Refused (refusals.Damaged digest found)) ≡ false)
+    → IfOk (told result) (λ reply. IsTrue (may_answer act reply)) → IfOk (told result) (answers d old.disk (kept_at old at.lane)) → ActTells (plain_words answers) d old new at result
+plain_tells d old new at act answers result unread undamaged may so = record {
+  answers = so;
+  unreadable = asks_none d old.disk act result may unread;
+  damaged = needs_none d old.disk act result may (λ digest. ⊥) undamaged;
+  calls = λ honest. tt;
+  notes = tt;
+}
 
-      undamaged_by : (outcome : Result Reply DiskError) → IfOk outcome (λ reply. IsTrue (may_answer act reply))
-          → TellsDamaged d old.disk (λ digest. ⊥) (λ files. None) (kind_by outcome) (Some (reply_by outcome))
-      undamaged_by (Ok reply) may = damages_none d old.disk (λ digest. ⊥) (λ files. None) 0 (Some reply) (λ digest found. never reply (refusals.Damaged digest found) may (undamaged digest found)) (λ honest. refl)
-      undamaged_by (Err e) may = damages_failed d old.disk (λ digest. ⊥) (λ files. None) e
+-- what is told of an honest disk is told of each reply
+pub each_honest : (honest : Type 0) (P : Reply → Type 0) (outcome : Result Reply DiskError) → (honest → IfOk outcome P) → IfOk outcome (λ reply. honest → P reply)
+each_honest honest P (Ok reply) so = so
+each_honest honest P (Err e) so = tt
