@@ -37,7 +37,7 @@ use Rattle.core_state.specs.declared.kept.Session.{Session}
 use Rattle.core_state.specs.Found.{path_in}
 use Rattle.core_state.specs.Holds.{IsReader, IsOnDisk, Holds, Shows}
 use Rattle.core_state.specs.Shown.{files_named, shown_reader, shown_session, shown_snapshot}
-use Rattle.core_state.specs.Replies.{refuses_download}
+use Rattle.store_history.specs.Replies.{refuses_download}
 use Rattle.store_stops.specs.Stops.{Gives, IfRefused}
 use Rattle.core_state.specs.Unreadables.{Asked, from_offset}
 use Rattle.core_state.specs.Wanted.{reader_in, session_at}

@@ -31,7 +31,7 @@ use Rattle.core_state.specs.Found.{kept_named}
 use Rattle.core_state.specs.Heads.{idle_key}
 use Rattle.core_state.specs.Holds.{IsSound, IsReader, IsOnDisk, Shows}
 use Rattle.core_state.specs.Kept.{KeptAt, kept_at}
-use Rattle.core_state.specs.Replies.{may_answer}
+use Rattle.store_history.specs.Replies.{may_answer}
 use Rattle.core_state.specs.Settles.{kind_by, reply_by}
 use Rattle.core_state.specs.Shown.{shown_snapshot}
 use Rattle.core_state.specs.Stops.{told}

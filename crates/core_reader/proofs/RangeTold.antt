@@ -24,7 +24,7 @@ use Rattle.core_state.specs.declared.parts.Parts.{Parts}
 use Rattle.core_state.specs.Holds.{Holds}
 use Rattle.core_state.specs.Indexed.{row_at}
 use Rattle.core_state.specs.Wanted.{session_at}
-use Rattle.core_state.specs.Replies.{refuses_range, reply_told}
+use Rattle.store_history.specs.Replies.{refuses_range, reply_told}
 use Rattle.core_state.specs.declared.entering.Place.{Place}
 use Rattle.wire_commands.specs.HasText.{ReplyHasText}
 use Rattle.restore_reader.specs.Answers.{RefusesRange as PlanRefuses}

@@ -54,7 +54,7 @@ use Rattle.core_state.specs.Found.{path_in}
 use Rattle.core_state.specs.Holds.{Holds, Shows}
 use Rattle.core_state.specs.Indexed.{AreOpened, FitsRow, IsOpened, IsPageOf, open_of, opened_of, page_of, row_at}
 use Rattle.core_state.specs.Shown.{files_named}
-use Rattle.core_state.specs.Replies.{refuses_entry}
+use Rattle.store_history.specs.Replies.{refuses_entry}
 use Rattle.store_stops.specs.Stops.{Gives, IfRefused}
 use Rattle.core_state.specs.Unreadables.{Asked, TellsUnreadable, part_read}
 use Rattle.core_state.specs.Wanted.{reader_in, session_at}

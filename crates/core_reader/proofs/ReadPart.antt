@@ -27,7 +27,7 @@ use Rattle.core_state.specs.declared.kept.Session.{Session}
 use Rattle.core_state.specs.declared.parts.Parts.{Parts}
 use Rattle.core_state.specs.Found.{path_in}
 use Rattle.core_state.specs.Holds.{Holds, Shows}
-use Rattle.core_state.specs.Replies.{answers_part, refuses_part}
+use Rattle.store_history.specs.Replies.{answers_part, refuses_part}
 use Rattle.store_stops.specs.Stops.{Gives, IfRefused}
 use Rattle.store_stops.specs.declared.stop.Stop.TheVariants.{Refused, NoMemory, DiskFailed}
 use Rattle.core_state.specs.Unreadables.{Asked}

@@ -19,7 +19,7 @@ use Rattle.store_stops.specs.declared.stop.Stop.{Stop}
 use Rattle.core_state.specs.declared.entering.Place.{Place}
 use Rattle.core_state.specs.declared.parts.Parts.{Parts}
 use Rattle.store_stops.specs.declared.stop.Stop.TheVariants.{Refused, NoMemory, DiskFailed}
-use Rattle.core_state.specs.Replies.{reply_told}
+use Rattle.store_history.specs.Replies.{reply_told}
 use Rattle.core_state.specs.Stops.{told}
 use Rattle.store_stops.specs.Stops.{Gives}
 use Rattle.core_state.specs.Wanted.{session_at}

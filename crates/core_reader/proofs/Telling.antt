@@ -29,7 +29,7 @@ use Rattle.core_state.specs.declared.kept.Session.{Session}
 use Rattle.core_state.specs.declared.parts.Parts.{Parts}
 use Rattle.core_state.proofs.Rows.{rows_same}
 use Rattle.core_state.proofs.Commanding.{act_does, others_set, reads_disk, stopped_does, stopped_leaves, writes_leaves}
-use Rattle.core_state.specs.Replies.{answers_download, may_answer, refuses_download}
+use Rattle.store_history.specs.Replies.{answers_download, may_answer, refuses_download}
 use Rattle.core_state.specs.Settles.{kind_by, reply_by}
 use Rattle.core_state.specs.Stops.{told}
 use Rattle.store_stops.specs.Stops.{IfRefused, Gives}

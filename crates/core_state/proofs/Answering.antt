@@ -14,7 +14,8 @@ use Rattle.core_state.specs.declared.state.Core.{Core}
 use Rattle.core_state.specs.declared.entering.Admitted.TheVariants.{Answered}
 use Rattle.core_state.specs.Settles.{IsEntered, Settles}
 use Rattle.core_state.specs.Begins.{IsBegun, IsShort, Refuses, short, halted, IsReady, AdmittedHasText}
-use Rattle.core_state.specs.Answers.{IsAnswered, EndIsTold, fault_after}
+use Rattle.core_state.specs.Answers.{IsAnswered, EndIsTold}
+use Rattle.store_history.specs.Answered.{fault_after}
 use Rattle.core_state.proofs.Texts.{no_memory_has_text, disk_fault_has_text}
 
 pub and_second : (a : Bool) (n : ℕ) → a && (n == 2) ≡ true → n ≡ 2

@@ -1,7 +1,8 @@
 -- The two records of a command, lifted once over the beginning and the entry of an act.
 use Rattle.std.proofs.Common.{◌≡◌, ◌<◌, ◌≤◌, ℕ, true, false, length, is_some, Option, Some, None, Result, Ok, Err, IfOk, IfSome, IsSome, IsTrue, IsErrOf, inl, refl, sym, ap, subst, ◌∙◌, arith}
 use Rattle.store_files.specs.Folder.{HasWholeChunks}
-use Rattle.core_state.specs.Chunks.{HoldsOnly, IsSafe}
+use Rattle.core_state.specs.Chunks.{IsSafe}
+use Rattle.store_history.specs.ChunkFiles.{HoldsOnly}
 use Rattle.disk_trait.specs.Disk.{Serves}
 use Rattle.disk_trait.specs.Files.{Files}
 use Rattle.disk_trait.specs.declared.disk.Disk.{Ghosts}
@@ -41,7 +42,7 @@ use Rattle.core_state.specs.Holds.{Holds}
 use Rattle.core_state.specs.Indexed.{row_at}
 use Rattle.core_state.specs.Kept.{kept_at}
 use Rattle.core_state.specs.Records.{IsTimely}
-use Rattle.core_state.specs.Replies.{may_answer}
+use Rattle.store_history.specs.Replies.{may_answer}
 use Rattle.core_state.specs.Settles.{Settles, fault_by, kind_by, reply_by, with_fault}
 use Rattle.core_state.specs.Stops.{told}
 use Rattle.core_state.specs.Upkeeps.{touches_kept}

@@ -44,7 +44,7 @@ use Rattle.core_state.specs.Kept.{KeptAt, kept_at}
 use Rattle.core_state.specs.PassedTests.{PassesFor, PassesItsTests}
 use Rattle.core_state.specs.Indexed.{FitsRows, row_in}
 use Rattle.core_state.specs.Holds.{Holds, IsOnDisk, Shows, Does, Acts}
-use Rattle.core_state.specs.Replies.{may_answer}
+use Rattle.store_history.specs.Replies.{may_answer}
 use Rattle.core_state.specs.Settles.{reply_by}
 use Rattle.core_state.specs.Shown.{shown_session, shown_reader, shown_writer}
 use Rattle.core_state.specs.States.{state_of}

@@ -18,7 +18,7 @@ use Rattle.core_state.specs.Commands.{ActDoes, ActLeaves}
 use Rattle.core_state.specs.Decides.{Decides}
 use Rattle.core_state.specs.Holds.{Holds}
 use Rattle.core_state.specs.Kept.{KeptAt, kept_at}
-use Rattle.core_state.specs.Replies.{may_answer, reply_told}
+use Rattle.store_history.specs.Replies.{may_answer, reply_told}
 use Rattle.core_state.specs.Stops.{told}
 use Rattle.core_state.specs.Unchanged.{SameKept}
 use Rattle.core_state.specs.Wanted.{session_at}

@@ -37,15 +37,16 @@ use Rattle.core_state.specs.declared.kept.Session.TheVariants.{Idle, Writer, Rea
 use Rattle.core_state.specs.declared.kept.StoredFile.{StoredFile}
 use Rattle.core_state.specs.declared.kept.Writing.{Writing}
 use Rattle.core_state.specs.declared.state.Core.{Core}
-use Rattle.core_state.specs.Answers.{HasCause, EndHasCause, ReachHasCause, StartHasCause, StepHasCause, IsCaused, done, short, failed, halted, ended, end_failed, reach_reads, reach_failed, reach_as_any, start_opens, start_as_any, step_passes, step_ends, step_as_any, fault_after}
+use Rattle.core_state.specs.Answers.{HasCause, EndHasCause, ReachHasCause, StartHasCause, StepHasCause, IsCaused, done, short, failed, halted, ended, end_failed, reach_reads, reach_failed, reach_as_any, start_opens, start_as_any, step_passes, step_ends, step_as_any}
+use Rattle.store_history.specs.Answered.{fault_after}
 use Rattle.core_state.specs.Applies.{ActKeeps}
 use Rattle.core_state.specs.Changes.{Change, stays, undone, installs, stores, drops, finishes, forgets, after, by_reply, by_writer, change_of, chunk_put, blob_put, index_put, finish_by, finish_put, manifest_by, put_paths, names_beside, forgotten}
 use Rattle.core_state.specs.Commands.{change_at, is_step}
-use Rattle.core_state.specs.Foreign.{IsForeign, KeepsForeign}
+use Rattle.store_history.specs.Foreign.{IsForeign, KeepsForeign}
 use Rattle.core_state.specs.Holds.{Shows}
 use Rattle.core_state.specs.Kept.{KeptAt, kept_at}
 use Rattle.core_state.specs.Passes.{MayChange, StepLeaves}
-use Rattle.core_state.specs.Replies.{command_answers, may_answer, may_end, may_give}
+use Rattle.store_history.specs.Replies.{command_answers, may_answer, may_end, may_give}
 use Rattle.core_state.specs.Shown.{shown_file, shown_files, shown_session}
 use Rattle.core_state.specs.Wanted.{session_at}
 use Rattle.core_state.proofs.AnyPaths.{temporary_in}

@@ -24,8 +24,9 @@ use Rattle.core_state.specs.History.{History, then_event, event_of}
 use Rattle.core_state.specs.Kept.{kept_at}
 use Rattle.core_state.specs.Settles.{IsEntered, Settles, with_fault, fault_by, kind_by}
 use Rattle.core_state.specs.Begins.{ReadsClock, IsShort, Refuses, short, halted}
-use Rattle.core_state.specs.Answers.{IsAnswered, fault_after, HasCause, done, short as was_short, failed, halted as was_halted, ReachHasCause, reach_reads, reach_failed, reach_as_any, StartHasCause, start_opens, start_as_any, StepHasCause, step_passes, step_ends, step_as_any, EndHasCause, ended, end_failed}
-use Rattle.core_state.specs.Records.{IsTimely, FitsKind, FitsReply, GivesReply, IsKept, AreKept, fault_in, Records}
+use Rattle.core_state.specs.Answers.{IsAnswered, HasCause, done, short as was_short, failed, halted as was_halted, ReachHasCause, reach_reads, reach_failed, reach_as_any, StartHasCause, start_opens, start_as_any, StepHasCause, step_passes, step_ends, step_as_any, EndHasCause, ended, end_failed}
+use Rattle.store_history.specs.Answered.{fault_after, FitsKind, FitsReply, GivesReply, IsKept, AreKept, fault_in}
+use Rattle.core_state.specs.Records.{IsTimely, Records}
 use Rattle.core_state.specs.Catalogue.{Lists, listed_by}
 use Rattle.core_state.specs.Numbers.{AreNumbered}
 use Rattle.core_state.proofs.Entered.{time_more}

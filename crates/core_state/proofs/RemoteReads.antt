@@ -33,14 +33,15 @@ use Rattle.core_state.specs.Catalogue.{listed_by}
 use Rattle.core_state.specs.Changes.{IsFirm, after, by_reply, stays}
 use Rattle.core_state.specs.Closing.{closes, closes_by, is_closing}
 use Rattle.core_state.specs.Collectors.{collector_by, open_in, shown_collecting}
-use Rattle.core_state.specs.Commands.{change_at, ends_session, is_remotes, leaves_writer}
+use Rattle.core_state.specs.Commands.{change_at, ends_session, leaves_writer}
+use Rattle.store_history.specs.RemoteDisk.{is_remotes, RemoteStays, ShowsRemote, faults_of, reads_remote}
 use Rattle.core_state.specs.Kept.{KeptAt, kept_at}
 use Rattle.core_state.specs.PassedTests.{PassesItsTests}
 use Rattle.core_state.specs.Entering.{held_by}
 use Rattle.core_state.specs.History.{History, StandsFor, event_of, then_event, world}
 use Rattle.core_state.specs.Indexed.{row_at}
-use Rattle.core_state.specs.Remotes.{RemoteServes, RemoteStays, SettlesRead, ShowsRemote, faults_of, kind_by, reads_remote, reply_by}
-use Rattle.core_state.specs.Replies.{may_answer, may_give}
+use Rattle.core_state.specs.Remotes.{RemoteServes, SettlesRead, kind_by, reply_by}
+use Rattle.store_history.specs.Replies.{may_answer, may_give}
 use Rattle.core_state.specs.Unchanged.{Unchanged}
 use Rattle.core_state.specs.Upkeeps.{touches_kept}
 use Rattle.core_state.specs.Wanted.{session_at}

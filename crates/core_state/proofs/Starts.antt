@@ -26,7 +26,7 @@ use Rattle.core_state.specs.Changes.{after, by_reply, stays}
 use Rattle.core_state.specs.Closing.{is_closing}
 use Rattle.core_state.specs.Collectors.{collector_by}
 use Rattle.core_state.specs.Kept.{kept_at}
-use Rattle.core_state.specs.Replies.{may_answer}
+use Rattle.store_history.specs.Replies.{may_answer}
 use Rattle.core_state.specs.Commands.{change_at}
 use Rattle.core_state.specs.Entering.{held_by}
 use Rattle.core_state.specs.History.{History, StandsFor, event_of, then_event, world}

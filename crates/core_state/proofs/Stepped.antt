@@ -23,9 +23,9 @@ use Rattle.core_state.specs.declared.collector.Collector.{Collector}
 use Rattle.core_state.specs.declared.collector.Early.{Early}
 use Rattle.core_state.specs.declared.collector.Early.TheVariants as early
 use Rattle.core_state.specs.declared.state.Core.{Core}
-use Rattle.core_state.specs.Answers.{fault_after}
+use Rattle.store_history.specs.Answered.{fault_after}
 use Rattle.core_state.specs.Begins.{IsBegun, IsReady, ReadsClock}
-use Rattle.core_state.specs.Chunks.{HoldsOnly}
+use Rattle.store_history.specs.ChunkFiles.{HoldsOnly}
 use Rattle.core_state.specs.Collectors.{OpenOn, closed_on, collector_by, ended_if, is_cut, is_on, open_in, shown_collecting}
 use Rattle.core_state.specs.History.{History, StandsFor, event_of, pieces_of, then_event, world}
 use Rattle.core_state.specs.Holds.{IsOnDisk, Shows}

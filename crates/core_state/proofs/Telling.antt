@@ -24,7 +24,7 @@ use Rattle.core_state.specs.Calls.{CallsForAsked}
 use Rattle.core_state.specs.Commands.{IsNoRefusal}
 use Rattle.core_state.specs.Damages.{TellsDamaged}
 use Rattle.core_state.specs.Kept.{KeptAt, kept_at}
-use Rattle.core_state.specs.Replies.{may_answer}
+use Rattle.store_history.specs.Replies.{may_answer}
 use Rattle.core_state.specs.Settles.{Settles, kind_by, reply_by}
 use Rattle.core_state.specs.Stops.{ended_by, told}
 use Rattle.core_state.specs.Tells.{ActTells, CallsBy, CoreTells, Words, asked_calls, plain_words}

@@ -13,9 +13,9 @@ use Rattle.store_history.specs.declared.act.Act.TheVariants.{RemoteList, RemoteF
 use Rattle.store_history.specs.declared.act.Answer.{Answer}
 use Rattle.core_state.specs.declared.state.Core.{Core}
 use Rattle.core_state.specs.Answers.{HasCause, done, short, failed, halted, EndHasCause, ended, end_failed, StartHasCause, start_opens, start_as_any, StepHasCause, step_passes, step_ends, step_as_any, IsCaused}
-use Rattle.core_state.specs.Commands.{is_remotes}
+use Rattle.store_history.specs.RemoteDisk.{is_remotes}
 use Rattle.core_state.specs.Kept.{KeptAt, kept_at}
-use Rattle.core_state.specs.Replies.{may_answer, may_end}
+use Rattle.store_history.specs.Replies.{may_answer, may_end}
 use Rattle.core_state.specs.Tells.{CoreTells, plain_words}
 use Rattle.core_state.specs.Tells as tells
 use Rattle.core_state.specs.Unreadables.{Asked, TellsUnreadable}

@@ -23,7 +23,8 @@ use Rattle.core_state.specs.KeepsTouches.{KeepsTouches}
 use Rattle.core_state.specs.Passes.{StepLeaves}
 use Rattle.core_state.specs.Records.{IsTimely, Records}
 use Rattle.core_state.specs.Recovers.{Recovers, TellsMoments}
-use Rattle.core_state.specs.Remotes.{RemoteServes, ShowsRemote, reads_remote}
+use Rattle.core_state.specs.Remotes.{RemoteServes}
+use Rattle.store_history.specs.RemoteDisk.{ShowsRemote, reads_remote}
 use Rattle.core_state.specs.Reserved.{Keeps}
 use Rattle.core_state.specs.Unchanged.{Unchanged}
 use Rattle.core_state.specs.Upkeeps.{touches_kept}

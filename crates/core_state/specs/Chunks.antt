@@ -3,7 +3,6 @@ use Rattle.disk_trait.specs.declared.disk.Disk.{Ghosts}
 use Rattle.std.specs.Prelude.{◌≡◌, ◌⊎◌, ℕ, List, Some, IfSome, Result, Ok, Err}
 use Rattle.std.specs.List.{Contains}
 use Rattle.std.specs.FinMap.{get}
-use Rattle.sha2.specs.Sha256.{sha256}
 use Rattle.store_types.specs.declared.names.Digest32.{Digest32}
 use Rattle.store_types.specs.declared.refusal.Refusal.{Refusal}
 use Rattle.blob_codec.specs.Blob.{blob}
@@ -18,10 +17,7 @@ use Rattle.store_history.specs.Acts.{sent_chunk}
 use Rattle.store_history.specs.History.{data_in, sent_by}
 use Rattle.core_state.specs.declared.parts.Parts.{Parts}
 use Rattle.core_state.specs.Holds.{Holds}
-
--- the chunk file of the piece is there
-abbrev pub HasChunk : Files → List ℕ → Type 0
-HasChunk m p = get m (chunk_name (sha256 p)) ≡ Some (blob p)
+use Rattle.store_history.specs.ChunkFiles.{HasChunk}
 
 -- ---- putting a chunk
 
@@ -35,10 +31,6 @@ abbrev pub IsSafe : Files → Act → Type 0
 IsSafe m act = IfSome (sent_chunk act) (λ c. MayStand m c.0 (data_in c.1))
 
 -- ---- which chunk files there are
-
--- each is one of these pieces'
-abbrev pub HoldsOnly : Files → List (List ℕ) → Type 0
-HoldsOnly m pieces = (p : List ℕ) → HasChunk m p → Contains pieces p
 
 -- each was there before, or is of the piece that the act sent
 abbrev pub AddsChunks : Files → Files → Act → Type 0

@@ -13,7 +13,7 @@ use Rattle.wire_commands.specs.declared.command.Command.{Command}
 use Rattle.store_model.specs.Store.{Store}
 use Rattle.store_history.specs.declared.act.Act.{Act}
 use Rattle.store_history.specs.declared.act.Act.TheVariants.{Plain}
-use Rattle.store_history.specs.Acts.{class_of, family_of, is_collecting, is_managing, is_reaching, is_sweeping}
+use Rattle.store_history.specs.Acts.{class_of, family_of, is_collecting, is_managing, is_sweeping}
 use Rattle.store_history.specs.History.{World, act_outcome}
 use Rattle.store_history.specs.Profile.{are_ended, are_same, have_writer, is_called, is_changed, is_paged, is_same_row, profile}
 use Rattle.core_state.specs.declared.entering.Place.{Place}
@@ -29,7 +29,7 @@ use Rattle.core_state.specs.PassedTests.{PassesItsTests}
 use Rattle.core_state.specs.Holds.{Acts, Holds}
 use Rattle.core_state.specs.Indexed.{row_at}
 use Rattle.core_state.specs.Kept.{kept_at}
-use Rattle.core_state.specs.Replies.{may_answer}
+use Rattle.store_history.specs.Replies.{may_answer}
 use Rattle.core_state.specs.Settles.{reply_by}
 use Rattle.core_state.specs.Stops.{told}
 use Rattle.core_state.specs.Unchanged.{Unchanged}
@@ -74,10 +74,6 @@ is_step act = is_sweeping (class_of act)
 -- the acts on the store as a whole
 abbrev pub is_admins : Act → Bool
 is_admins act = is_managing (family_of act)
-
--- the acts that read the remote
-abbrev pub is_remotes : Act → Bool
-is_remotes act = is_reaching (family_of act)
 
 -- the acts of a collector
 abbrev pub is_collectors : Act → Bool

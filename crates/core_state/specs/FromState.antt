@@ -9,7 +9,7 @@ use Rattle.core_state.specs.declared.parts.Parts.{Parts}
 use Rattle.core_state.specs.declared.state.Core.{Core}
 use Rattle.store_stops.specs.declared.stop.Stop.{Stop}
 use Rattle.core_state.specs.Kept.{KeptAt, kept_at}
-use Rattle.core_state.specs.Replies.{reply_told}
+use Rattle.store_history.specs.Replies.{reply_told}
 use Rattle.core_state.specs.Stops.{told}
 
 -- by what the act finds

@@ -7,7 +7,6 @@ pub mod States
 pub mod Kept
 pub mod Decides
 pub mod Heads
-pub mod Replies
 pub mod MarkedPage
 pub mod Entries
 pub mod Collectors
@@ -27,7 +26,6 @@ pub mod Reserved
 pub mod Records
 pub mod Found
 pub mod ListedRows
-pub mod Foreign
 pub mod Catalogue
 pub mod Catalogued
 pub mod Changes

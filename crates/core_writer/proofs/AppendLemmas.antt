@@ -25,7 +25,7 @@ use Rattle.core_state.specs.declared.kept.Writing.{Writing}
 use Rattle.store_stops.specs.declared.stop.Stop.{Stop}
 use Rattle.store_stops.specs.declared.stop.Stop.TheVariants as stops
 use Rattle.core_state.specs.Named.{is_named}
-use Rattle.core_state.specs.Replies.{answers_append}
+use Rattle.store_history.specs.Replies.{answers_append}
 use Rattle.core_state.specs.Shown.{shown_writer, shown_files}
 use Rattle.snapshot_files.specs.Reads.{StopHasText}
 use Rattle.core_state.proofs.NamedLemmas.{writer_named, writer_stays_named}

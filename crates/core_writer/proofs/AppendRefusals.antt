@@ -16,7 +16,7 @@ use Rattle.backup_session.specs.Indexes.{layout_of, count_of, end_of}
 use Rattle.backup_session.specs.Steps as rows
 use Rattle.wire_commands.specs.HasText.{FitsRefusal, ReplyHasText}
 use Rattle.wire_commands.specs.declared.reply.Reply.TheVariants.{Refused}
-use Rattle.core_state.specs.Replies.{refuses_append}
+use Rattle.store_history.specs.Replies.{refuses_append}
 use Rattle.snapshot_files.specs.Reads.{StopHasText}
 use Rattle.store_stops.specs.Stops.{answered_of}
 use Rattle.core_state.proofs.Texts.{bad_offset_has_text, no_file_has_text, too_many_has_text, unknown_chunk_has_text, wrong_size_has_text, wrong_state_has_text}

@@ -30,7 +30,7 @@ use Rattle.core_state.specs.declared.kept.Writing.{Writing}
 use Rattle.core_state.specs.Shown.{shown_writer, shown_files}
 use Rattle.core_state.specs.Holds.{IsBegun, IsWriter}
 use Rattle.core_state.specs.Named.{is_named}
-use Rattle.core_state.specs.Replies.{refuses_index, refuses_fixed}
+use Rattle.store_history.specs.Replies.{refuses_index, refuses_fixed}
 use Rattle.snapshot_files.specs.Reads.{StopHasText}
 use Rattle.store_stops.specs.Stops.{answered_of}
 use Rattle.store_stops.specs.declared.stop.Stop.{Stop}

@@ -35,7 +35,7 @@ use Rattle.core_state.specs.declared.kept.Session.{Session}
 use Rattle.store_stops.specs.declared.stop.Stop.{Stop}
 use Rattle.store_stops.specs.declared.stop.Stop.TheVariants as stops
 use Rattle.core_state.specs.Changes.{blob_put, file_put}
-use Rattle.core_state.specs.Replies.{answers_blob, refuses_blob}
+use Rattle.store_history.specs.Replies.{answers_blob, refuses_blob}
 use Rattle.core_state.proofs.Sessions.{writer_found}
 use Rattle.core_state.specs.Shown.{shown_writer}
 use Rattle.core_state.specs.Holds.{IsWriter, IsSound}

@@ -43,7 +43,8 @@ use Rattle.backup_session.specs.Shown.{piece_of, pool_of}
 use Rattle.backup_session.proofs.Pools.{known_in-pool}
 use Rattle.core_state.specs.declared.kept.Session.TheVariants as kept
 use Rattle.core_state.specs.declared.parts.Parts.{Parts}
-use Rattle.core_state.specs.Chunks.{HasChunk, MayStand, AddsChunks}
+use Rattle.core_state.specs.Chunks.{MayStand, AddsChunks}
+use Rattle.store_history.specs.ChunkFiles.{HasChunk}
 use Rattle.core_state.specs.Holds.{Holds, IsSound, IsWriter, IsOnDisk, HasUploads}
 use Rattle.core_state.specs.Shown.{shown_writer}
 use Rattle.core_state.proofs.Chunks.{is_digest}

@@ -36,7 +36,8 @@ use Rattle.core_state.specs.declared.kept.Session.{Session}
 use Rattle.core_state.specs.declared.kept.Session.TheVariants as kept
 use Rattle.core_state.specs.declared.kept.Writing.{Writing}
 use Rattle.core_state.specs.declared.parts.Parts.{Parts}
-use Rattle.core_state.specs.Chunks.{HasChunk, MayStand, AddsChunks}
+use Rattle.core_state.specs.Chunks.{MayStand, AddsChunks}
+use Rattle.store_history.specs.ChunkFiles.{HasChunk}
 use Rattle.core_state.specs.Holds.{HasUploads, Holds, IsOnDisk, Shows}
 use Rattle.core_state.specs.Changes.{change_of, chunk_put, stores}
 use Rattle.core_state.specs.PassedTests.{PassesItsTests}

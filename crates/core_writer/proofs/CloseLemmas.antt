@@ -44,7 +44,7 @@ use Rattle.store_stops.specs.declared.stop.Stop.TheVariants as stops
 use Rattle.core_state.specs.Changes.{file_put, index_put}
 use Rattle.core_state.specs.Holds.{IsBegun, has_named, names_differ, IsWriter}
 use Rattle.core_state.specs.Named.{is_named}
-use Rattle.core_state.specs.Replies.{answers_closing, refuses_closing}
+use Rattle.store_history.specs.Replies.{answers_closing, refuses_closing}
 use Rattle.snapshot_files.specs.Reads.{StopHasText}
 use Rattle.core_state.proofs.Sessions.{writer_found}
 use Rattle.core_state.proofs.Texts.{bad_close_has_text, no_file_has_text, wrong_state_has_text}

@@ -46,7 +46,7 @@ use Rattle.core_state.specs.declared.kept.Kept.{Kept}
 use Rattle.core_state.specs.Found.{kept_in, latest_kept, latest_whole}
 use Rattle.core_state.specs.Heads.{idle_key}
 use Rattle.core_state.specs.Kept.{KeptAt, kept_at}
-use Rattle.core_state.specs.Replies.{may_answer}
+use Rattle.store_history.specs.Replies.{may_answer}
 use Rattle.core_state.proofs.HeadLemmas.{idle_key_is, idle_key_refuses, refuses_none, refuses_some, refuses_then, refuses_unless}
 use Rattle.core_writer.specs.Opened.{base_for, base_in, base_kept, new_writing, other_holder, to_write}
 use Rattle.core_writer.proofs.OpenedLemmas.{latest_shown, latest_whole-shown, count_shown, may_open}

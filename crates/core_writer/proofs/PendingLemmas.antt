@@ -34,7 +34,7 @@ use Rattle.core_state.specs.Commands.{ActDoes, ActLeaves, change_at, ends_sessio
 use Rattle.core_state.specs.PassedTests.{PassesItsTests}
 use Rattle.core_state.specs.Holds.{Holds, IsOnDisk, Shows}
 use Rattle.core_state.specs.Named.{is_named}
-use Rattle.core_state.specs.Replies.{may_answer}
+use Rattle.store_history.specs.Replies.{may_answer}
 use Rattle.core_state.specs.Shown.{shown_writer}
 use Rattle.store_stops.specs.Stops.{stop_of}
 use Rattle.core_state.specs.Unchanged.{SameKept}

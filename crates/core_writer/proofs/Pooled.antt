@@ -7,7 +7,7 @@ use Rattle.store_files.specs.Archive.{pieces_of}
 use Rattle.store_files.specs.Folder.{IsPiece}
 use Rattle.store_model.specs.Store.{Begun, Store, Writer}
 use Rattle.store_model.specs.WriterSteps.{with_pool}
-use Rattle.core_state.specs.Chunks.{HasChunk}
+use Rattle.store_history.specs.ChunkFiles.{HasChunk}
 use Rattle.core_state.specs.Holds.{IsBegun, IsWriter, HasUploads}
 
 more : (pool new ps : List (List ℕ)) → All (Contains pool) ps → All (Contains (pool ++ new)) ps

@@ -51,7 +51,7 @@ use Rattle.core_state.specs.declared.kept.Session.{Session}
 use Rattle.core_state.specs.declared.kept.Session.TheVariants as kept
 use Rattle.core_state.specs.declared.kept.Writing.{Writing}
 use Rattle.core_state.specs.declared.parts.Parts.{Parts}
-use Rattle.core_state.specs.Chunks.{HasChunk}
+use Rattle.store_history.specs.ChunkFiles.{HasChunk}
 use Rattle.core_state.specs.Found.{kept_named, path_named, path_of_kept, path_in}
 use Rattle.core_state.specs.Holds.{IsOnDisk, Holds, Shows}
 use Rattle.core_state.specs.Commands.{IsNoRefusal}
@@ -65,7 +65,7 @@ use Rattle.disk_trait.proofs.OnlyReading.{reads_as}
 use Rattle.disk_trait.specs.declared.disk.DiskError.TheVariants as disks
 use Rattle.core_state.specs.Named.{has_text, is_named}
 use Rattle.core_state.specs.Shown.{files_named, shown_snapshot, shown_writer, shown_files}
-use Rattle.core_state.specs.Replies.{answers_previous, refuses_previous}
+use Rattle.store_history.specs.Replies.{answers_previous, refuses_previous}
 use Rattle.core_state.specs.Unchanged.{SameKept, is_uncalled}
 use Rattle.core_state.specs.Calls.{CallsForAsked}
 use Rattle.core_state.specs.Unreadables.{Asked, TellsUnreadable, from_offset, read_by}

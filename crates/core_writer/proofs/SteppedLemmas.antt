@@ -13,7 +13,7 @@ use Rattle.core_state.specs.Catalogue.{listed_by}
 use Rattle.core_state.specs.Changes.{stays}
 use Rattle.core_state.specs.Closing.{closes}
 use Rattle.core_state.specs.Commands.{ActDoes, ActLeaves, change_at, ends_session, is_still}
-use Rattle.core_state.specs.Replies.{may_answer}
+use Rattle.store_history.specs.Replies.{may_answer}
 use Rattle.core_state.specs.Unchanged.{SameKept}
 use Rattle.core_state.specs.Wanted.{session_at}
 use Rattle.core_state.proofs.Rows.{rows_same}

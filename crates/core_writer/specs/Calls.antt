@@ -20,7 +20,7 @@ use Rattle.core_state.specs.declared.kept.Session.{Session}
 use Rattle.core_state.specs.declared.kept.Writing.{Writing}
 use Rattle.store_stops.specs.declared.stop.Stop.{Stop}
 use Rattle.core_state.specs.Changes.{blob_put, index_put}
-use Rattle.core_state.specs.Replies.{answers_append, answers_blob, answers_closing}
+use Rattle.store_history.specs.Replies.{answers_append, answers_blob, answers_closing}
 use Rattle.core_writer.specs.declared.archives.NewIndex.{NewIndex}
 use Rattle.core_writer.specs.declared.files.NewFile.{NewFile}
 use Rattle.core_writer.specs.Does.{Does, DoesPlainly}

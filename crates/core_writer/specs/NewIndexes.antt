@@ -9,7 +9,7 @@ use Rattle.store_model.specs.Store as model
 use Rattle.store_model.specs.WriterCalls as calls
 use Rattle.backup_session.specs.Session.{Writing}
 use Rattle.backup_session.specs.Steps as rows
-use Rattle.core_state.specs.Replies.{answers_index, answers_fixed}
+use Rattle.store_history.specs.Replies.{answers_index, answers_fixed}
 use Rattle.core_writer.specs.declared.archives.NewIndex.{NewIndex}
 use Rattle.core_writer.specs.declared.archives.NewIndex.TheVariants.{Dynamic, Fixed}
 

@@ -9,7 +9,7 @@ ghost use Rattle.chunk_store.specs.Pieces.{IsChunk};
 ghost use Rattle.store_history.specs.Acts.{IsCheckedChunk};
 ghost use Rattle.store_history.specs.declared.act.Act.TheVariants.{Chunk};
 ghost use Rattle.core_state.specs.Commands.{ActDoes, ActLeaves};
-ghost use Rattle.core_state.specs.Replies.{refuses_chunk};
+ghost use Rattle.store_history.specs.Replies.{refuses_chunk};
 ghost use Rattle.core_writer.specs.NotedChunks.{ForgetsNoted, MayNote, PutsChunk, with_blob_noted};
 
 use crate::uploads::bad_blob;

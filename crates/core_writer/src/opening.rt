@@ -12,7 +12,7 @@ ghost use Rattle.store_history.specs.declared.act.Act.TheVariants.{Plain};
 ghost use Rattle.core_state.specs.Commands.{PlainDoes, PlainLeaves};
 ghost use Rattle.core_state.specs.Decides.{Decides};
 ghost use Rattle.core_state.specs.Found.{lent_key};
-ghost use Rattle.core_state.specs.Replies.{refuses_writer};
+ghost use Rattle.store_history.specs.Replies.{refuses_writer};
 ghost use Rattle.core_writer.specs.AnsweredBy.{ActAnswersBy};
 ghost use Rattle.core_writer.specs.Opened.{LendsBase, TakesBase, base_on, begins_with, other_holder, to_write as base_to_write};
 ghost use Rattle.core_writer.specs.Stopping.{RefusesBy};

@@ -13,7 +13,7 @@ ghost use Rattle.snapshot_files.specs.Reads.{StopHasText};
 ghost use Rattle.store_stops.specs.Stops.{IfRefused};
 ghost use Rattle.core_state.specs.Commands.{PlainDoes, PlainLeaves};
 ghost use Rattle.core_state.specs.Found.{lent_key};
-ghost use Rattle.core_state.specs.Replies.{refuses_previous};
+ghost use Rattle.store_history.specs.Replies.{refuses_previous};
 ghost use Rattle.core_state.specs.Unreadables.{ActUnreadable};
 ghost use Rattle.core_writer.specs.Previous.{ArePieces, GivesPrevious, LendsPath, MayKnow, NotesPooled, as_map, asked_of_base, kept_by_whole, known_by_whole, whole_for, with_known};
 

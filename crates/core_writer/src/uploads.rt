@@ -13,7 +13,7 @@ ghost use Rattle.backup_session.specs.Answers.{IsPendingAt};
 ghost use Rattle.core_state.specs.Closing.{is_writer};
 ghost use Rattle.core_state.specs.Commands.{ActDoes, ActLeaves};
 ghost use Rattle.core_state.specs.Named.{is_named};
-ghost use Rattle.core_state.specs.Replies.{refuses_blob};
+ghost use Rattle.store_history.specs.Replies.{refuses_blob};
 ghost use Rattle.store_stops.specs.declared.stop.Stop.TheVariants.{DiskFailed};
 ghost use Rattle.core_writer.specs.Calls.{TakesBlob, TakesPending, TakesPlainly};
 

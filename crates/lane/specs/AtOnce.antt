@@ -40,6 +40,11 @@ abbrev pub EndsAtOnce : Ending → List ℕ → List Event → ℕ → Type 0
 EndsAtOnce endings.SinkFault input events given = HasEndedAtOnce input events given
 EndsAtOnce e input events given = Unit {0}
 
+-- all of the replies were given
+abbrev pub gave_all : Ending → Bool
+gave_all endings.SinkFault = false
+gave_all e = true
+
 -- where its commands have come to an end
 abbrev pub GaveSo : Ending → List Reply → ℕ → Type 0
 GaveSo endings.SinkFault told given = GaveAllButOne told given

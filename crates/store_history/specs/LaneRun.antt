@@ -208,9 +208,9 @@ may_want_at p = wants_by p.task p.left
 abbrev pub may_step : Position → Bool
 may_step p = not p.is_spent || stops p.task
 
--- How a lane may end where this is next. Want of memory ended it where a frame could not be held, or an answer was the last, behind which no
--- more than its job's session was closed: no other answer of want of memory ends a lane. Where the source failed or gave too much, no job is
--- open, and only a part of a frame is left without an answer.
+-- How a lane may end where this is next. Want of memory ended it where a frame could not be held, or an answer was the last: no other answer
+-- of want of memory ends a lane, and nothing is open then. Where the source failed or gave too much, no job is open, and only a part of a frame
+-- is left without an answer.
 abbrev pub EndsSo : Ending → Position → Ahead → Type 0
 EndsSo endings.Clean p (ahead bye) = p.is_spent ≡ false
 EndsSo endings.Clean p (ahead end) = p.is_spent ≡ false
@@ -218,7 +218,7 @@ EndsSo (endings.Broken place) p (ahead (broken refusal)) = (p.is_spent ≡ false
 EndsSo endings.SourceFault p n = (p.is_spent ≡ false) × (p.task ≡ None) × (cut p.left ≡ short)
 EndsSo endings.SourceTooLong p n = (p.is_spent ≡ false) × (p.task ≡ None) × (cut p.left ≡ short)
 EndsSo endings.SinkFault p n = Unit {0}
-EndsSo endings.NoMemory p n = ((p.is_unheld || p.is_spent) ≡ true) × (stops p.task ≡ false)
+EndsSo endings.NoMemory p n = ((p.is_unheld || p.is_spent) ≡ true) × (p.task ≡ None)
 EndsSo _ p n = ⊥
 
 -- the lane's end, and no other event, follows

@@ -14,3 +14,9 @@ pub mod LastTouches
 pub mod Sweeping
 pub mod Saved
 pub mod Touches
+pub mod Replies
+pub mod ChunkFiles
+pub mod Foreign
+pub mod Answered
+pub mod RemoteDisk
+pub mod Opened

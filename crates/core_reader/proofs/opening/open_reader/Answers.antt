@@ -11,7 +11,7 @@ use Rattle.store_model.specs.Store.{reader, with_session}
 use Rattle.core_state.specs.Closing.{is_reader}
 use Rattle.core_state.specs.Kept.{kept_at}
 use Rattle.core_state.specs.Named.{is_named}
-use Rattle.core_state.specs.Replies.{reply_told}
+use Rattle.store_history.specs.Replies.{reply_told}
 use Rattle.core_state.specs.declared.kept.Session.TheVariants.{Idle, Reader}
 use Rattle.core_state.proofs.Commanding.{changed_does, same_kept}
 use Rattle.core_state.proofs.Decided.{decided_does, decided_leaves, decided_tells}

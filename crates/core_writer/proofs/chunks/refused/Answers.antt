@@ -1,7 +1,7 @@
 use Rattle.std.proofs.Common.{refl, sym, ap, subst, arith}
 use Rattle.wire_commands.specs.HasText.{ReplyHasText}
 use Rattle.wire_commands.specs.declared.reply.Reply.TheVariants.{Refused}
-use Rattle.core_state.specs.Replies.{refuses_chunk}
+use Rattle.store_history.specs.Replies.{refuses_chunk}
 use Rattle.core_state.proofs.Texts.{wrong_size_has_text}
 use Rattle.core_writer.proofs.ChunkLemmas.{empty_refused}
 use Rattle.core_writer.proofs.chunks.refused.Goals as goal

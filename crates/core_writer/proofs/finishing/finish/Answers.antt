@@ -8,7 +8,7 @@ use Rattle.core_state.specs.Catalogue.{closed}
 use Rattle.core_state.specs.Changes.{IsFirm, LeavesChange, after}
 use Rattle.core_state.specs.Wanted.{session_at}
 use Rattle.core_state.specs.Named.{is_named}
-use Rattle.core_state.specs.Replies.{refuses_finish}
+use Rattle.store_history.specs.Replies.{refuses_finish}
 use Rattle.core_state.specs.declared.indexes.Indexes.TheVariants.{Unread}
 use Rattle.core_state.proofs.Rows.{rows_but}
 use Rattle.core_state.proofs.Commanding.{failed_does, failed_leaves, not_still, refused_does, same_kept, unwritten_does, writes_does, writes_leaves}
