@@ -24,7 +24,6 @@ use Rattle.core_reader.specs.Asked.{index_of, place_of, to_open}
 use Rattle.core_reader.specs.Chunks.{bytes_at}
 use Rattle.core_reader.specs.Entries.{entry_by}
 use Rattle.core_reader.specs.Ranges.{range_told}
-use Rattle.core_reader.specs.ReaderActs.{CoreOpens}
 
 -- the snapshot is to be read and whole, or the refusal
 abbrev pub reader_told : List ℕ → KeptAt → Result Reply Refusal

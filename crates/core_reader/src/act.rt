@@ -21,6 +21,7 @@ use std::alloc::Global;
 use store_stops::Stop;
 use wire_commands::{Command, Reply};
 
+#[tactic(auto, using(core_state::proofs::Telling::calls_asked))]
 fn perform<D: Disk>(parts: &mut Parts<D>, alloc: Global, at: Place, act: Act) -> Result<Reply, Stop>
     requires lane { at.lane < 64 }
     requires kind { family_of act ≡ Family.Reads }
