@@ -38,7 +38,7 @@ use Rattle.core_state.specs.declared.kept.Kept.{Kept}
 use Rattle.core_state.specs.declared.parts.Parts.{Parts}
 use Rattle.store_stops.specs.declared.stop.Stop.{Stop}
 use Rattle.core_state.proofs.Rows.{rows_same}
-use Rattle.core_state.proofs.Commanding.{writes_does, writes_leaves, failed_leaves}
+use Rattle.core_state.proofs.Commanding.{failed_leaves, others_same, writes_does, writes_leaves}
 use Rattle.core_state.proofs.Naming.{kept_key, named_is}
 use Rattle.core_state.proofs.Texts.{done_has_text}
 use Rattle.core_admin.specs.Forgotten.{to_forget, forget_told}
@@ -104,7 +104,7 @@ module _ {D : Type 0} (d : Ghosts D) (old new : Parts D) (at : Place) (text : Li
       writes_leaves d old new at act Done tt refl (λ h. gone h ∙ sym (ap (λ (change : Change). after change (d.content old.disk)) change_is)) (goes first)
       (subst (λ (change : Change). IsFirm d old.disk new.disk change) (sym change_is) firm) (c ∙ sym (ap (λ o. without_named o old.catalogue.listed) named)) (λ _. (l, locks))
       (λ s h p held. inl (stood_before (manifest_path key ∷ paths) (d.content old.disk) (chunk_name (sha256 p)) _ (sym (ap (λ m. get m (chunk_name (sha256 p))) (gone h.honest)) ∙ held)))
-      (λ e. absurd (never e)) (λ e. absurd (never e)) (rows_same old new.indexes.items at.lane act rows)
+      (λ e. absurd (never e)) (λ e. absurd (never e)) (rows_same old new.indexes.items at.lane act rows) (others_same old new at.lane l)
 
   pub done_does : (failed : Type 0) → Serves d.honest d.faults old.disk new.disk failed → at.lane < 64 → IsKey key → (d.honest old.disk → d.content new.disk ≡ without (manifest_path key ∷ paths) (d.content old.disk))
       → new.catalogue.listed ≡ without_listed key old.catalogue.listed → new.sessions.items ≡ old.sessions.items → new.locks ≡ old.locks → new.indexes.items ≡ old.indexes.items

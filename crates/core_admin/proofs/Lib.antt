@@ -10,3 +10,4 @@ pub mod ForgetLemmas
 pub mod ListingRead
 pub mod FilesRead
 pub mod FilesTelling
+pub mod Telling

@@ -1,4 +1,4 @@
--- What the acts on the store as a whole ask for, and the first step of a PRUNE.
+-- What the acts on the store as a whole tell, and the first step of a PRUNE.
 use Rattle.std.specs.Prelude.{ℕ, Bool, List, Option, None, Result}
 use Rattle.disk_trait.specs.declared.disk.Disk.{Ghosts}
 use Rattle.store_types.specs.declared.names.Keep.{Keep}
@@ -12,13 +12,18 @@ use Rattle.store_stops.specs.declared.stop.Stop.{Stop}
 use Rattle.core_state.specs.Commands.{ActDoes, ActLeaves}
 use Rattle.core_state.specs.Kept.{KeptAt}
 use Rattle.core_state.specs.Unreadables.{Asked}
-use Rattle.core_admin.specs.AnsweredBy.{ActAnswersBy}
+use Rattle.core_state.specs.Tells.{Words, plain_words}
+use Rattle.core_admin.specs.AnsweredBy.{ActAnswersBy, AnswersBy}
 use Rattle.core_admin.specs.FilesTold.{asked_files}
 
 -- the file that an act asks for: the manifest of the snapshot whose files it tells, or the file that makes it damaged
 abbrev pub asked_of_admin : Act → KeptAt → Option Asked
 asked_of_admin (Plain (Files snapshot)) k = asked_files snapshot k
 asked_of_admin act k = None
+
+-- what it tells
+abbrev pub admin_words : {D : Type 0} → Act → Words D
+admin_words act = record (plain_words (λ d disk k reply. AnswersBy d disk act k reply)) { asked = asked_of_admin act }
 
 -- ---- the first step of a PRUNE, which changes nothing
 

@@ -1,15 +1,12 @@
 -- What an act's own tests answer by what it finds, on any disk; and FILES by what stands on an honest one.
 use Rattle.disk_trait.specs.declared.disk.Disk.{Ghosts}
-use Rattle.std.specs.Prelude.{◌≡◌, ℕ, List, Result, IfOk, IfSome}
-use Rattle.store_types.specs.declared.order.TheConstants.{COMMAND_KIND}
+use Rattle.std.specs.Prelude.{◌≡◌, ℕ, List, Result, IfOk}
 use Rattle.wire_commands.specs.declared.command.Command.TheVariants.{List as ListAll, Files as FilesOf, Forget, Prune, Group}
 use Rattle.wire_commands.specs.declared.reply.Reply.{Reply}
 use Rattle.store_history.specs.declared.act.Act.{Act}
 use Rattle.store_history.specs.declared.act.Act.TheVariants.{Plain, JobGroup}
-use Rattle.store_history.specs.declared.act.Answer.{Answer}
 use Rattle.core_state.specs.declared.entering.Place.{Place}
 use Rattle.core_state.specs.declared.parts.Parts.{Parts}
-use Rattle.core_state.specs.declared.state.Core.{Core}
 use Rattle.store_stops.specs.declared.stop.Stop.{Stop}
 use Rattle.store_history.specs.Replies.{reply_told}
 use Rattle.core_state.specs.Stops.{told}
@@ -32,8 +29,3 @@ AnswersBy d disk _ k reply = Unit {0}
 -- a command is answered so, by what the core keeps before it, and its disk
 abbrev pub ActAnswersBy : {D : Type 0} → Ghosts D → Parts D → Place → Act → Result Reply Stop → Type 0
 ActAnswersBy d old at act result = IfOk (told result) (AnswersBy d old.disk act (kept_at old at.lane))
-
--- the core answers so an act that was done
-abbrev pub CoreAnswersBy : {D E C : Type 0} → Ghosts D → Core D E C → ℕ → Act → Answer → Type 0
-CoreAnswersBy d old lane act answer =
-    (answer.entry).kind ≡ COMMAND_KIND → IfSome answer.reply (AnswersBy d (old.parts).disk act (kept_at old.parts lane))

@@ -28,7 +28,9 @@ use sha2::{Digest, Sha256};
 use snapshot_files::{manifest_path_of, read_manifest};
 use std::alloc::{AllocError, Global};
 use store_stops::Stop;
-use store_types::{Bytes, Digest32, FILE_LIMIT, FileName, LISTED_LIMIT, Refusal, Rows, SnapshotKey};
+use store_types::{
+    Bytes, Digest32, FILE_LIMIT, FileName, LISTED_LIMIT, Refusal, Rows, SnapshotKey,
+};
 use wire_commands::{FileRow, Reply};
 
 /// A manifest's file, and what it lists.

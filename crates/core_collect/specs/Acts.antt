@@ -10,7 +10,8 @@ use Rattle.core_state.specs.declared.collector.Collector.{Collector}
 use Rattle.core_state.specs.declared.state.Core.{Core}
 use Rattle.core_state.specs.Collectors.{is_on, refusal_of as early_refusal}
 use Rattle.core_state.specs.Kept.{KeptAt}
-use Rattle.core_state.specs.Unreadables.{Asked, CoreUnreadable, known}
+use Rattle.core_state.specs.Tells.{Words, plain_words, untold}
+use Rattle.core_state.specs.Unreadables.{Asked, known}
 use Rattle.core_collect.specs.Ending.{early_in}
 use Rattle.core_collect.specs.Starting.{StartTells, start_told}
 use Rattle.core_collect.specs.Stepping.{StepTells}
@@ -38,6 +39,6 @@ asked_of_collector Start collector k = asked_by (refusal_of (start_told collecto
 asked_of_collector Step collector k = if is_on k.lane collector then asked_by (option_map early_refusal (early_in collector)) else None
 asked_of_collector _ collector k = None
 
--- it is told so exactly, on any disk
-abbrev pub CollectUnreadable : {D E C : Type 0} → Ghosts D → Core D E C → ℕ → Act → Answer → Type 0
-CollectUnreadable d old lane act answer = CoreUnreadable d (asked_of_collector act old.collector) old lane answer
+-- what it tells by its words
+abbrev pub collect_words : {D : Type 0} → Act → Option Collector → Words D
+collect_words act collector = record (plain_words untold) { asked = asked_of_collector act collector }

@@ -87,7 +87,7 @@ fn busy_on(lane: u32) -> Refusal
 /// snapshot is damaged, of which the first in the catalogue is told.
 fn may_open<D>(parts: &Parts<D>, collector: &Option<Collector>, lane: u32) -> Result<(), Stop>
     requires { lane < 64 }
-    ensures decides { Decides (λ may. may) (start_told collector.now) parts.now lane result }
+    ensures { Decides (λ may. may) (start_told collector.now) parts.now lane result }
 {
     parts.idle_in(lane)?;
     if let Some(other) = collector {

@@ -35,10 +35,11 @@ use Rattle.store_stops.specs.Stops.{Gives, IfRefused}
 use Rattle.snapshot_files.specs.Reads.{StopHasText}
 use Rattle.core_reader.specs.AnsweredBy.{ActReads, bytes_told}
 use Rattle.core_reader.specs.Asked.{as_range}
-use Rattle.core_reader.specs.Damages.{MayNeed, TellsDamaged, damage_in}
+use Rattle.core_state.specs.Damages.{TellsDamaged}
+use Rattle.core_reader.specs.Damages.{MayNeed, damage_in}
 use Rattle.core_reader.specs.Chunks.{IsUnrefused}
 use Rattle.core_reader.specs.Ranges.{RangeAsked, RangeRefuses, RefusesAsked, StandsAsked, range_asked, range_place, range_told, range_with}
-use Rattle.core_reader.proofs.Damaging.{damages_failed, damages_none, damages_told}
+use Rattle.core_state.proofs.DamageLemmas.{damages_failed, damages_none, damages_told}
 use Rattle.core_reader.proofs.Ranging.{asked_refuses, asked_unplaced, range_given, range_is, range_refused, range_stands, refuses_asked}
 use Rattle.core_reader.proofs.ReadTold.{stop_told}
 use Rattle.core_reader.proofs.Telling.{Tells, tells_by}

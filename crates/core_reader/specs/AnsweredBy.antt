@@ -24,7 +24,6 @@ use Rattle.core_reader.specs.Asked.{index_of, place_of, to_open}
 use Rattle.core_reader.specs.Chunks.{bytes_at}
 use Rattle.core_reader.specs.Entries.{entry_by}
 use Rattle.core_reader.specs.Ranges.{range_told}
-use Rattle.core_reader.specs.ReaderActs.{CoreOpens}
 
 -- the snapshot is to be read and whole, or the refusal
 abbrev pub reader_told : List ℕ → KeptAt → Result Reply Refusal
@@ -54,26 +53,3 @@ pub record ActOpens {D : Type 0} (snapshot : List ℕ) (old new : Parts D) (at :
 -- a read is answered by what stands on an honest disk, whatever it holds
 abbrev pub ActReads : {D : Type 0} → Ghosts D → (Files → FromState) → Parts D → Place → Result Reply Stop → Type 0
 ActReads d wanted old at result = d.honest old.disk → ActTells (wanted (d.content old.disk)) old at result
-
--- so are these of the acts of readers
-abbrev pub ActAnswersBy : {D : Type 0} → Ghosts D → Parts D → Parts D → Place → Act → Result Reply Stop → Type 0
-ActAnswersBy d old new at (Plain (OpenReader snapshot)) result = ActOpens snapshot old new at result
-ActAnswersBy d old new at (Plain (Range file offset len)) result = ActReads d (bytes_told file offset len) old at result
-ActAnswersBy d old new at (ReadFile name offset) result = ActReads d (part_told name offset) old at result
-ActAnswersBy d old new at (ReadChunk name entry) result = ActReads d (chunk_told name entry) old at result
-ActAnswersBy d old new at act result = Unit {0}
-
--- and the core's answers
-pub record CoreOpensBy {D E C : Type 0} (snapshot : List ℕ) (old new : Core D E C) (lane : ℕ) (answer : Answer) : Type 0 where
-  pub answers : CoreTells (reader_told snapshot) old lane answer
-  pub opened : CoreOpens new lane (Plain (OpenReader snapshot)) answer
-
-abbrev pub CoreReads : {D E C : Type 0} → Ghosts D → (Files → FromState) → Core D E C → ℕ → Answer → Type 0
-CoreReads d wanted old lane answer = d.honest (old.parts).disk → CoreTells (wanted (d.content (old.parts).disk)) old lane answer
-
-abbrev pub CoreAnswersBy : {D E C : Type 0} → Ghosts D → Core D E C → Core D E C → ℕ → Act → Answer → Type 0
-CoreAnswersBy d old new lane (Plain (OpenReader snapshot)) answer = CoreOpensBy snapshot old new lane answer
-CoreAnswersBy d old new lane (Plain (Range file offset len)) answer = CoreReads d (bytes_told file offset len) old lane answer
-CoreAnswersBy d old new lane (ReadFile name offset) answer = CoreReads d (part_told name offset) old lane answer
-CoreAnswersBy d old new lane (ReadChunk name entry) answer = CoreReads d (chunk_told name entry) old lane answer
-CoreAnswersBy d old new lane act answer = Unit {0}

@@ -20,6 +20,7 @@ use Rattle.store_history.specs.declared.act.Act.TheVariants.{Plain, ReadChunk}
 use Rattle.store_history.specs.declared.act.Answer.{Answer}
 use Rattle.restore_reader.specs.Steps.{is_allowed}
 use Rattle.chunk_store.specs.Pieces.{found_at}
+use Rattle.core_state.specs.Damages.{TellsDamaged}
 use Rattle.core_state.specs.Kept.{KeptAt, kept_at}
 use Rattle.core_state.specs.declared.kept.Session.{Session}
 use Rattle.core_state.specs.declared.kept.Session.TheVariants.{Reader}
@@ -90,20 +91,7 @@ MayName (Plain (Range file offset len)) k digest = MayNeed (range_asked file off
 MayName (ReadChunk name entry) k digest = Unit {0}
 MayName act k digest = ⊥
 
--- A chunk that the answer needs is told to be damaged. On an honest disk, whatever it holds, that is so exactly where one is, or, in a
--- range, has another length than the index says, before a page is unreadable, of the first such, with what is found there: want of memory
--- and faults of the disk, which have kinds of their own, apart.
-pub record TellsDamaged {D : Type 0} (d : Ghosts D) (disk : D) (may_name : Digest32 → Type 0) (damage : Files → Option (Digest32 × ChunkFault)) (kind : ℕ) (reply : Option Reply) : Type 0 where
-  pub named : (digest : Digest32) (found : ChunkFault) → reply ≡ Some (Refused (Damaged digest found)) → may_name digest
-  pub cause : (digest : Digest32) (found : ChunkFault) → reply ≡ Some (Refused (Damaged digest found)) → d.honest disk → damage (d.content disk) ≡ Some (digest, found)
-  pub damaged : (digest : Digest32) (found : ChunkFault) → kind ≡ COMMAND_KIND → d.honest disk → damage (d.content disk) ≡ Some (digest, found) → reply ≡ Some (Refused (Damaged digest found))
-
--- the same of an act, by how its command ended
+-- a chunk that it needs is told to be damaged so, by how its command ended
 abbrev pub ActDamaged : {D : Type 0} → Ghosts D → Parts D → Place → Act → Result Reply Stop → Type 0
 ActDamaged d old at act result =
     TellsDamaged d old.disk (MayName act (kept_at old at.lane)) (damage_by act (kept_at old at.lane)) (kind_by (told result)) (Some (reply_by (told result)))
-
--- and by the core's answer
-abbrev pub CoreDamaged : {D E C : Type 0} → Ghosts D → Core D E C → ℕ → Act → Answer → Type 0
-CoreDamaged d old lane act answer =
-    TellsDamaged d (old.parts).disk (MayName act (kept_at old.parts lane)) (damage_by act (kept_at old.parts lane)) (answer.entry).kind answer.reply

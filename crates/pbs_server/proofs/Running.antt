@@ -9,7 +9,6 @@ use Rattle.port_traits.specs.declared.clock.Clock as clocks
 use Rattle.port_traits.specs.declared.source.Source as sources
 use Rattle.port_traits.specs.declared.sink.Sink as sinks
 use Rattle.store_types.specs.declared.order.Entry.{Entry}
-use Rattle.store_history.specs.CrashPoints.{last_calls}
 use Rattle.store_history.specs.declared.act.Event.{Event}
 use Rattle.store_history.specs.History.{Opening, entry, entries, kind, moment}
 use Rattle.store_history.specs.Woven.{AreLanes}
@@ -20,7 +19,7 @@ use Rattle.core_state.specs.Records.{Reaches, Records}
 use Rattle.store_history.specs.RemoteDisk.{failed_reads, faults_of}
 use Rattle.core_opening.specs.Opening.{RecordsOpened}
 use Rattle.seat_history.specs.Lanes.{LastsAreWants}
-use Rattle.shared_store.specs.Comes.{IsFresh, with_events}
+use Rattle.shared_store.specs.Comes.{IsFresh, with_events, last_calls}
 use Rattle.store_history.specs.declared.port.LaneReport.{LaneReport}
 use Rattle.store_history.specs.declared.port.Port.{Port}
 use Rattle.lane.specs.Entries.{has_kind}

@@ -7,7 +7,7 @@ use Rattle.port_traits.specs.declared.sink.Sink as sinks
 use Rattle.port_traits.specs.declared.source.Source as sources
 use Rattle.port_traits.specs.Readings.{Readings}
 use Rattle.disk_trait.specs.Files.{Files}
-use Rattle.std.specs.List.{All}
+use Rattle.std.specs.List.{All, last_or}
 use Rattle.store_types.specs.Names.{IsKey}
 use Rattle.store_types.specs.declared.order.Entry.{Entry}
 use Rattle.store_types.specs.declared.order.TheConstants.{FAULT_KIND}
@@ -20,7 +20,6 @@ use Rattle.store_model.specs.AdminSteps.{list_row}
 use Rattle.store_model.specs.Store.{Store}
 use Rattle.store_model.specs.Weave.{Woven, weave}
 use Rattle.core_state.specs.Saving.{text_of_book}
-use Rattle.store_history.specs.CrashPoints.{last_calls}
 use Rattle.store_history.specs.declared.act.Event.{Event}
 use Rattle.store_history.specs.History.{Opening, World, opened, after, after_all, moved, entries, sent, kind, kind_of, EntryKind, step_kind, pass_kind, short_kind, start_kind, close_kind, fault_kind, end_kind, remote_kind, no_kind}
 use Rattle.store_history.specs.LaneRun.{plain_text}
@@ -44,7 +43,7 @@ use Rattle.core_state.specs.Recovers.{Recovers, TellsMoments}
 use Rattle.snapshot_files.specs.Leaving.{IsFileOf, IsLeaving, Cleans}
 use Rattle.core_opening.specs.Opening.{HasBook, TouchesOpened, RecoversOpened, StandsOpened}
 use Rattle.store_history.specs.Opened.{opening_of}
-use Rattle.shared_store.specs.Comes.{with_events}
+use Rattle.shared_store.specs.Comes.{with_events, last_calls}
 use Rattle.store_history.specs.declared.port.LaneReport.{LaneReport}
 use Rattle.store_history.specs.declared.port.Port.{Port}
 use Rattle.lane.specs.Entries.{has_kind}
@@ -163,13 +162,18 @@ same_store o R since now is_honest runs events order not_saved reports before fi
     ap (λ (w : Woven). w.store) (woven_is (weave (load before) R order (inputs_of runs) (endings_of reports)) (record { store = s; replies = map plain_text (told_by runs) })
     (record { store = p.store; replies = map plain_text (told_by runs) }) is p.woven)
 
+-- the last of the numbers beside the entries
+last_called : (calls : ℕ) (es : List Event) → last_or (Some calls) (map (λ e. e.calls) es) ≡ Some (last_calls calls es)
+last_called calls [] = refl
+last_called calls (v ∷ vs) = last_called v.calls vs
+
 -- what the sessions did on any disk, and on an honest one, which was opened at a moment; and the snapshots that the core then keeps
 pub record HasBoth {D E S K : Type 0} (d : Ghosts D) (e : Ghosts E) (source : sources.Ghosts S) (sink : sinks.Ghosts K) (clock : Option Readings) (remote remote' : Option E) (start : ℕ) (disk opened last : D)
     (old new : List (Port S K)) (order : List Entry) (calls : List ℕ) (not_saved : Option DiskError) (reports : List LaneReport) (listed : List Listed) : Type 0 where
   pub told : HasTold clock source sink old new order calls reports
   pub since_is : d.honest disk → told.since ≡ (saved_book (d.content opened)).moment
   pub halted : has_kind 5 order ≡ true → not_saved ≡ None
-  pub rests : SavesSince d (last_calls (d.calls opened) told.events) last
+  pub rests : SavesSince d (last_or (Some (d.calls opened)) calls) last
   pub saved : d.honest disk → has_kind 5 order ≡ false → not_saved ≡ None → HasBookOf (d.content last) (moment_after told.since told.events)
   pub plain : (L : List Snapshot) (R : Option (List Snapshot)) → IsBeside e remote R told.events → d.honest disk → Stands (d.content disk) L → NoClash (chunk_pieces (d.content disk) ++ sent told.events)
       → IsPlain (opening_of d disk opened L) R told.since (d.calls last) (d.honest last) told.runs told.events order not_saved reports (d.content disk) (d.content last)
@@ -208,8 +212,13 @@ has_both d e source sink readings clock disk remote first core saved old new ord
       let failed : IsSome core.fault = subst (λ (o : Option ℕ). IsSome o) (sym r.fault) (five_fails 0 None events (sym (ap (has_kind 5) order_is) ∙ five)) in
       let both : (saved ≡ core) × (not_saved ≡ None) = halted_by core.fault failed ends.halted in
       both.1;
-  rests = subst (SavesSince d (last_calls (d.calls (first.parts).disk) events)) (sym disk_as)
-      (record { rested = (core.parts).disk; calls_are = at_rest; later = let on = ends.later in omega (arith, at_rest, on); text = text_of_book core; leaves = ends.crash });
+  rests = subst (SavesSince d (last_or (Some (d.calls (first.parts).disk)) calls)) (sym disk_as) (record {
+    rested = (core.parts).disk;
+    calls_are = ap (last_or (Some (d.calls (first.parts).disk))) (calls_as ∙ ap (λ x. (x.journal).calls.items) ends.rest ∙ r.calls) ∙ last_called (d.calls (first.parts).disk) events ∙ ap (λ n. Some n) (sym at_rest);
+    later = ends.later;
+    text = text_of_book core;
+    leaves = ends.crash;
+  });
   saved = λ honest five none. subst (λ x. HasBookOf (d.content x) (moment_after first.last events)) (sym disk_as)
       (book_of d core saved not_saved ends (r.fault ∙ no_five 0 events (sym (ap (has_kind 5) order_is) ∙ five)) none (kept honest) (moment_after first.last events) r.last);
   plain = λ L R beside honest stands clear.

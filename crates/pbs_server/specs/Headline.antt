@@ -20,7 +20,7 @@ use Rattle.store_model.specs.Weave.{weave}
 use Rattle.disk_trait.specs.Effects.{LeavesBy}
 use Rattle.file_install.specs.Install.{Installs}
 use Rattle.store_files.specs.Book.{Book, book_text}
-use Rattle.store_history.specs.CrashPoints.{last_calls}
+use Rattle.std.specs.List.{last_or}
 use Rattle.store_history.specs.declared.act.Event.{Event}
 use Rattle.store_history.specs.History.{Opening, opened, after_all, entries, sent}
 use Rattle.store_history.specs.LaneRun.{plain_text}
@@ -125,10 +125,10 @@ HasBookOf files moment = (b : Book) × (get files book_name ≡ Some (book_text 
 
 -- All that was done to a disk since its count of calls was this is that the book was put, or was to be: what a crash leaves is of the disk as
 -- it was then, or has this book.
-pub record SavesSince {D : Type 0} (d : Ghosts D) (calls : ℕ) (result : D) : Type 0 where
+pub record SavesSince {D : Type 0} (d : Ghosts D) (calls : Option ℕ) (result : D) : Type 0 where
   pub rested : D
-  pub calls_are : d.calls rested ≡ calls
-  pub later : calls ≤ d.calls result
+  pub calls_are : calls ≡ Some (d.calls rested)
+  pub later : d.calls rested ≤ d.calls result
   pub text : List ℕ
   pub leaves : LeavesBy d rested result (Installs (d.content rested) book_name text)
 
@@ -161,8 +161,8 @@ pub record HasServed {D E S K : Type 0} (d : Ghosts D) (e : Ghosts E) (source : 
   pub order : IsOrder (length old) (result.order).items ((result.report).calls).items (d.faults disk) (d.faults result.disk) (faults_of e remote) (faults_of e result.remote)
   pub save : SaveIsTold (result.order).items (result.report).not_saved (d.faults disk) (d.faults result.disk)
   pub faults : d.faults disk ≤ d.faults result.disk
-  -- the number beside the last entry is the disk's count as that act was answered
-  pub rests : SavesSince d (last_calls (d.calls opened) told.events) result.disk
+  -- the number beside the last entry is the disk's count as that act was answered, and nothing but the book came behind it
+  pub rests : SavesSince d (last_or (Some (d.calls opened)) ((result.report).calls).items) result.disk
   -- whatever it holds, a disk is honest still where it was, and where no call of it failed and its book was saved, it has one of the last moment
   pub kept : d.honest disk ↔ d.honest result.disk
   pub saved : d.honest disk → has_kind 5 (result.order).items ≡ false → (result.report).not_saved ≡ None → HasBookOf (d.content result.disk) (moment_after told.since told.events)

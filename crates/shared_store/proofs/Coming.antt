@@ -11,7 +11,6 @@ use Rattle.store_model.specs.Weave.{first_fault}
 use Rattle.store_history.specs.declared.act.Act.{Act}
 use Rattle.store_history.specs.declared.act.Answer.{Answer}
 use Rattle.store_history.specs.declared.act.Event.{Event}
-use Rattle.store_history.specs.CrashPoints.{last_calls}
 use Rattle.store_history.specs.History.{entry, entries}
 use Rattle.turn_lock.specs.State.{SeatState, seat_after_pass}
 use Rattle.core_state.specs.declared.parts.Parts.{Parts}
@@ -22,7 +21,7 @@ use Rattle.core_state.specs.History.{History, event_of}
 use Rattle.core_state.specs.Records.{Reaches}
 use Rattle.core_state.proofs.Reaching.{reaches_first, reaches_more}
 use Rattle.shared_store.specs.Applied.{ActsOn, HasActed, HasApplied}
-use Rattle.shared_store.specs.Comes.{AreAnswered, ComesTo, IsFresh, SameCore, with_events}
+use Rattle.shared_store.specs.Comes.{AreAnswered, ComesTo, IsFresh, SameCore, last_calls, with_events}
 use Rattle.shared_store.proofs.Reserving.{reserved_reaches}
 
 no_events : (h : History) → h.events ≡ [] → with_events h [] ≡ h

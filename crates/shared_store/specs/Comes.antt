@@ -5,7 +5,6 @@ use Rattle.std.specs.Prelude.{ℕ, ◌≡◌, ◌≤◌, ◌<◌, ◌^◌, ◌�
 use Rattle.port_traits.specs.declared.clock.Clock as clocks
 use Rattle.turn_lock.specs.State.{SeatState, TableId}
 use Rattle.store_history.specs.declared.act.Event.{Event}
-use Rattle.store_history.specs.CrashPoints.{last_calls}
 use Rattle.store_history.specs.History.{entries}
 use Rattle.core_state.specs.declared.state.Core.{Core}
 use Rattle.core_state.specs.Entering.{SameEntries}
@@ -24,6 +23,11 @@ CanAct turn seat = (seat.turn ≡ turn) × (seat.holding ≡ false)
 
 abbrev pub with_events : History → List Event → History
 with_events h events = record h { events = events }
+
+-- the disk's count of calls as the last of these events was answered, or where there is none this one
+abbrev pub last_calls : ℕ → List Event → ℕ
+last_calls calls [] = calls
+last_calls calls (v ∷ vs) = last_calls v.calls vs
 
 -- From a first core, which recorded a history without events, the core came to these events. Whatever history without events the first core
 -- recorded, the core reaches that one with these events: it records it, and stands for it where the first core stood for its own. The

@@ -12,11 +12,6 @@ abbrev pub answered_by : ℕ → List Event → ℕ
 answered_by t [] = 0
 answered_by t (e ∷ es) = if nat_le e.calls t then answered_by t es + 1 else 0
 
--- the disk's count of calls as the last of these events was answered, or where there is none this one
-abbrev pub last_calls : ℕ → List Event → ℕ
-last_calls calls [] = calls
-last_calls calls (v ∷ vs) = last_calls v.calls vs
-
 -- what the event's act gives where it meets no fault
 abbrev pub undisturbed : Option (List Snapshot) → World → Event → Store
 undisturbed remote w e = (answered w.store (act_outcome remote w (lane e) (moment e) e.act)).0

@@ -18,7 +18,8 @@ use Rattle.core_reader.specs.Asked.{as_entry, asked_entry}
 use Rattle.core_reader.specs.Chunks.{GivesBytes, StopsAt}
 use Rattle.core_reader.specs.Damages.{asked_damage}
 use Rattle.core_reader.specs.NotesEntry.{is_found}
-use Rattle.core_reader.proofs.Damaging.{damages_found, damages_none, damages_unread}
+use Rattle.core_state.proofs.DamageLemmas.{damages_none, damages_unread}
+use Rattle.core_reader.proofs.Damaging.{damages_found}
 use Rattle.core_reader.proofs.Loads.{at_called, at_text}
 use Rattle.core_reader.proofs.ReadEntry.{bytes_given, bytes_short, chunk_answers, chunk_refuses, chunk_unnamed, damage_none, damage_told, damage_unread, entry_asked, entry_error_answers, entry_given, entry_got, entry_refused, entry_refused_by, entry_stop, entry_undamaged, entry_unnamed, entry_unplaced, gives_so, none_stops, part_no_damage, place_no_damage, tells_readable, tells_unloaded, unread_undamaged}
 use Rattle.core_reader.proofs.ReadPart.{place_is, place_stops, place_text}
