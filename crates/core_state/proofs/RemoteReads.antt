@@ -26,6 +26,7 @@ use Rattle.core_state.specs.declared.parts.Parts.{Parts}
 use Rattle.core_state.specs.declared.state.Core.{Core}
 use Rattle.store_stops.specs.declared.stop.Stop.{Stop}
 use Rattle.store_stops.specs.declared.stop.Stop.TheVariants as stops
+use Rattle.store_history.specs.Answered.{fault_after}
 use Rattle.core_state.specs.Answers.{ClassHasCause, EndHasCause, HasCause, IsAnswered, IsCaused, ReachHasCause, StartHasCause, StepHasCause, done, end_failed, ended as has_ended, failed, halted, reach_as_any, reach_failed, reach_reads, short, start_as_any, start_opens, step_as_any, step_ends, step_passes}
 use Rattle.core_state.specs.Applies.{ActApplies, ActKeeps, CoreApplies}
 use Rattle.core_state.specs.Begins.{AdmittedHasText, IsBegun, IsNotShort, IsReady, Refuses}
@@ -247,7 +248,7 @@ module _ {D E C : Type 0} (d : Ghosts D) (e : Ghosts E) (clock : clocks.Ghosts C
       entered_answered d old acted new k m n (Some (reply_by ended)) answer settles (b.entries).entries (b.entries).calls (fit_text act ended fit)
       (b.fault ∙ ready.no_fault ∙ sym (unfaulted ended)) (let x = ap (λ p. d.faults p.disk) b.parts in omega (arith, x)) (same_honest d _ _ (ap (λ p. p.disk) b.parts)) (λ five. absurd ((kind_calm ended).1 five))
     where
-      unfaulted : (r : Result Reply Stop) → Rattle.core_state.specs.Answers.fault_after (length (old.journal).entries.items) (kind_by r) old.fault ≡ None
+      unfaulted : (r : Result Reply Stop) → fault_after (length (old.journal).entries.items) (kind_by r) old.fault ≡ None
       unfaulted (Ok reply) = ready.no_fault
       unfaulted (Err (stops.Refused refusal)) = ready.no_fault
       unfaulted (Err stops.NoMemory) = ready.no_fault
