@@ -6,10 +6,10 @@ import fcntl, hashlib, os, random, struct, subprocess, sys, time
 from datetime import datetime, timedelta, timezone
 
 TOP = os.path.dirname(os.path.dirname(os.path.abspath(__file__)))
-sys.path.insert(0, os.path.join(TOP, "examples"))
-from session import APPEND_LIMIT, MANIFEST, append_digests, blob, bye, chunk_as, close_index, close_reader, download, dynamic_csum
-from session import dynamic_index, entries_of, finish, frame, listed, manifest, new_dynamic, open_reader, open_writer, previous
-from session import put_manifest, sha256
+sys.path.insert(0, os.path.join(TOP, "client"))
+from pbclient.session import APPEND_LIMIT, MANIFEST, append_digests, blob, bye, chunk_as, close_index, close_reader, download, dynamic_csum
+from pbclient.session import dynamic_index, entries_of, finish, frame, listed, manifest, new_dynamic, open_reader, open_writer, previous
+from pbclient.session import put_manifest, sha256
 
 MIB = 1 << 20
 INDEX = "root.didx"

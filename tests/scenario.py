@@ -1,5 +1,6 @@
-"""Scenarios as the program `scenarios` reads them, from the words of `examples/session.py`. docs/SCENARIOS.md has the form."""
-import io, re, session
+"""Scenarios as the program `scenarios` reads them, from the words of `client/pbclient/session.py`. docs/SCENARIOS.md has the form."""
+import io, re
+from pbclient import session
 from tables.common import NOW, order
 
 COMMANDS = (

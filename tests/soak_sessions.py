@@ -5,8 +5,8 @@ All that is drawn goes by one random.Random, so that a run can be made again.
 import os, sys
 from datetime import datetime, timezone
 
-sys.path.insert(0, os.path.join(os.path.dirname(os.path.dirname(os.path.abspath(__file__))), "examples"))
-import session as s
+sys.path.insert(0, os.path.join(os.path.dirname(os.path.dirname(os.path.abspath(__file__))), "client"))
+from pbclient import session as s
 
 DAY = 24 * 60 * 60
 # Where the time of the first snapshots is, in seconds since 1970.

@@ -1,6 +1,6 @@
 """Backups that several files of scenarios begin with."""
 from scenario import *
-from session import *
+from pbclient.session import *
 from tables.common import *
 
 DONE = done()

@@ -1,5 +1,5 @@
 """Snapshots, pieces and files that several tables have."""
-from session import *
+from pbclient.session import *
 
 A = "host/a/2020-01-15T06:30:03Z"
 A_LATER = "host/a/2020-01-15T06:30:04Z"

@@ -1,5 +1,5 @@
 """The store's acts over a disk in memory: frames of replies, and files that stand on the disk."""
-from session import *
+from pbclient.session import *
 from tables.common import *
 
 # Pieces of the first snapshot's archive.

@@ -1,5 +1,5 @@
 """Blobs, frames, commands and replies, indexes, manifests, the book and the order file, each byte by byte."""
-from session import *
+from pbclient.session import *
 from tables import generated
 from tables.common import *
 

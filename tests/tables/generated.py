@@ -1,5 +1,5 @@
 """The sessions that the program makes itself, by the rules of their pieces and commands alone."""
-from session import *
+from pbclient.session import *
 
 ARCHIVE = "root.didx"
 # The reading of the clock, which stands.

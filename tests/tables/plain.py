@@ -1,5 +1,5 @@
 """The plain store: what lanes send and are told, the files of a datastore that is loaded, and jobs step by step."""
-from session import *
+from pbclient.session import *
 from tables.common import *
 
 

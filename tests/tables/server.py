@@ -1,6 +1,6 @@
 """Sessions that want memory or whose ports fail, and long and large ones, by `serve`, and sessions on lanes, alone and at once: commands, and
 the replies that each must get."""
-from session import *
+from pbclient.session import *
 from tables import generated
 from tables.common import *
 

@@ -1,5 +1,5 @@
 """Sessions in memory, and chunks and files on a disk."""
-from session import *
+from pbclient.session import *
 from tables.common import *
 
 # Of a manifest of `host/a-b` that lists nothing.

@@ -17,7 +17,6 @@ use Rattle.core_state.specs.declared.state.Core.{Core}
 use Rattle.store_stops.specs.declared.stop.Stop.{Stop}
 use Rattle.store_stops.specs.declared.stop.Stop.TheVariants as stops
 use Rattle.core_state.specs.Begins.{IsAdmitted, Refuses, halted, short}
-use Rattle.core_state.specs.Indexed.{row_at}
 use Rattle.core_state.specs.FromState.{FromState, CoreTells}
 use Rattle.core_state.specs.Closing.{is_reader}
 use Rattle.core_state.specs.Settles.{Settles, reply_by}

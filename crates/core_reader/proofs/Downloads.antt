@@ -40,7 +40,7 @@ use Rattle.core_state.specs.Shown.{files_named, shown_reader, shown_session, sho
 use Rattle.store_history.specs.Replies.{refuses_download}
 use Rattle.store_stops.specs.Stops.{Gives, IfRefused}
 use Rattle.core_state.specs.Unreadables.{Asked, from_offset}
-use Rattle.core_state.specs.Wanted.{reader_in, session_at}
+use Rattle.core_state.specs.Wanted.{reader_in}
 use Rattle.store_stops.specs.declared.stop.Stop.{Stop}
 use Rattle.store_stops.specs.declared.stop.Stop.TheVariants.{Refused, NoMemory, DiskFailed}
 use Rattle.core_state.proofs.Commanding.{reader_shown, reader_wanted, refused_by_state}

@@ -14,7 +14,6 @@ use Rattle.core_state.specs.declared.pages.ReadPage.{ReadPage}
 use Rattle.core_state.specs.declared.parts.Parts.{Parts}
 use Rattle.core_state.specs.Commands.{LeavesRows}
 use Rattle.core_state.specs.Indexed.{FitsRanged, FitsRow, ranged_to, row_at, row_in, with_page}
-use Rattle.core_state.specs.Wanted.{session_at}
 use Rattle.core_state.proofs.Commanding.{KeepsFit}
 use Rattle.core_state.proofs.Sessions.{by_lane}
 use Rattle.core_reader.specs.NotesRange.{Keeps, KeepsLast, NotesRange}

@@ -17,13 +17,8 @@ use Rattle.wire_commands.specs.declared.command.Command.TheVariants.{Range}
 use Rattle.store_model.specs.Store.{Store}
 use Rattle.store_model.specs.Steps.{outcome}
 use Rattle.core_state.specs.Kept.{KeptAt, kept_at}
-use Rattle.core_state.specs.declared.indexes.Indexes.{Indexes}
-use Rattle.core_state.specs.declared.kept.Listed.{Listed}
-use Rattle.core_state.specs.declared.kept.Session.{Session}
 use Rattle.core_state.specs.declared.parts.Parts.{Parts}
 use Rattle.core_state.specs.Holds.{Holds}
-use Rattle.core_state.specs.Indexed.{row_at}
-use Rattle.core_state.specs.Wanted.{session_at}
 use Rattle.store_history.specs.Replies.{refuses_range, reply_told}
 use Rattle.core_state.specs.declared.entering.Place.{Place}
 use Rattle.wire_commands.specs.HasText.{ReplyHasText}

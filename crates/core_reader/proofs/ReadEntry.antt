@@ -46,8 +46,6 @@ use Rattle.core_state.specs.declared.indexes.Indexes.TheVariants.{Unread, Pooled
 use Rattle.core_state.specs.declared.indexes.OpenIndex.{OpenIndex}
 use Rattle.core_state.specs.declared.indexes.OpenPage.{OpenPage}
 use Rattle.store_files.specs.DynamicIndex.{Ended}
-use Rattle.core_state.specs.declared.kept.Listed.{Listed}
-use Rattle.core_state.specs.declared.kept.Session.{Session}
 use Rattle.core_state.specs.declared.parts.Parts.{Parts}
 use Rattle.store_stops.specs.declared.stop.Stop.TheVariants.{Refused, NoMemory, DiskFailed}
 use Rattle.core_state.specs.Found.{path_in}

@@ -22,8 +22,6 @@ use Rattle.snapshot_files.specs.Parts.{FillsPart, RefusesPart, part_at, part_fro
 use Rattle.snapshot_files.specs.declared.parts.FilePart.{FilePart}
 use Rattle.store_stops.specs.declared.stop.Stop.{Stop}
 use Rattle.core_state.specs.Kept.{KeptAt, kept_at}
-use Rattle.core_state.specs.declared.kept.Listed.{Listed}
-use Rattle.core_state.specs.declared.kept.Session.{Session}
 use Rattle.core_state.specs.declared.parts.Parts.{Parts}
 use Rattle.core_state.specs.Found.{path_in}
 use Rattle.core_state.specs.Holds.{Holds, Shows}

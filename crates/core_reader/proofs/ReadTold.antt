@@ -22,7 +22,6 @@ use Rattle.store_stops.specs.declared.stop.Stop.TheVariants.{Refused, NoMemory, 
 use Rattle.store_history.specs.Replies.{reply_told}
 use Rattle.core_state.specs.Stops.{told}
 use Rattle.store_stops.specs.Stops.{Gives}
-use Rattle.core_state.specs.Wanted.{session_at}
 use Rattle.core_state.proofs.FromState.{Stops, stopped}
 use Rattle.core_reader.specs.AnsweredBy.{ActReads, chunk_told, part_told}
 use Rattle.core_reader.specs.Asked.{index_of, place_of}

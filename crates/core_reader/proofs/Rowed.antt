@@ -22,7 +22,6 @@ use Rattle.core_state.specs.declared.parts.Parts.{Parts}
 use Rattle.core_state.specs.Commands.{keeps_row, row_stays}
 use Rattle.core_state.specs.Holds.{Holds}
 use Rattle.core_state.specs.Indexed.{FitsRow, FitsRows, row_at, row_in}
-use Rattle.core_state.specs.Wanted.{session_at}
 use Rattle.core_state.proofs.Rows.{rows_but, rows_put}
 use Rattle.core_state.proofs.Sessions.{by_lane}
 use Rattle.core_reader.specs.declared.entries.Turn.{Turn}

@@ -9,7 +9,6 @@ use Rattle.core_state.specs.Kept.{kept_at}
 use Rattle.core_state.specs.declared.indexes.Indexes.{Indexes}
 use Rattle.core_state.specs.declared.parts.Parts.{Parts}
 use Rattle.core_state.specs.Indexed.{row_at}
-use Rattle.core_state.specs.Wanted.{session_at}
 use Rattle.core_reader.specs.declared.entries.Turn.{Turn}
 use Rattle.core_reader.specs.Asked.{index_of}
 use Rattle.core_reader.specs.Entries.{IsTurn, ReadsTurn, turned}

@@ -39,7 +39,7 @@ use Rattle.core_state.specs.declared.parts.Parts.{Parts}
 use Rattle.core_state.specs.Chunks.{MayStand, AddsChunks}
 use Rattle.store_history.specs.ChunkFiles.{HasChunk}
 use Rattle.core_state.specs.Holds.{HasUploads, Holds, IsOnDisk, Shows}
-use Rattle.core_state.specs.Changes.{change_of, chunk_put, stores}
+use Rattle.core_state.specs.Changes.{by_writer, change_of, chunk_put, stores}
 use Rattle.core_state.specs.PassedTests.{PassesItsTests}
 use Rattle.core_state.specs.Wanted.{session_at, want_writer}
 use Rattle.core_state.specs.declared.kept.Listed.{Listed}

@@ -27,6 +27,5 @@ pub mod Stopping
 pub mod FinishLemmas
 pub mod AbortLemmas
 pub mod LaneEnds
-pub mod ActLemmas
-pub mod ActNotes
+pub mod Telling
 pub mod TouchLemmas

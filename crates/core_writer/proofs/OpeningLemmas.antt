@@ -22,7 +22,7 @@ use Rattle.store_model.specs.Store as model
 use Rattle.store_model.specs.Store.{Store, Writer, writer, session, with_session, Outcome, writes_group, group_holder, in_group, latest_in}
 use Rattle.store_model.specs.WriterSteps.{want_newer, new_writer, base_text, goes_on, open_writer}
 use Rattle.store_model.specs.Steps.{outcome}
-use Rattle.store_model.proofs.Done.{passed}
+use Rattle.store_model.proofs.Done.{ok_same, passed}
 use Rattle.store_model.proofs.GroupTimes.{newer_than_all}
 use Rattle.store_model.proofs.HeadLemmas.{idle_key_found}
 use Rattle.store_history.specs.declared.act.Act.TheVariants.{Plain}
@@ -182,12 +182,15 @@ module _ (kept : List Kept) (group : GroupKey) (time : ℕ) where
       by_latest None r e = absurd (ok_err tt r e)
       by_latest (Some key) r e = refuses_unless P (NotNewer key.time) (nat_lt key.time time) (newer key.time) r e
 
+abbrev with_key : SnapshotKey → Option SnapshotKey → Result (SnapshotKey × Option SnapshotKey) Refusal
+with_key key base = Ok (key, base)
+
 module _ (text : List ℕ) (k : KeptAt) where
   abbrev base_at : SnapshotKey → Result (Option SnapshotKey) Refusal
   base_at key = base_for k.locks k.catalogue k.lane key
 
   abbrev behind_key : SnapshotKey → Result (SnapshotKey × Option SnapshotKey) Refusal
-  behind_key key = base_at key >>= λ base. Ok (key, base)
+  behind_key key = base_at key >>= with_key key
 
   write_is : to_write text k ≡ (idle_key text k >>= behind_key)
   unfolding to_write
@@ -197,23 +200,22 @@ module _ (text : List ℕ) (k : KeptAt) where
   write_answers r e =
       let P : Refusal → Type 0 = λ q. IsTrue (may_answer (Plain (OpenWriter text)) (replies.Refused q)) in
       refuses_then P (idle_key text k) behind_key (idle_key_refuses P k text (λ state. refl) refl)
-      (λ key. refuses_then P (base_at key) (λ base. Ok (key, base)) (base_refuses _ _ _ P (λ lane. refl) (λ latest. refl) refl _) (λ base. refuses_none P (key, base))) r (sym write_is ∙ e)
+      (λ key. refuses_then P (base_at key) (with_key key) (base_refuses _ _ _ P (λ lane. refl) (λ latest. refl) refl _) (λ base. refuses_none P (key, base))) r (sym write_is ∙ e)
 
   -- what they have found
   pub write_found : (key : SnapshotKey) (base : Option SnapshotKey) → to_write text k ≡ Ok (key, base) → (idle_key text k ≡ Ok key) × (base_at key ≡ Ok base)
   write_found key base e = by_head (passed (idle_key text k) behind_key (key, base) (sym write_is ∙ e))
     where
-      same : (a b : SnapshotKey) (x y : Option SnapshotKey) → ◌≡◌ {A = Result (SnapshotKey × Option SnapshotKey) Refusal} (Ok (a, x)) (Ok (b, y)) → (a ≡ b) × (x ≡ y)
-      same a b x y e = (cc, cc)
-
-      by_base : (found : SnapshotKey) → idle_key text k ≡ Ok found → (of_base : Option SnapshotKey) × (base_at found ≡ Ok of_base) × (◌≡◌ {A = Result (SnapshotKey × Option SnapshotKey) Refusal} (Ok (found, of_base)) (Ok (key, base)))
+      by_base : (found : SnapshotKey) → idle_key text k ≡ Ok found → (of_base : Option SnapshotKey) × (base_at found ≡ Ok of_base) × (with_key found of_base ≡ Ok (key, base))
           → (idle_key text k ≡ Ok key) × (base_at key ≡ Ok base)
       by_base found head (of_base, at, e) =
-          let both = same found key of_base base e in
-          (head ∙ ap (λ y. Ok y) both.0, subst (λ y. base_at y ≡ Ok base) both.0 (at ∙ ap (λ y. Ok y) both.1))
+          let both : ◌≡◌ {A = SnapshotKey × Option SnapshotKey} (found, of_base) (key, base) = ok_same (found, of_base) (key, base) e in
+          let one : found ≡ key = ap (λ (p : SnapshotKey × Option SnapshotKey). p.0) both in
+          let two : of_base ≡ base = ap (λ (p : SnapshotKey × Option SnapshotKey). p.1) both in
+          (head ∙ ap (λ y. Ok y) one, subst (λ y. base_at y ≡ Ok base) one (at ∙ ap (λ y. Ok y) two))
 
       by_head : (found : SnapshotKey) × (idle_key text k ≡ Ok found) × (behind_key found ≡ Ok (key, base)) → (idle_key text k ≡ Ok key) × (base_at key ≡ Ok base)
-      by_head (found, head, e) = by_base found head (passed (base_at found) (λ x. Ok (found, x)) (key, base) e)
+      by_head (found, head, e) = by_base found head (passed (base_at found) (with_key found) (key, base) e)
 
   -- no other lane's writer has the group
   pub write_free : (key : SnapshotKey) (base : Option SnapshotKey) → to_write text k ≡ Ok (key, base) → other_holder k.locks k.lane (group_of_key key) ≡ None
@@ -226,7 +228,7 @@ module _ {D : Type 0} (parts : Parts D) (s : Store) (lane moment : ℕ) (text : 
   abbrev Refuses : Refusal → Type 0
   Refuses r = outcome s lane moment (OpenWriter text) ≡ Err r
 
-  by_base : (r : Refusal) (key : SnapshotKey) → model_heads.idle_key s lane text ≡ Ok key → (b : Result (Option SnapshotKey) Refusal) → base_at text k key ≡ b → (b >>= λ base. Ok (key, base)) ≡ Err r → Refuses r
+  by_base : (r : Refusal) (key : SnapshotKey) → model_heads.idle_key s lane text ≡ Ok key → (b : Result (Option SnapshotKey) Refusal) → base_at text k key ≡ b → (b >>= with_key key) ≡ Err r → Refuses r
   by_base r key head (Ok base) at e = absurd (ok_err (key, base) r e)
   by_base r key head (Err q) at e =
       refused s lane moment text key q head (tests_are parts s lane key (Err q) at (idle_key_found s lane text key head).0 shows) ∙ ap (λ x. Err x) (err_same {A = SnapshotKey × Option SnapshotKey} q r e)

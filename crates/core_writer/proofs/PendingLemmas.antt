@@ -39,7 +39,7 @@ use Rattle.core_state.specs.Shown.{shown_writer}
 use Rattle.store_stops.specs.Stops.{stop_of}
 use Rattle.core_state.specs.Unchanged.{SameKept}
 use Rattle.core_state.specs.Wanted.{session_at}
-use Rattle.core_state.proofs.Commanding.{act_does, failed_does, failed_leaves, refused_does, refused_leaves, short_does, short_leaves, writes_does, writes_leaves, writes_set}
+use Rattle.core_state.proofs.Commanding.{act_does, failed_does, failed_leaves, others_set, refused_does, refused_leaves, short_does, short_leaves, writes_does, writes_leaves, writes_set}
 use Rattle.core_state.proofs.LockLemmas.{locked_writes_on}
 use Rattle.core_state.proofs.NamedLemmas.{writer_named, writer_stays_named}
 use Rattle.core_state.proofs.Sessions.{at_lane}
@@ -213,4 +213,4 @@ module _ {D : Type 0} (d : Ghosts D) (old new : Parts D) (at : Place) (act : Act
           (λ s h. puts_no_chunk (d.content old.disk) (d.content new.disk) ((pending.found).session.writer).key n.file n.text act pending.path (put h.honest))
           (λ ends. absurd (false_true (sym goes_on ∙ ends)))
           (λ _. writes_set old new at.lane left lt l (ap is_writer (kept_is ∙ ap (with_pending n.file) pending.new_is)))
-          (rows_same old new.indexes.items at.lane act rows_are)
+          (rows_same old new.indexes.items at.lane act rows_are) (others_set old new at.lane left l)

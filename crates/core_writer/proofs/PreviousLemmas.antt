@@ -54,7 +54,7 @@ use Rattle.core_state.specs.declared.parts.Parts.{Parts}
 use Rattle.store_history.specs.ChunkFiles.{HasChunk}
 use Rattle.core_state.specs.Found.{kept_named, path_named, path_of_kept, path_in}
 use Rattle.core_state.specs.Holds.{IsOnDisk, Holds, Shows}
-use Rattle.core_state.specs.Commands.{IsNoRefusal}
+use Rattle.core_state.specs.Commands.{IsNoRefusal, OthersStay}
 use Rattle.core_state.specs.Settles.{kind_by, reply_by}
 use Rattle.core_state.specs.Stops.{told}
 use Rattle.store_stops.specs.Stops.{IfRefused, Gives}
@@ -789,9 +789,9 @@ module _ {D : Type 0} (d : Ghosts D) (parts : Parts D) (at : Place) (name : List
         stopped_leaves d parts new at act e result failed is read kept refl
         (stop_as (RefusesPart path) (λ r. is_uncalled r ≡ true → new.disk ≡ parts.disk) e (λ r k t. absurd (false_true (sym (refusal_called path r k) ∙ t))) kind) (λ closing. false_true closing)
 
-    pub given_leaves : (g : Given) → IsPart (part_reply g.part) → new.catalogue.listed ≡ parts.catalogue.listed → (left : Indexes) → new.indexes.items ≡ set parts.indexes.items at.lane left → ActLeaves d parts new at act (Ok (part_reply g.part))
-    given_leaves g kind c left rows =
-        writes_leaves d parts new at act (part_reply g.part) (part_plain (part_reply g.part) kind) refl (λ h. read.same h) read.crash tt c (λ admin. absurd (false_true admin)) (adds_same d parts new act (Ok (part_reply g.part)) read.same) (λ ends. absurd (false_true ends)) (λ writes. absurd (false_true writes)) (rows_but parts new.indexes.items at.lane act left refl rows)
+    pub given_leaves : (g : Given) → IsPart (part_reply g.part) → new.catalogue.listed ≡ parts.catalogue.listed → (left : Indexes) → new.indexes.items ≡ set parts.indexes.items at.lane left → OthersStay parts new at.lane → ActLeaves d parts new at act (Ok (part_reply g.part))
+    given_leaves g kind c left rows others =
+        writes_leaves d parts new at act (part_reply g.part) (part_plain (part_reply g.part) kind) refl (λ h. read.same h) read.crash tt c (λ admin. absurd (false_true admin)) (adds_same d parts new act (Ok (part_reply g.part)) read.same) (λ ends. absurd (false_true ends)) (λ writes. absurd (false_true writes)) (rows_but parts new.indexes.items at.lane act left refl rows) others
 
     -- memory is wanting for what was read
     pub unnoted_leaves : (result : Result Reply Stop) → IsErrAnd result (λ x. x ≡ NoMemory) → SameKept parts new → ActLeaves d parts new at act result

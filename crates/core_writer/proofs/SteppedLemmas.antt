@@ -17,7 +17,7 @@ use Rattle.store_history.specs.Replies.{may_answer}
 use Rattle.core_state.specs.Unchanged.{SameKept}
 use Rattle.core_state.specs.Wanted.{session_at}
 use Rattle.core_state.proofs.Rows.{rows_same}
-use Rattle.core_state.proofs.Commanding.{act_does, changed_does, changed_leaves, refused_does, refused_leaves, short_does, short_leaves, writes_set}
+use Rattle.core_state.proofs.Commanding.{act_does, changed_does, changed_leaves, others_set, refused_does, refused_leaves, short_does, short_leaves, writes_set}
 use Rattle.core_state.proofs.Sessions.{at_lane}
 use Rattle.core_writer.specs.Stepped.{StepsQuietly}
 use Rattle.core_writer.proofs.ArchiveLemmas.{goes_on}
@@ -51,7 +51,7 @@ module _ {D : Type 0} (d : Ghosts D) (old new : Parts D) (at : Place) (act : Act
   stepped_leaves change listed other on closing_not steps = by_result result steps
     where
       by_result : (x : Result Reply Stop) → Quietly x → ActLeaves d old new at act x
-      by_result (Ok reply) x = changed_leaves d old new at act reply disk x.plain change (c ∙ sym (listed reply)) other (λ ends. absurd (false_true (sym on ∙ ends))) (λ _. writes_set old new at.lane left lt l x.writes) (rows_same old new.indexes.items at.lane act rows)
+      by_result (Ok reply) x = changed_leaves d old new at act reply disk x.plain change (c ∙ sym (listed reply)) other (λ ends. absurd (false_true (sym on ∙ ends))) (λ _. writes_set old new at.lane left lt l x.writes) (rows_same old new.indexes.items at.lane act rows) (others_set old new at.lane left l)
       by_result (Err (Refused r)) x = refused_leaves d old new at act r (Err (Refused r)) refl disk (same_kept x.same) (λ closing. false_true (sym closing_not ∙ closing))
       by_result (Err NoMemory) x = short_leaves d old new at act (Err NoMemory) refl disk (same_kept x.same) (λ closing. false_true (sym closing_not ∙ closing))
       by_result (Err DiskFailed) x = absurd x.step

@@ -25,12 +25,3 @@ tells_base base = Ok (Base (base_text base))
 -- the text of the group's latest whole snapshot, or the refusal
 abbrev pub writer_told : List ℕ → KeptAt → Result Reply Refusal
 writer_told text k = to_write text k >>= λ b. tells_base b.1
-
--- of the acts of writers OPEN_WRITER alone is answered so
-abbrev pub ActAnswersBy : {D : Type 0} → Parts D → Place → Act → Result Reply Stop → Type 0
-ActAnswersBy old at (Plain (OpenWriter snapshot)) result = ActTells (writer_told snapshot) old at result
-ActAnswersBy old at act result = Unit {0}
-
-abbrev pub CoreAnswersBy : {D E C : Type 0} → Core D E C → ℕ → Act → Answer → Type 0
-CoreAnswersBy old lane (Plain (OpenWriter snapshot)) answer = CoreTells (writer_told snapshot) old lane answer
-CoreAnswersBy old lane act answer = Unit {0}

@@ -8,14 +8,15 @@ ghost use Rattle.store_types.specs.Chain.Refusing.{if_none};
 ghost use Rattle.store_types.specs.declared.refusal.Refusal.TheVariants.{GroupBusy};
 ghost use Rattle.wire_commands.specs.declared.command.Command.TheVariants.{OpenWriter};
 ghost use Rattle.store_model.specs.WriterSteps.{base_text as text_of_base};
-ghost use Rattle.store_history.specs.declared.act.Act.TheVariants.{Plain};
 ghost use Rattle.core_state.specs.Commands.{PlainDoes, PlainLeaves};
 ghost use Rattle.core_state.specs.Decides.{Decides};
 ghost use Rattle.core_state.specs.Found.{lent_key};
+ghost use Rattle.core_state.specs.FromState.{ActTells};
 ghost use Rattle.store_history.specs.Replies.{refuses_writer};
-ghost use Rattle.core_writer.specs.AnsweredBy.{ActAnswersBy};
+ghost use Rattle.core_writer.specs.AnsweredBy.{writer_told};
 ghost use Rattle.core_writer.specs.Opened.{LendsBase, TakesBase, base_on, begins_with, other_holder, to_write as base_to_write};
 ghost use Rattle.core_writer.specs.Stopping.{RefusesBy};
+ghost use Rattle.core_writer.specs.Words.{TakesLocks};
 
 use crate::testing::{want_newer, want_room};
 use core_state::{Catalogue, Parts, Place, Session, Writing};
@@ -143,7 +144,8 @@ pub fn open_writer<D: Disk>(
     ensures does { PlainDoes D.Disk parts.old parts.new at (OpenWriter snapshot.now) result }
     ensures leaves { PlainLeaves D.Disk parts.old parts.new at (OpenWriter snapshot.now) result }
     // on any disk
-    ensures from_state { ActAnswersBy parts.old at (Plain (OpenWriter snapshot.now)) result }
+    ensures from_state { ActTells (writer_told snapshot.now) parts.old at result }
+    ensures locks { TakesLocks parts.old parts.new at.lane result }
 {
     let begun = to_write(parts, alloc, at.lane, snapshot)?;
     take_locks(&mut parts.locks, at.lane, &begun)?;

@@ -2,12 +2,10 @@ use Rattle.std.proofs.Common.{Some, refl, sym, subst}
 use Rattle.store_history.proofs.Families.{reads_formed, reads_step, reads_untouching}
 use Rattle.core_state.specs.Kept.{kept_at}
 use Rattle.core_state.specs.Begins.{IsReady}
-use Rattle.core_state.specs.Indexed.{row_at}
 use Rattle.core_state.specs.Settles.{reply_by}
 use Rattle.core_state.specs.Stops.{told}
 use Rattle.core_state.specs.Unreadables.{TellsUnreadable}
 use Rattle.core_state.specs.Upkeeps.{touches_kept}
-use Rattle.core_state.specs.Wanted.{session_at}
 use Rattle.core_state.proofs.Applying.{refused_applies, refused_keeps_all, done_applies, done_keeps_all}
 use Rattle.core_state.proofs.Touching.{untouched}
 use Rattle.core_state.proofs.Unreadables.{tells_refused, tells_done}

@@ -16,7 +16,6 @@ use Rattle.core_state.specs.Named.{is_named}
 use Rattle.core_state.specs.declared.kept.Session.TheVariants.{Idle}
 use Rattle.std.proofs.lemmas.List.{get_or_default}
 use Rattle.core_state.specs.Unreadables.{Asked, from_offset}
-use Rattle.core_state.specs.Wanted.{session_at}
 use Rattle.core_state.proofs.Asking.{uncalled}
 use Rattle.core_state.proofs.Commanding.{read_does, read_leaves, reads_none, same_kept, stopped_does, writes_does}
 use Rattle.core_state.proofs.NamedLemmas.{list_all-set, list_all-at}

@@ -1,4 +1,4 @@
-use Rattle.std.proofs.Common.{◌≡◌, ◌<◌, ◌∙◌, refl, sym, ap, arith, length, get_or-set_same, [], Ok, Result}
+use Rattle.std.proofs.Common.{◌<◌, refl, sym, ap, arith, length, get_or-set_same, [], Ok, Result}
 use Rattle.store_types.specs.declared.names.SnapshotKey.{SnapshotKey}
 use Rattle.store_types.specs.declared.refusal.Refusal.{Refusal}
 use Rattle.store_types.specs.Chain.Refusing.{◌>>=◌}

@@ -3,8 +3,6 @@ use Rattle.std.specs.declared.alloc.Global.{Global}
 use Rattle.wire_commands.specs.declared.command.Command.TheVariants.{Range}
 use Rattle.store_history.specs.declared.act.Act.TheVariants.{Plain}
 use Rattle.core_state.specs.Kept.{kept_at}
-use Rattle.core_state.specs.Indexed.{row_at}
-use Rattle.core_state.specs.Wanted.{session_at}
 use Rattle.core_state.proofs.Commanding.{read_leave_on, read_on, stopped_does, stopped_leaves}
 use Rattle.core_state.proofs.Texts.{data_has_text}
 use Rattle.core_reader.specs.Ranges.{range_asked}

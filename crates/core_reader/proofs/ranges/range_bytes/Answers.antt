@@ -6,8 +6,7 @@ use Rattle.restore_reader.specs.Steps.{range_plan}
 use Rattle.wire_commands.specs.declared.command.Command.TheVariants.{Range}
 use Rattle.store_history.specs.declared.act.Act.TheVariants.{Plain}
 use Rattle.core_state.specs.Kept.{kept_at}
-use Rattle.core_state.specs.Indexed.{ranged_of, row_at}
-use Rattle.core_state.specs.Wanted.{session_at}
+use Rattle.core_state.specs.Indexed.{ranged_of}
 use Rattle.core_state.proofs.Rows.{rows_but}
 use Rattle.core_reader.specs.declared.paging.RangeRead.{RangeRead}
 use Rattle.core_reader.specs.declared.ranges.AskedIndex.{AskedIndex}

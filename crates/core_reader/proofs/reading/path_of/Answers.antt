@@ -1,7 +1,6 @@
 use Rattle.std.proofs.Common.{◌≡◌, ◌∙◌, ap, sym, Ok, Some, None, rules}
 use Rattle.core_state.specs.Kept.{kept_at}
 use Rattle.core_state.specs.Found.{path_in}
-use Rattle.core_state.specs.Wanted.{session_at}
 use Rattle.core_state.proofs.Commanding.{gives_by}
 use Rattle.core_reader.proofs.ReadPart.{place_absent, place_there, place_unread}
 use Rattle.core_reader.proofs.reading.path_of.Goals as goal

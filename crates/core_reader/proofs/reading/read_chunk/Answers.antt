@@ -9,7 +9,6 @@ use Rattle.store_history.specs.declared.act.Act.TheVariants.{ReadChunk}
 use Rattle.blob_codec.specs.Blob.{blob_limit}
 use Rattle.disk_trait.proofs.OnlyReading.{reads_then}
 use Rattle.core_state.specs.Kept.{kept_at}
-use Rattle.core_state.specs.Wanted.{session_at}
 use Rattle.core_state.specs.Indexed.{row_at}
 use Rattle.core_state.proofs.Commanding.{read_leave_on, read_on, reads_none, refused_does, same_kept, stopped_does, stopped_leave_on, stopped_on}
 use Rattle.core_state.proofs.Texts.{data_has_text, no_file_has_text}

@@ -3,7 +3,6 @@ use Rattle.wire_commands.specs.declared.reply.Reply.{Reply}
 use Rattle.store_history.specs.declared.act.Act.TheVariants.{ReadFile}
 use Rattle.snapshot_files.specs.Parts.{part_reply}
 use Rattle.core_state.specs.Kept.{kept_at}
-use Rattle.core_state.specs.Wanted.{session_at}
 use Rattle.core_state.proofs.Asking.{uncalled}
 use Rattle.core_state.proofs.Commanding.{read_does, read_leaves, reads_none, same_kept, stopped_does}
 use Rattle.core_reader.specs.Asked.{as_part}

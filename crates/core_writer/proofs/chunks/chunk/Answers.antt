@@ -12,7 +12,7 @@ use Rattle.core_state.specs.Changes.{IsFirm, LeavesChange, after, stores}
 use Rattle.core_state.specs.declared.kept.Session.TheVariants.{Idle}
 use Rattle.core_state.specs.Closing.{is_writer}
 use Rattle.core_state.specs.Named.{is_named}
-use Rattle.core_state.proofs.Commanding.{failed_does, failed_leaves, is_writing, refused_does, refused_leaves, same_kept, unwritten_does, unwritten_leaves, writer_shown, writes_does, writes_leaves}
+use Rattle.core_state.proofs.Commanding.{failed_does, failed_leaves, is_writing, others_set, refused_does, refused_leaves, same_kept, unwritten_does, unwritten_leaves, writer_shown, writes_does, writes_leaves}
 use Rattle.core_state.proofs.NamedLemmas.{list_all-set, list_all-at}
 use Rattle.core_state.proofs.Texts.{done_has_text}
 use Rattle.core_writer.specs.NotedChunks.{with_blob_noted}
@@ -99,7 +99,7 @@ returns-then-knows-clause-leaves g c = let d = g.D.Disk in
     (subst (IsFirm d old.disk c.insert_blob.new.disk) (sym change) tt)
     refl (λ admin. absurd (false_true admin))
     (adds_taken d old c.insert_blob.new.disk c.args.digest.now c.args.checked c.as_slice-blob.result.now (sent_bytes c.as_slice-blob.result.now (search rules)) was c.requires.checked c.in_ok-insert_blob.ensures.stored)
-    (λ ends. absurd (false_true ends)) (λ _. ap is_writer (is_writing _ _ c.in_ok-w.ensures.value)) (λ i keeps. refl)
+    (λ ends. absurd (false_true ends)) (λ _. ap is_writer (is_writing _ _ c.in_ok-w.ensures.value)) (λ i keeps. refl) (λ i other. refl)
 
 -- ---- it is put
 
@@ -177,4 +177,4 @@ returns-clause-leaves g c = let d = g.D.Disk in
     ap is_writer
     (get_or-set_same old.sessions.items c.args.at.lane c.take_chunk.new.session Idle within ∙ c.in_ok-take_chunk.ensures.ok
     ∙ ap (with_blob_noted c.args.digest.now c.as_slice-blob.result.now) is))
-    (λ i keeps. refl)
+    (λ i keeps. refl) (others_set old _ c.args.at.lane c.take_chunk.new.session refl)

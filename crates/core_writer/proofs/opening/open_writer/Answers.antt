@@ -1,7 +1,8 @@
-use Rattle.std.proofs.Common.{◌≡◌, ◌∙◌, ℕ, List, Option, Result, sym, ap, refl, subst, Ok}
+use Rattle.std.proofs.Common.{◌≡◌, ◌<◌, ◌∙◌, ℕ, List, length, get_or-set_same, Option, Result, sym, ap, refl, subst, arith, Ok}
 use Rattle.store_types.specs.declared.names.SnapshotKey.{SnapshotKey}
 use Rattle.store_types.specs.declared.refusal.Refusal.{Refusal}
 use Rattle.store_types.specs.Chain.Refusing.{◌>>=◌}
+use Rattle.store_types.specs.Names.{group_of_key}
 use Rattle.store_model.specs.WriterSteps.{new_writer}
 use Rattle.backup_session.specs.Session as backups
 use Rattle.backup_session.specs.Session.{settled}
@@ -12,7 +13,7 @@ use Rattle.wire_commands.specs.declared.command.Command.TheVariants.{OpenWriter}
 use Rattle.wire_commands.specs.declared.reply.Reply.TheVariants.{Base}
 use Rattle.store_history.specs.declared.act.Act.TheVariants.{Plain}
 use Rattle.core_state.specs.declared.kept.Session.{Session}
-use Rattle.core_state.specs.declared.kept.Session.TheVariants.{Writer}
+use Rattle.core_state.specs.declared.kept.Session.TheVariants.{Idle, Writer}
 use Rattle.core_state.specs.declared.kept.StoredFile.{StoredFile}
 use Rattle.core_state.specs.Kept.{kept_at}
 use Rattle.core_state.specs.Named.{is_named}
@@ -22,7 +23,8 @@ use Rattle.core_state.proofs.Commanding.{changed_does, same_kept}
 use Rattle.core_state.proofs.Decided.{decided_does, decided_leaves, decided_tells}
 use Rattle.core_state.proofs.NamedLemmas.{list_all-set}
 use Rattle.core_state.proofs.Texts.{base_has_text}
-use Rattle.core_writer.specs.AnsweredBy.{ActAnswersBy, tells_base}
+use Rattle.core_state.specs.FromState.{ActTells}
+use Rattle.core_writer.specs.AnsweredBy.{tells_base, writer_told}
 use Rattle.core_writer.specs.Opened.{begins_with, other_holder, to_write}
 use Rattle.core_writer.proofs.OpeningLemmas.{named_new, opens, write_answers, write_free, write_refused}
 use Rattle.core_writer.proofs.opening.open_writer.Goals as goal
@@ -47,7 +49,7 @@ pub returns-in_err-begun-clause-from_state : goal.returns-in_err-begun-clause-fr
 returns-in_err-begun-clause-from_state g c =
     let old = c.args.parts.now in
     let text = c.args.snapshot.now in
-    stopped (λ r. ActAnswersBy old c.args.at (Plain (OpenWriter text)) r) _ _ c.from_residual.ensures.1
+    stopped (λ r. ActTells (writer_told text) old c.args.at r) _ _ c.from_residual.ensures.1
     (decided_tells begins_with (to_write text) old c.args.at.lane (λ b. tells_base b.1) _ c.in_err-begun.ensures.value)
 
 -- ---- it begins
@@ -85,3 +87,16 @@ returns-clause-from_state g c =
     let begun = c.in_ok-begun.begun in
     ap (λ t. Base t) c.in_ok-begun.ensures.text
     ∙ sym (ap (λ (o : Result (SnapshotKey × Option SnapshotKey) Refusal). reply_told (o >>= λ b. tells_base b.1)) c.in_ok-begun.ensures.value)
+
+-- the lane has its group and its base
+pub returns-clause-locks : goal.returns-clause-locks
+returns-clause-locks g c =
+    let old = c.args.parts.now in
+    let lane = c.args.at.lane in
+    let begun = c.in_ok-begun.begun in
+    let within : lane < length old.sessions.items = omega (arith, old.lanes, old.sessions.ok.0, c.requires.lane) in
+    let takes = subst (λ group. TakesWriter old.locks c.take_locks.new.locks lane group begun.base) c.in_ok-begun.ensures.group c.in_ok-take_locks.ensures.ok in (
+      record { session = c.open_writer.result; files = c.new.result },
+      get_or-set_same old.sessions.items lane _ Idle within,
+      subst (λ (v : backups.Session). TakesWriter old.locks c.take_locks.new.locks lane (group_of_key (v.writer).key) (v.writer).base) (sym c.open_writer.ensures.opened) takes,
+    )

@@ -10,7 +10,7 @@ use Rattle.core_state.specs.Named.{is_named}
 use Rattle.core_state.specs.declared.indexes.Indexes.{Indexes}
 use Rattle.core_state.specs.declared.indexes.Indexes.TheVariants.{Unread}
 use Rattle.core_state.proofs.Asking.{uncalled}
-use Rattle.core_state.proofs.Commanding.{unwritten_does, unwritten_leaves}
+use Rattle.core_state.proofs.Commanding.{others_set, unwritten_does, unwritten_leaves}
 use Rattle.core_state.proofs.NamedLemmas.{list_all-set, list_all-at}
 use Rattle.core_writer.specs.Previous.{MayKnow, base_file, kept_by_whole, known_by_whole, previous_by, shown_given, whole_for}
 use Rattle.core_writer.proofs.ArchiveLemmas.{settled_at}
@@ -204,7 +204,7 @@ returns-clause-leaves g c =
     let kept : c.note_whole.new.row ≡ kept_by_whole (whole_for (row_at old at.lane) name) name (row_at old at.lane) =
     c.in_ok-note_whole.ensures.kept ∙ ap₂ (λ (n : List ℕ) (r : Indexes). kept_by_whole c.whole_index-whole.result n r) named again_row ∙ ap (λ o. kept_by_whole o name (row_at old at.lane)) whole in
     let rows = ap (set old.indexes.items at.lane) kept in
-    given_leaves d old at name c.args.offset _ _ c.read_file.ensures.reads c.in_ok-given.given tt refl _ rows
+    given_leaves d old at name c.args.offset _ _ c.read_file.ensures.reads c.in_ok-given.given tt refl _ rows (others_set old _ at.lane _ refl)
 
 pub returns-clause-unreadable : goal.returns-clause-unreadable
 returns-clause-unreadable g c =

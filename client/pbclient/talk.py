@@ -1,24 +1,21 @@
-"""Conversations with the store: `./pbstore` on a folder, with sessions at once that are sent command by command.
+"""Conversations with the store: the program on a folder, with sessions at once that are sent command by command.
 
-A session and its replies go through two named pipes, so that neither takes room on the disk.
+A session and its replies go through two named pipes, so that neither takes room on the disk. Their names go as soon as both ends are open.
 """
 import contextlib, errno, os, shutil, struct, subprocess, tempfile, time
 
-from session import REFUSALS, bye, frame
+from .session import REFUSALS, bye, frame
 
-TOP = os.path.dirname(os.path.dirname(os.path.abspath(__file__)))
 STATUSES = {
     1: "a frame of the session holds no command",
-    2: "the command line has no reading",
+    2: "the program read its words otherwise",
     3: "the disk failed: the folder isn't there, is full, or may not be written",
     4: "the session could not be read",
     5: "the replies could not be written",
     6: "out of memory",
     7: "there are more than 64 sessions at once",
     9: "the session is too long",
-    10: "a read of the remote failed",
-    70: "the program could not be built",
-    130: "it was interrupted",
+    10: "a read of the second store failed",
 }
 STATES = {0: "no session", 1: "a writer", 2: "a reader"}
 WORDS = {
@@ -52,6 +49,8 @@ WORDS = {
     "NoRemote": "there is no second store to pull from",
     "RemoteFault": "the second store's disk failed",
 }
+# So long a run is waited for whose sessions have all ended.
+END_SECONDS = 5
 
 
 class Refused(Exception):
@@ -74,11 +73,31 @@ class Refused(Exception):
 
 
 class Ended(Exception):
-    """The store ended before it was to, with this status; one below 0 tells the signal."""
+    """The program ended before it was to, with this status; one below 0 tells the signal."""
 
     def __init__(self, status):
-        other = f"it was ended by the signal {-status}" if status < 0 else f"it ended with status {status}"
+        self.status = status
+        other = f"the program was ended by the signal {-status}" if status < 0 else f"the program ended with status {status}"
         super().__init__(STATUSES.get(status, other))
+
+
+class NoProgram(Exception):
+    """The program is not to be found."""
+
+
+def program(named=None):
+    """The path of the program: the one that is named, by an option or by PBSTORE, or that stands beside the client, or on the path. It is
+    never built."""
+    here = os.path.dirname(os.path.abspath(__file__))
+    top = os.path.dirname(os.path.dirname(here))
+    # (in a checkout the client is in client/pbclient, else in lib/pbclient/pbclient, with the program in bin)
+    beside = [os.path.join(top, "crates", "pbstore", "out", "pbstore"), os.path.join(os.path.dirname(top), "bin", "pbstore")]
+    asked = named or os.environ.get("PBSTORE")
+    places = [asked] if asked else [*beside, shutil.which("pbstore")]
+    for path in places:
+        if path and os.path.isfile(path) and os.access(path, os.X_OK):
+            return os.path.abspath(path)
+    raise NoProgram(f"{asked} is no program" if asked else "the program pbstore is not built, and not on the path")
 
 
 class Talk:
@@ -93,6 +112,7 @@ class Talk:
 
     def __enter__(self):
         self.pipe = open(self.opened(), "wb", buffering=0)
+        self.unlink()
         os.set_blocking(self.replies.fileno(), True)
         return self
 
@@ -105,7 +125,7 @@ class Talk:
 
     def opened(self):
         """The session's pipe, once the store reads it."""
-        while self.run.program.poll() is None:
+        while self.run.process.poll() is None:
             try:
                 pipe = os.open(self.path, os.O_WRONLY | os.O_NONBLOCK)
                 os.set_blocking(pipe, True)
@@ -116,17 +136,25 @@ class Talk:
                 time.sleep(0.001)
         raise self.run.ended()
 
+    def unlink(self):
+        """Takes the pipes' names away, and their folder with the last of them, so that nothing is left if this process is killed."""
+        os.unlink(self.path)
+        os.unlink(self.path + ".out")
+        with contextlib.suppress(OSError):
+            os.rmdir(self.run.work)
+
     def read(self, size):
         """So many bytes of the replies, once they are there."""
-        found = bytearray()
-        while len(found) < size:
-            some = self.replies.read(size - len(found))
-            if not some:
+        found = bytearray(size)
+        left = memoryview(found)
+        while left:
+            count = self.replies.readinto(left)
+            if not count:
                 raise self.run.ended()
-            found += some
-        return bytes(found)
+            left = left[count:]
+        return found
 
-    def send(self, data):
+    def write(self, data):
         try:
             view = memoryview(data)
             while view:
@@ -134,12 +162,20 @@ class Talk:
         except BrokenPipeError:
             raise self.run.ended() from None
 
-    def ask(self, command):
-        self.send(frame(command))
+    def send(self, command):
+        """Sends a command without waiting for its reply. Replies come in the order of the commands."""
+        self.write(frame(command))
+
+    def reply(self):
+        """The fields of the next reply."""
         body = self.read(struct.unpack("<I", self.read(4))[0])
         if body[0]:
-            raise Refused(body)
-        return body[1:]
+            raise Refused(bytes(body))
+        return bytes(memoryview(body)[1:])
+
+    def ask(self, command):
+        self.send(command)
+        return self.reply()
 
     def close(self):
         for it in (self.pipe, self.replies):
@@ -148,17 +184,19 @@ class Talk:
 
 
 class Run:
-    """A run of the store with so many sessions at once, `talks`. SYNC pulls from `remote`."""
+    """A run of the program with so many sessions at once, `talks`. SYNC pulls from `remote`."""
 
-    def __init__(self, root, remote=None, count=1):
-        self.root, self.program, self.talks = root, None, []
-        self.work = tempfile.mkdtemp(prefix="sessions-")
+    def __init__(self, root, remote=None, count=1, path=None):
+        self.root, self.process, self.talks = root, None, []
+        path = path or program()
+        self.work = tempfile.mkdtemp(prefix="pbclient-")
         beside = ["--remote", remote] if remote else []
         try:
             for number in range(count):
                 self.talks.append(Talk(self, os.path.join(self.work, f"session-{number}")))
-            words = [os.path.join(TOP, "pbstore"), "run", root, *beside, *(it.path for it in self.talks)]
-            self.program = subprocess.Popen(words)
+            words = [path, "run", root, *beside, *(it.path for it in self.talks)]
+            # (what it says on standard error is its status in one word)
+            self.process = subprocess.Popen(words, stdin=subprocess.DEVNULL, stdout=subprocess.DEVNULL, stderr=subprocess.DEVNULL)
         except BaseException:
             self.close()
             raise
@@ -170,20 +208,20 @@ class Run:
         self.close()
 
     def ended(self):
-        """Why the store ended before it was to."""
-        return Ended(self.program.wait())
+        """Why the program ended before it was to."""
+        return Ended(self.process.wait())
 
     def end(self):
-        """Waits for the store's end, once all sessions have ended."""
-        if self.program.wait():
+        """Waits for the program's end, once all sessions have ended."""
+        if self.process.wait():
             raise self.ended()
 
     def close(self):
-        if self.program:
+        if self.process:
             try:
-                self.program.wait(timeout=5 if all(it.pipe and it.pipe.closed for it in self.talks) else 0)
+                self.process.wait(END_SECONDS if all(it.pipe and it.pipe.closed for it in self.talks) else 0)
             except subprocess.TimeoutExpired:
-                self.program.terminate()
+                self.process.terminate()
         shutil.rmtree(self.work, ignore_errors=True)
 
 

@@ -164,9 +164,10 @@ def listed_blob(name, file):
     return listed(name, len(file), sha256(file))
 
 
-def manifest(snapshot, *files):
+def manifest(snapshot, *files, **more):
+    """A manifest of these files, with other keys, which the store keeps and does not look at."""
     kind, identifier, _ = snapshot.split("/")
-    whole = {"backup-id": identifier, "backup-time": time_of(snapshot), "backup-type": kind, "files": list(files)}
+    whole = {"backup-id": identifier, "backup-time": time_of(snapshot), "backup-type": kind, "files": list(files), **more}
     return json.dumps(whole, separators=(",", ":")).encode()
 
 
