@@ -16,16 +16,16 @@ pub returns-in_err-key-clause-spelled : goal.returns-in_err-key-clause-spelled
 returns-in_err-key-clause-spelled c =
     stop_fits c.from_residual.result c.in_err-key.field-0.0 c.from_residual.ensures.1 c.in_err-key.ensures.fits
 
-pub returns-in_default-snapshot_named-clause-does : goal.returns-in_default-snapshot_named-clause-does
-returns-in_default-snapshot_named-clause-does c =
+pub returns-in_default-clause-does : goal.returns-in_default-clause-does
+returns-in_default-clause-does c =
     let key = c.in_ok-key.key in
     let listed = c.deref.ensures.value ∙ ap (λ (x : Store). x.snapshots) c.self.view_is in
     let asked = c.snapshot_named.ensures ∙ ap (λ k. snapshot_named k c.deref.result.now) c.as_key.ensures ∙ ap (snapshot_named key) listed in
-    let none = sym asked ∙ ap (option_map (λ x. x.now)) c.in_default-snapshot_named.is in
+    let none = sym asked ∙ ap (option_map (λ x. x.now)) c.in_default.is in
     (files_no_snapshot c.args.self.now c.args.lane c.args.snapshot.now key c.in_ok-key.ensures.gives none, refl)
 
-pub returns-in_default-snapshot_named-clause-spelled : goal.returns-in_default-snapshot_named-clause-spelled
-returns-in_default-snapshot_named-clause-spelled c = tt
+pub returns-in_default-clause-spelled : goal.returns-in_default-clause-spelled
+returns-in_default-clause-spelled c = tt
 
 pub returns-clause-does : goal.returns-clause-does
 returns-clause-does c =

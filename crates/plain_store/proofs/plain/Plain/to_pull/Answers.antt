@@ -13,10 +13,10 @@ returns-in_err-group-clause-gives c =
     gives_stop (λ found. found.items) (λ group. group) c.from_residual.result c.in_err-group.field-0.0 _ (idle_group s c.args.lane c.args.group.now) is c.in_err-group.ensures.gives
     (pull_refused (option_map (λ p. p.now.snapshots) c.args.remote) s c.args.lane c.args.group.now)
 
-pub returns-in_default-remote-clause-gives : goal.returns-in_default-remote-clause-gives
-returns-in_default-remote-clause-gives c =
+pub returns-in_default-clause-gives : goal.returns-in_default-clause-gives
+returns-in_default-clause-gives c =
     let s = c.args.self.now in
-    pull_no_remote (option_map (λ p. p.now.snapshots) c.args.remote) s c.args.lane c.args.group.now c.in_ok-group.group c.in_ok-group.ensures.gives (ap (option_map (λ p. p.now.snapshots)) c.in_default-remote.is)
+    pull_no_remote (option_map (λ p. p.now.snapshots) c.args.remote) s c.args.lane c.args.group.now c.in_ok-group.group c.in_ok-group.ensures.gives (ap (option_map (λ p. p.now.snapshots)) c.in_default.is)
 
 pub returns-clause-gives : goal.returns-clause-gives
 returns-clause-gives c =
