@@ -69,10 +69,11 @@ module _ {D E C S K : Type 0} (d : Ghosts D) (e : Ghosts E) (clock : clocks.Ghos
   no_entries : (first.journal).entries.items ≡ []
   no_entries = begun.entries ∙ ap entries none
 
-  kept : d.honest (first.parts).disk ↔ d.honest (core.parts).disk
+  -- the disk is as honest, and was called as often as the last of the run's events tells
+  pub kept : d.honest (first.parts).disk ↔ d.honest (core.parts).disk
   kept = subst (λ (c : Core D E C). d.honest (c.parts).disk ↔ d.honest (core.parts).disk) (x.comes).is (x.comes).kept
 
-  rests : d.calls (core.parts).disk ≡ last_calls (d.calls (first.parts).disk) x.events
+  pub rests : d.calls (core.parts).disk ≡ last_calls (d.calls (first.parts).disk) x.events
   rests = (x.comes).at_rest ∙ ap (λ (c : Core D E C). last_calls (d.calls (c.parts).disk) x.events) (x.comes).is
 
   -- the disk's count of faults never falls, and an entry of kind 5 comes only where it rose
