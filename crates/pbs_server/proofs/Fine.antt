@@ -1,5 +1,5 @@
 -- How sessions of commands end, of which no source failed.
-use Rattle.std.proofs.Common.{◌≡◌, ◌<◌, ◌+◌, ◌^◌, ◌⊎◌, inl, inr, ℕ, suc, List, [], ◌∷◌, ◌++◌, map, length, Option, Some, None, IfSome, refl, ap, subst, ◌∙◌, arith, length-append, slice_index_or}
+use Rattle.std.proofs.Common.{◌≡◌, ◌<◌, ◌+◌, ◌^◌, ◌⊎◌, inl, inr, ℕ, false, suc, List, [], ◌∷◌, ◌++◌, map, length, Option, Some, None, IfSome, refl, ap, subst, ◌∙◌, arith, length-append, slice_index_or}
 use Rattle.std.specs.List.{All}
 use Rattle.std.proofs.lemmas.List.Elements.{All-nil, All-cons, All-head, All-tail}
 use Rattle.port_traits.specs.declared.sink.Sink as sinks
