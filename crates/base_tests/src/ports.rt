@@ -4,6 +4,7 @@ use port_traits::{
     Source, WallClock, write_all_of, write_counted,
 };
 use std::io::{ErrorKind, Write};
+use std::os::unix::fs::MetadataExt;
 use std::process::Abort;
 use std::time::Duration;
 use std::{fs, io};
@@ -56,9 +57,20 @@ fn clocks_and_gates(rt: HostRuntime) {
     for want in [5, 3, 9, 9] {
         same(&rt, tell(&mut clock), want);
     }
-    let now = tell(&mut WallClock::new(rt));
-    same_at(&rt, now, now > 1_600_000_000, true);
     pass(&FreeGate);
+}
+
+// In seconds, as a file's time that is made between two looks at the clock. The host may take it from its last tick.
+#[test]
+fn the_clock_of_the_system(rt: HostRuntime) {
+    let path = "port_traits_time.bin";
+    let before = tell(&mut WallClock::new(rt));
+    must(&rt, fs::write(&rt, path, "now"));
+    let made = must(&rt, fs::metadata(&rt, path)).mtime() as u64;
+    let after = tell(&mut WallClock::new(rt));
+    let is_between = before <= made.saturating_add(2) && made <= after;
+    same_at(&rt, (before, made, after), is_between, true);
+    must(&rt, fs::remove_file(&rt, path));
 }
 
 fn write_hello<K: Sink + Send>(rt: &impl Abort, sink: &mut K) {

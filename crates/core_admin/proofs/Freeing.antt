@@ -6,13 +6,12 @@ use Rattle.std.proofs.lemmas.List.Elements.{All-contains, All-cons, All-head, Al
 use Rattle.std.proofs.lemmas.List.Sums.{fails_before_first}
 use Rattle.std.specs.List.{All, Contains, position, position_or_len, reduce}
 use Rattle.store_types.specs.declared.names.SnapshotKey.{SnapshotKey}
-use Rattle.lock_book.specs.Locks.{Locks, sharers}
+use Rattle.lock_book.specs.Locks.{Locks, least_sharer, sharers}
 use Rattle.store_model.specs.Store as model
 use Rattle.store_model.specs.Store.{Store, session, holds_snapshot, snapshot_holder}
 use Rattle.store_model.proofs.Insertions.{Contains-here, Contains-later, Contains-cases}
 use Rattle.core_state.specs.Locked.{Locked}
 use Rattle.core_state.proofs.LockLemmas.{removal_is}
-use Rattle.core_admin.specs.Forgotten.{least_sharer}
 
 -- ---- the least of a list
 
@@ -31,15 +30,6 @@ least_of x (y ∷ ys) =
 
     among : Contains (min x y ∷ ys) (fold min (min x y) ys) → Contains (x ∷ y ∷ ys) (fold min (min x y) ys)
     among has = ⊎_elim one_of (λ (later : Contains ys (fold min (min x y) ys)). Contains-later x (y ∷ ys) _ (Contains-later y ys _ later)) (Contains-cases (min x y) ys (fold min (min x y) ys) has)
-
--- it is in the list, and nothing less is
-pub least_found : (xs : List ℕ) (l : ℕ) → Contains xs l → All (λ x. l ≤ x) xs → reduce min xs ≡ Some l
-least_found [] l c all = let lt = c.1 in absurd (omega (arith, lt))
-least_found (x ∷ xs) l c all =
-    let least = least_of x xs in
-    let below = All-contains (λ y. fold min x xs ≤ y) (x ∷ xs) l least.1 c in
-    let above = All-contains (λ y. l ≤ y) (x ∷ xs) (fold min x xs) all least.0 in
-    ap (λ n. Some n) (omega (arith, below, above))
 
 -- ---- the first that passes a test
 

@@ -3,7 +3,6 @@ pub mod RowTexts
 pub mod FactLemmas
 pub mod FactRows
 pub mod Told
-pub mod ListLemmas
 pub mod Freeing
 pub mod Remaining
 pub mod TakenOut
@@ -11,3 +10,4 @@ pub mod ForgetLemmas
 pub mod ListingRead
 pub mod FilesRead
 pub mod FilesTelling
+pub mod Telling

@@ -1,42 +1,31 @@
--- What an act's own tests answer by what the core keeps, on any disk; and FILES by what stands on an honest one.
+-- What an act's own tests answer by what it finds, on any disk; and FILES by what stands on an honest one.
 use Rattle.disk_trait.specs.declared.disk.Disk.{Ghosts}
-use Rattle.std.specs.Prelude.{◌≡◌, ℕ, List, Result, IfOk, IfSome}
-use Rattle.store_types.specs.declared.order.TheConstants.{COMMAND_KIND}
-use Rattle.lock_book.specs.Locks.{Locks}
+use Rattle.std.specs.Prelude.{◌≡◌, ℕ, List, Result, IfOk}
 use Rattle.wire_commands.specs.declared.command.Command.TheVariants.{List as ListAll, Files as FilesOf, Forget, Prune, Group}
 use Rattle.wire_commands.specs.declared.reply.Reply.{Reply}
 use Rattle.store_history.specs.declared.act.Act.{Act}
 use Rattle.store_history.specs.declared.act.Act.TheVariants.{Plain, JobGroup}
-use Rattle.store_history.specs.declared.act.Answer.{Answer}
 use Rattle.core_state.specs.declared.entering.Place.{Place}
-use Rattle.core_state.specs.declared.kept.Listed.{Listed}
-use Rattle.core_state.specs.declared.kept.Session.{Session}
 use Rattle.core_state.specs.declared.parts.Parts.{Parts}
-use Rattle.core_state.specs.declared.state.Core.{Core}
 use Rattle.store_stops.specs.declared.stop.Stop.{Stop}
-use Rattle.core_state.specs.Replies.{reply_told}
+use Rattle.store_history.specs.Replies.{reply_told}
 use Rattle.core_state.specs.Stops.{told}
-use Rattle.core_state.specs.Wanted.{session_at}
+use Rattle.core_state.specs.Kept.{KeptAt, kept_at}
 use Rattle.core_admin.specs.FilesTold.{TellsFiles}
 use Rattle.core_admin.specs.Forgotten.{forget_told}
 use Rattle.core_admin.specs.Listings.{list_told, group_told, prune_told}
 
--- LIST, FORGET, GROUP and the first step of a PRUNE wholly, with the lane's session, the catalogue and the locks; of FILES, whether there is
+-- LIST, FORGET, GROUP and the first step of a PRUNE wholly; of FILES, whether there is
 -- such a snapshot, and whether it is damaged: where it is whole, rows, or that its manifest is unreadable, on an honest disk exactly as it stands there
-abbrev pub AnswersBy : {D : Type 0} → Ghosts D → D → Act → Session → List Listed → Locks → Reply → Type 0
-AnswersBy d disk (Plain (ListAll after)) session catalogue locks reply = reply ≡ reply_told (list_told after catalogue)
-AnswersBy d disk (Plain (FilesOf snapshot)) session catalogue locks reply = TellsFiles d disk snapshot catalogue reply
-AnswersBy d disk (Plain (Forget snapshot)) session catalogue locks reply = reply ≡ reply_told (forget_told snapshot session catalogue locks)
-AnswersBy d disk (Plain (Group group)) session catalogue locks reply = reply ≡ reply_told (group_told group catalogue)
-AnswersBy d disk (JobGroup (Prune group keep dry)) session catalogue locks reply = reply ≡ reply_told (prune_told group keep session catalogue)
-AnswersBy d disk (JobGroup _) session catalogue locks reply = ⊥
-AnswersBy d disk _ session catalogue locks reply = Unit {0}
+abbrev pub AnswersBy : {D : Type 0} → Ghosts D → D → Act → KeptAt → Reply → Type 0
+AnswersBy d disk (Plain (ListAll after)) k reply = reply ≡ reply_told (list_told after k)
+AnswersBy d disk (Plain (FilesOf snapshot)) k reply = TellsFiles d disk snapshot k reply
+AnswersBy d disk (Plain (Forget snapshot)) k reply = reply ≡ reply_told (forget_told snapshot k)
+AnswersBy d disk (Plain (Group group)) k reply = reply ≡ reply_told (group_told group k)
+AnswersBy d disk (JobGroup (Prune group keep dry)) k reply = reply ≡ reply_told (prune_told group keep k)
+AnswersBy d disk (JobGroup _) k reply = ⊥
+AnswersBy d disk _ k reply = Unit {0}
 
 -- a command is answered so, by what the core keeps before it, and its disk
 abbrev pub ActAnswersBy : {D : Type 0} → Ghosts D → Parts D → Place → Act → Result Reply Stop → Type 0
-ActAnswersBy d old at act result = IfOk (told result) (AnswersBy d old.disk act (session_at old at.lane) old.catalogue.listed old.locks)
-
--- the core answers so an act that was done
-abbrev pub CoreAnswersBy : {D E C : Type 0} → Ghosts D → Core D E C → ℕ → Act → Answer → Type 0
-CoreAnswersBy d old lane act answer =
-    (answer.entry).kind ≡ COMMAND_KIND → IfSome answer.reply (AnswersBy d (old.parts).disk act (session_at old.parts lane) (old.parts).catalogue.listed (old.parts).locks)
+ActAnswersBy d old at act result = IfOk (told result) (AnswersBy d old.disk act (kept_at old at.lane))

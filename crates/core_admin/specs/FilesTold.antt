@@ -1,27 +1,31 @@
--- FILES, by what the core keeps and what the disk holds.
+-- FILES, by what it finds and what the disk holds.
 use Rattle.std.specs.Prelude.{◌≡◌, ◌<◌, ◌≤◌, ◌^◌, ℕ, List, map, length, take, Option, Some, None, option_map, Result, Ok, Err}
+use Rattle.std.specs.Borrow.{Bor}
 use Rattle.std.specs.FinMap.{get}
 use Rattle.blob_codec.specs.Laws.{AreBytes}
 use Rattle.disk_trait.specs.Files.{Files as Content}
 use Rattle.disk_trait.specs.declared.disk.Disk.{Ghosts}
 use Rattle.store_types.specs.declared.names.SnapshotKey.{SnapshotKey}
 use Rattle.store_types.specs.declared.refusal.Refusal.{Refusal}
-use Rattle.store_types.specs.declared.refusal.Refusal.TheVariants.{Unreadable}
+use Rattle.store_types.specs.declared.refusal.Refusal.TheVariants.{NoSnapshot, Unreadable}
 use Rattle.store_types.specs.Chain.Refusing.{◌>>=◌, or_else, if_none}
 use Rattle.store_files.specs.Manifest.{Manifest}
 use Rattle.manifest.specs.Views.{manifest_view}
 use Rattle.wire_commands.specs.declared.rows.FileRow.{FileRow}
+use Rattle.wire_commands.specs.HasText.{ReplyHasText}
 use Rattle.wire_commands.specs.declared.reply.Reply.{Reply}
 use Rattle.wire_commands.specs.declared.reply.Reply.TheVariants.{Files, Refused}
 use Rattle.store_model.specs.Stands.{file_limit}
 use Rattle.store_files.specs.Folder.{manifest_path}
 use Rattle.core_state.specs.declared.kept.Kept.{Kept}
 use Rattle.core_state.specs.declared.kept.Listed.{Listed}
+use Rattle.core_state.specs.Found.{kept_named}
 use Rattle.store_stops.specs.declared.stop.Stop.{Stop}
 use Rattle.store_stops.specs.declared.stop.Stop.TheVariants as stops
-use Rattle.core_state.specs.Found.{named_kept}
+use Rattle.core_state.specs.Heads.{named_kept}
+use Rattle.core_state.specs.Kept.{KeptAt}
 use Rattle.core_state.specs.Listing.{listing_at}
-use Rattle.core_state.specs.Replies.{reply_told}
+use Rattle.store_history.specs.Replies.{reply_told}
 use Rattle.store_stops.specs.Stops.{Gives}
 use Rattle.core_state.specs.Unreadables.{Asked, as_listing, known}
 use Rattle.core_admin.specs.declared.file_list.ManifestFile.{ManifestFile}
@@ -37,8 +41,8 @@ asked_at (Ok k) = Some (asked_of k.key k.unreadable)
 asked_at (Err refusal) = None
 
 -- where the text names a snapshot
-abbrev pub asked_files : List ℕ → List Listed → Option Asked
-asked_files text catalogue = asked_at (named_kept text catalogue)
+abbrev pub asked_files : List ℕ → KeptAt → Option Asked
+asked_files text at = asked_at (named_kept text at)
 
 -- the rows of its files, of which there are 64 at most
 abbrev pub rows_in : List ℕ × Manifest → Kept → List FileRow
@@ -48,13 +52,28 @@ rows_in read k = rows_by read.0 (read.1).files (map (λ f. f.name) (take file_li
 abbrev pub rows_read : Content → Kept → Result (List FileRow) Refusal
 rows_read m k = or_else (Unreadable (manifest_path k.key)) (listing_at m (manifest_path k.key)) >>= λ read. Ok (rows_in read k)
 
--- whether the snapshot is damaged comes first
-unfoldable pub files_told : Content → List ℕ → List Listed → Result Reply Refusal
-files_told m text catalogue = do
-  kept ← named_kept text catalogue
-  _ ← if_none Unreadable kept.unreadable
-  rows ← rows_read m kept
-  Ok (Files rows)
+-- no file is known to make it damaged, or the refusal tells it
+abbrev pub whole : Kept → Result Kept Refusal
+whole k = if_none Unreadable k.unreadable >>= λ _. Ok k
+
+-- the snapshot with this key, where it is there and whole
+abbrev pub whole_of : SnapshotKey → List Listed → Result Kept Refusal
+whole_of key catalogue = or_else NoSnapshot (kept_named key catalogue) >>= whole
+
+-- it is found, or it is refused so
+abbrev pub Finds : Result Kept Refusal → Result (Bor Kept) Stop → Type 0
+Finds wanted (Ok k) = wanted ≡ Ok k.now
+Finds wanted (Err (stops.Refused refusal)) = (wanted ≡ Err refusal) × ReplyHasText (Refused refusal)
+Finds wanted (Err stops.NoMemory) = Unit {0}
+Finds wanted (Err stops.DiskFailed) = ⊥
+
+-- the snapshot that the text names, or the refusal
+unfoldable pub to_tell : List ℕ → KeptAt → Result Kept Refusal
+to_tell text at = named_kept text at >>= whole
+
+-- and its files
+abbrev pub files_told : Content → List ℕ → KeptAt → Result Reply Refusal
+files_told m text at = to_tell text at >>= λ kept. rows_read m kept >>= λ rows. Ok (Files rows)
 
 -- the manifest that was read, if any, is what stands at the path
 abbrev pub ListsThere : Content → List ℕ → Option ManifestFile → Type 0
@@ -79,22 +98,21 @@ IfTold (Err stops.DiskFailed) P = Unit {0}
 abbrev pub TellsOfBytes : {A : Type 0} → Content → Kept → Result A Stop → Type 0
 TellsOfBytes m k result = IfTold result (HasBytes m (manifest_path k.key))
 
--- of a damaged snapshot the file that makes it so; of a whole one rows, or that its manifest is unreadable
-abbrev pub AnswersOf : SnapshotKey → Option (List ℕ) → Reply → Type 0
-AnswersOf key (Some path) reply = reply ≡ Refused (Unreadable path)
-AnswersOf key None (Files rows) = Unit {0}
-AnswersOf key None (Refused (Unreadable name)) = name ≡ manifest_path key
-AnswersOf key None _ = ⊥
+-- of a whole snapshot rows, or that its manifest is unreadable
+abbrev pub AnswersOf : SnapshotKey → Reply → Type 0
+AnswersOf key (Files rows) = Unit {0}
+AnswersOf key (Refused (Unreadable name)) = name ≡ manifest_path key
+AnswersOf key _ = ⊥
 
--- on any disk, where there is such a snapshot; else the refusal
+-- on any disk, where there is such a snapshot that is whole; else the refusal
 abbrev pub AnswersFiles : Result Kept Refusal → Reply → Type 0
-AnswersFiles (Ok k) reply = AnswersOf k.key k.unreadable reply
+AnswersFiles (Ok k) reply = AnswersOf k.key reply
 AnswersFiles (Err refusal) reply = reply ≡ Refused refusal
 
 -- and on an honest disk, whatever it holds, exactly by what the manifest on it lists
-pub record TellsFiles {D : Type 0} (d : Ghosts D) (disk : D) (text : List ℕ) (catalogue : List Listed) (reply : Reply) : Type 0 where
-  pub kept : AnswersFiles (named_kept text catalogue) reply
-  pub listed : d.honest disk → reply ≡ reply_told (files_told (d.content disk) text catalogue)
+pub record TellsFiles {D : Type 0} (d : Ghosts D) (disk : D) (text : List ℕ) (at : KeptAt) (reply : Reply) : Type 0 where
+  pub kept : AnswersFiles (to_tell text at) reply
+  pub listed : d.honest disk → reply ≡ reply_told (files_told (d.content disk) text at)
 
 -- the row of a file's name, of a number of 64 bits and of a SHA-256
 abbrev pub IsFileRow : FileRow → Type 0

@@ -1,31 +1,26 @@
--- LIST, GROUP and the first step of a PRUNE, by what the core keeps.
-use Rattle.std.specs.Prelude.{◌≡◌, ◌<◌, ◌≤◌, ℕ, List, map, filter, length, take, min, Option, is_some, if◌then◌else◌, Result, Ok, IsTrue}
+-- LIST, GROUP and the first step of a PRUNE, by what they find.
+use Rattle.std.specs.Prelude.{◌≡◌, ◌<◌, ◌≤◌, ℕ, List, map, filter, length, take, Option, is_some, Result, Ok, IsTrue}
 use Rattle.store_types.specs.declared.names.Keep.{Keep}
 use Rattle.store_types.specs.declared.names.SnapshotKey.{SnapshotKey}
 use Rattle.store_types.specs.declared.names.GroupKey.{GroupKey}
 use Rattle.store_types.specs.declared.refusal.Refusal.{Refusal}
-use Rattle.store_types.specs.declared.refusal.Refusal.TheVariants.{BadName, TooMany}
-use Rattle.store_types.specs.Chain.Refusing.{◌>>=◌, unless, or_else}
-use Rattle.store_types.specs.Names.{key_text, group_of}
+use Rattle.store_types.specs.declared.refusal.Refusal.TheVariants.{TooMany}
+use Rattle.store_types.specs.Chain.Refusing.{◌>>=◌, unless}
+use Rattle.store_types.specs.Names.{key_text}
 use Rattle.wire_commands.specs.declared.rows.ListRow.{ListRow}
 use Rattle.wire_commands.specs.declared.reply.Reply.{Reply}
 use Rattle.wire_commands.specs.declared.reply.Reply.TheVariants.{Listing, Keys}
 use Rattle.wire_commands.specs.ReplyText.{files_fit}
-use Rattle.store_model.specs.AdminSteps.{list_limit, want_after, counts_fit}
+use Rattle.store_model.specs.AdminSteps.{list_limit, counts_fit}
 use Rattle.store_model.specs.Stands.{group_limit}
 use Rattle.core_state.specs.Found.{is_behind, is_in}
 use Rattle.core_state.specs.declared.kept.Kept.{Kept}
 use Rattle.core_state.specs.declared.kept.Listed.{Listed}
-use Rattle.core_state.specs.declared.kept.Session.{Session}
-use Rattle.store_stops.specs.declared.stop.Stop.{Stop}
-use Rattle.store_stops.specs.declared.stop.Stop.TheVariants.{Refused, NoMemory, DiskFailed}
-use Rattle.core_state.specs.Wanted.{want_idle}
+use Rattle.core_state.specs.Heads.{after_in, group_in, idle_group}
+use Rattle.core_state.specs.Kept.{KeptAt}
+use Rattle.core_state.specs.ListedRows.{files_counted}
 
 -- ---- LIST
-
--- of a damaged snapshot no files are told; a whole one has 64 at most, so their number fits its field
-abbrev pub files_counted : Kept → ℕ
-files_counted k = if is_some k.unreadable then 0 else min (length k.files) 255
 
 abbrev pub row_of : Kept → ListRow
 row_of k = record { snapshot = key_text k.key; damaged = is_some k.unreadable; files = files_counted k }
@@ -46,16 +41,8 @@ IsShort snapshot = length snapshot ≤ 90
 abbrev pub IsListable : ListRow → Type 0
 IsListable r = IsShort r.snapshot × (r.files < 256) × IsTrue (files_fit r.damaged r.files)
 
--- the text names no snapshot, or memory is wanting
-abbrev pub IsNamesStop : Stop → Type 0
-IsNamesStop (Refused refusal) = refusal ≡ BadName
-IsNamesStop NoMemory = Unit {0}
-IsNamesStop DiskFailed = ⊥
-
-unfoldable pub list_told : List ℕ → List Listed → Result Reply Refusal
-list_told text catalogue = do
-  after ← want_after text
-  Ok (Listing (rows_behind after catalogue))
+abbrev pub list_told : List ℕ → KeptAt → Result Reply Refusal
+list_told text k = after_in text k >>= λ after. Ok (Listing (rows_behind after k.catalogue))
 
 -- ---- GROUP
 
@@ -67,16 +54,17 @@ texts_of listed = map (λ x. key_text (x.kept).key) (take group_limit listed)
 abbrev pub texts_in : GroupKey → List Listed → List (List ℕ)
 texts_in group catalogue = texts_of (filter (λ x. is_in group x.kept) catalogue)
 
-unfoldable pub group_told : List ℕ → List Listed → Result Reply Refusal
-group_told text catalogue = do
-  group ← or_else BadName (group_of text)
-  Ok (Keys (texts_in group catalogue))
+abbrev pub group_told : List ℕ → KeptAt → Result Reply Refusal
+group_told text k = group_in text k >>= λ group. Ok (Keys (texts_in group k.catalogue))
 
 -- ---- the first step of a PRUNE
 
-unfoldable pub prune_told : List ℕ → Keep → Session → List Listed → Result Reply Refusal
-prune_told text keep session catalogue = do
-  _ ← want_idle session
-  group ← or_else BadName (group_of text)
+-- the group, or the refusal
+unfoldable pub to_prune : List ℕ → Keep → KeptAt → Result GroupKey Refusal
+to_prune text keep k = do
+  group ← idle_group text k
   _ ← unless (TooMany 1000) (counts_fit keep)
-  Ok (Keys (texts_in group catalogue))
+  Ok group
+
+abbrev pub prune_told : List ℕ → Keep → KeptAt → Result Reply Refusal
+prune_told text keep k = to_prune text keep k >>= λ group. Ok (Keys (texts_in group k.catalogue))

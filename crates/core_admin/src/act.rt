@@ -5,9 +5,8 @@ ghost use Rattle.store_history.specs.Acts.{IsWellFormed, family_of};
 ghost use Rattle.core_state.specs.Applies.{ActApplies, ActKeeps};
 ghost use Rattle.core_state.specs.Commands.{ActDoes, ActLeaves};
 ghost use Rattle.core_state.specs.Reserved.{HasRoom};
-ghost use Rattle.core_state.specs.Unreadables.{ActUnreadable, CoreUnreadable};
-ghost use Rattle.core_admin.specs.AdminActs.{asked_of_admin};
-ghost use Rattle.core_admin.specs.AnsweredBy.{ActAnswersBy, CoreAnswersBy};
+ghost use Rattle.core_state.specs.Tells.{ActTells, CoreTells};
+ghost use Rattle.core_admin.specs.AdminActs.{admin_words};
 
 use crate::file_list::files;
 use crate::forgetting::forget;
@@ -26,8 +25,7 @@ fn perform<D: Disk>(parts: &mut Parts<D>, alloc: Global, at: Place, act: Act) ->
     requires formed { IsWellFormed act }
     ensures does { ActDoes D.Disk parts.old parts.new at act result }
     ensures leaves { ActLeaves D.Disk parts.old parts.new at act result }
-    ensures from_state { ActAnswersBy D.Disk parts.old at act result }
-    ensures unreadable { ActUnreadable D.Disk (λ _. asked_of_admin act) parts.old at result }
+    ensures tells { ActTells (admin_words act) D.Disk parts.old parts.new at result }
 {
     match act {
         Act::Plain(Command::List { after }) => list(parts, alloc, at, after.as_slice()),
@@ -58,10 +56,9 @@ pub fn admin_act<D: Disk, E, C: Clock>(
     requires formed { IsWellFormed act }
     ensures applies { ActApplies D.Disk C.Clock core.old core.new lane act result }
     ensures keeps { ActKeeps D.Disk core.old core.new lane act result }
-    // on any disk its own tests answer what the core keeps; FILES, on an honest one, what stands there
-    ensures from_state { CoreAnswersBy D.Disk core.old lane act result }
-    // a manifest is unreadable exactly where it is, as far as the disk tells
-    ensures unreadable { CoreUnreadable D.Disk (λ _. asked_of_admin act) core.old lane result }
+    // on any disk its own tests answer what the core keeps; FILES, on an honest one, what stands there. A manifest is
+    // unreadable exactly where it is, as far as the disk tells
+    ensures tells { CoreTells (admin_words act) D.Disk core.old core.new lane result }
 {
     match begin(core, alloc, lane, &act) {
         Admitted::Answered(answer) => {

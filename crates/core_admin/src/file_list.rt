@@ -19,9 +19,9 @@ ghost use Rattle.core_state.specs.Unreadables.{ActUnreadable};
 ghost use Rattle.store_stops.specs.declared.stop.Stop.TheVariants.{DiskFailed};
 ghost use Rattle.core_admin.specs.AnsweredBy.{ActAnswersBy};
 ghost use Rattle.core_admin.specs.FileRows.{row_shown, rows_shown, sized_row};
-ghost use Rattle.core_admin.specs.FilesTold.{GivesRows, HasBytes, IsFileRow, ListsThere, TellsOfBytes, asked_files};
+ghost use Rattle.core_admin.specs.FilesTold.{Finds, GivesRows, HasBytes, IsFileRow, ListsThere, TellsOfBytes, asked_files, whole_of};
 
-use core_state::{Kept, Parts, Place, StoredFile};
+use core_state::{Catalogue, Kept, Parts, Place, StoredFile};
 use disk_trait::{Disk, DiskError};
 use manifest::{FileFact, Manifest};
 use sha2::{Digest, Sha256};
@@ -160,6 +160,21 @@ fn rows_read<D: Disk>(disk: &mut D, alloc: Global, kept: &Kept) -> Result<Rows<F
     Ok(rows)
 }
 
+/// What FILES tests behind its text: the snapshot is there; no file is known to make it damaged, else that file is told.
+fn whole_of<'a>(catalogue: &'a Catalogue, key: &SnapshotKey) -> Result<&'a Kept, Stop>
+    ensures finds { Finds (whole_of key.now catalogue.now.listed) result }
+    ensures key { IfOk result (λ k. k.now.key ≡ key.now) }
+{
+    let Some(kept) = catalogue.named(key) else {
+        return Err(Stop::Refused(Refusal::NoSnapshot));
+    };
+    if let Some(name) = &kept.unreadable {
+        let name = name.clone()?;
+        return Err(Stop::Refused(Refusal::Unreadable { name }));
+    }
+    Ok(kept)
+}
+
 /// The files of a snapshot, in byte order, as its manifest lists them; of the manifest itself its own size and checksum. It
 /// reads the manifest's file, and changes nothing.
 ///
@@ -169,27 +184,19 @@ fn rows_read<D: Disk>(disk: &mut D, alloc: Global, kept: &Kept) -> Result<Rows<F
 pub fn files<D: Disk>(
     parts: &mut Parts<D>,
     alloc: Global,
-    _at: Place,
+    at: Place,
     snapshot: &[u8],
 ) -> Result<Reply, Stop>
-    ensures does { PlainDoes D.Disk parts.old parts.new _at (Files snapshot.now) result }
-    ensures leaves { PlainLeaves D.Disk parts.old parts.new _at (Files snapshot.now) result }
+    ensures does { PlainDoes D.Disk parts.old parts.new at (Files snapshot.now) result }
+    ensures leaves { PlainLeaves D.Disk parts.old parts.new at (Files snapshot.now) result }
     // on any disk, where there is such a snapshot: the file that makes it damaged, exactly where one does; else rows, or
     // that the manifest is unreadable. On an honest disk, whatever it holds, just what the manifest there lists, or that
-    ensures from_state { ActAnswersBy D.Disk parts.old _at (Plain (Files snapshot.now)) result }
+    ensures from_state { ActAnswersBy D.Disk parts.old at (Plain (Files snapshot.now)) result }
     // it is unreadable exactly where it is, as far as the disk tells
-    ensures unreadable { ActUnreadable D.Disk (λ _. asked_files snapshot.now) parts.old _at result }
+    ensures unreadable { ActUnreadable D.Disk (asked_files snapshot.now) parts.old at result }
 {
-    let Ok(key) = SnapshotKey::parse(alloc, snapshot)? else {
-        return Err(Stop::Refused(Refusal::BadName));
-    };
-    let Some(kept) = parts.catalogue.named(&key) else {
-        return Err(Stop::Refused(Refusal::NoSnapshot));
-    };
-    if let Some(name) = &kept.unreadable {
-        let name = name.clone()?;
-        return Err(Stop::Refused(Refusal::Unreadable { name }));
-    }
+    let key = parts.key_in(alloc, at.lane, snapshot)?;
+    let kept = whole_of(&parts.catalogue, &key)?;
     let rows = rows_read(&mut parts.disk, alloc, kept)?;
     Ok(Reply::Files(rows))
 }

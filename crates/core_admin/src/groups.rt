@@ -6,10 +6,11 @@ ghost use Rattle.wire_commands.specs.declared.command.Command.TheVariants.{Group
 ghost use Rattle.store_model.specs.AdminSteps.{counts_fit as fit_counts};
 ghost use Rattle.store_history.specs.declared.act.Act.TheVariants.{Plain};
 ghost use Rattle.core_state.specs.Commands.{PlainDoes, PlainLeaves};
+ghost use Rattle.core_state.specs.Decides.{Decides};
 ghost use Rattle.core_state.specs.Named.{is_named_snapshot};
 ghost use Rattle.core_admin.specs.AdminActs.{PruneAnswersBy, PruneDoes, PruneLeaves};
 ghost use Rattle.core_admin.specs.AnsweredBy.{ActAnswersBy};
-ghost use Rattle.core_admin.specs.Listings.{IsShort, texts_of as texts_of_first};
+ghost use Rattle.core_admin.specs.Listings.{IsShort, texts_of as texts_of_first, to_prune};
 
 use core_state::{Listed, Parts, Place};
 use disk_trait::Disk;
@@ -40,17 +41,15 @@ fn texts_of(alloc: Global, listed: &[Listed]) -> Result<Rows<Bytes>, AllocError>
 pub fn group<D: Disk>(
     parts: &Parts<D>,
     alloc: Global,
-    _at: Place,
+    at: Place,
     name: &[u8],
 ) -> Result<Reply, Stop>
-    ensures does { PlainDoes D.Disk parts.now parts.now _at (Group name.now) result }
-    ensures leaves { PlainLeaves D.Disk parts.now parts.now _at (Group name.now) result }
+    ensures does { PlainDoes D.Disk parts.now parts.now at (Group name.now) result }
+    ensures leaves { PlainLeaves D.Disk parts.now parts.now at (Group name.now) result }
     // on any disk
-    ensures from_state { ActAnswersBy D.Disk parts.now _at (Plain (Group name.now)) result }
+    ensures from_state { ActAnswersBy D.Disk parts.now at (Plain (Group name.now)) result }
 {
-    let Ok(group) = GroupKey::parse(alloc, name)? else {
-        return Err(Stop::Refused(Refusal::BadName));
-    };
+    let group = parts.group_in(alloc, at.lane, name)?;
     let texts = texts_of(alloc, parts.catalogue.group(&group))?;
     Ok(Reply::Keys(texts))
 }
@@ -67,10 +66,27 @@ fn counts_fit(keep: &Keep) -> bool
         && keep.yearly <= COUNT_LIMIT
 }
 
+/// The tests of a PRUNE, in order: the lane has no session; the text names a group; no count is above 1,000.
+#[tactic(auto, using(core_state::proofs::Texts::too_many_has_text), unfolding(crate::specs::Listings::to_prune))]
+fn to_prune<D>(
+    parts: &Parts<D>,
+    alloc: Global,
+    lane: u32,
+    name: &[u8],
+    keep: &Keep,
+) -> Result<GroupKey, Stop>
+    requires { lane < 64 }
+    ensures { Decides (λ group. group) (to_prune name.now keep.now) parts.now lane result }
+{
+    let group = parts.idle_group(alloc, lane, name)?;
+    if !counts_fit(keep) {
+        let limit = u32::from(COUNT_LIMIT);
+        return Err(Stop::Refused(Refusal::TooMany { limit }));
+    }
+    Ok(group)
+}
+
 /// The group's finished snapshots for a PRUNE, as GROUP tells them. It changes nothing and makes no disk call.
-///
-/// The refusals, in the order in which they are tested: the lane has a session; the text names no group; a count is above
-/// 1,000.
 pub fn prune_group<D: Disk>(
     parts: &Parts<D>,
     alloc: Global,
@@ -85,14 +101,7 @@ pub fn prune_group<D: Disk>(
     // on any disk
     ensures from_state { PruneAnswersBy D.Disk parts.now at name.now keep.now _dry result }
 {
-    parts.idle(at.lane)?;
-    let Ok(group) = GroupKey::parse(alloc, name)? else {
-        return Err(Stop::Refused(Refusal::BadName));
-    };
-    if !counts_fit(keep) {
-        let limit = u32::from(COUNT_LIMIT);
-        return Err(Stop::Refused(Refusal::TooMany { limit }));
-    }
+    let group = to_prune(parts, alloc, at.lane, name, keep)?;
     let texts = texts_of(alloc, parts.catalogue.group(&group))?;
     Ok(Reply::Keys(texts))
 }

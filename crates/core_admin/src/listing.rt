@@ -1,47 +1,21 @@
 //! LIST.
 
-ghost use Rattle.std.specs.Prelude.{◌≡◌, ◌<◌, ◌≤◌, length, IfOk, IfErr, IsTrue};
+ghost use Rattle.std.specs.Prelude.{◌≡◌, ◌<◌, ◌≤◌, length, IfOk, IsTrue};
 ghost use Rattle.std.specs.List.{All, list_all};
 ghost use Rattle.store_types.specs.Names.{IsKey};
 ghost use Rattle.wire_commands.specs.declared.command.Command.TheVariants.{List as ListAll};
-ghost use Rattle.store_model.specs.AdminSteps.{want_after};
 ghost use Rattle.store_history.specs.declared.act.Act.TheVariants.{Plain};
 ghost use Rattle.core_state.specs.Commands.{PlainDoes, PlainLeaves};
 ghost use Rattle.core_state.specs.Named.{is_named_snapshot};
-ghost use Rattle.store_stops.specs.Stops.{Gives};
 ghost use Rattle.core_admin.specs.AnsweredBy.{ActAnswersBy};
-ghost use Rattle.core_admin.specs.Listings.{IsListable, IsNamesStop, files_counted, row_of as row_of_kept, rows_of as rows_of_first};
+ghost use Rattle.core_admin.specs.Listings.{IsListable, row_of as row_of_kept, rows_of as rows_of_first};
 
-use core_state::{Kept, Listed, Parts, Place};
+use core_state::{Kept, Listed, ListedRow, Parts, Place};
 use disk_trait::Disk;
 use std::alloc::{AllocError, Global};
 use store_stops::Stop;
-use store_types::{Bytes, LIST_LIMIT, Refusal, Rows, SnapshotKey};
+use store_types::{Bytes, LIST_LIMIT, Rows};
 use wire_commands::{ListRow, Reply};
-
-/// The snapshot that a text names, or none where the text is empty.
-fn key_after(alloc: Global, text: &[u8]) -> Result<Option<SnapshotKey>, Stop>
-    ensures value { Gives (λ after. after) result (want_after text.now) }
-    ensures stop { IfErr result IsNamesStop }
-{
-    if text.is_empty() {
-        return Ok(None);
-    }
-    let Ok(key) = SnapshotKey::parse(alloc, text)? else {
-        return Err(Stop::Refused(Refusal::BadName));
-    };
-    Ok(Some(key))
-}
-
-/// How many files are told of a snapshot: of a damaged one none.
-fn file_count(kept: &Kept) -> u8
-    ensures { result ≡ files_counted kept.now }
-{
-    if kept.unreadable.is_some() {
-        return 0;
-    }
-    kept.files.as_slice().len().min(255) as u8
-}
 
 /// What is told of a snapshot.
 pub fn row_of(alloc: Global, kept: &Kept) -> Result<ListRow, AllocError>
@@ -50,10 +24,11 @@ pub fn row_of(alloc: Global, kept: &Kept) -> Result<ListRow, AllocError>
     ensures listable { IfOk result IsListable }
 {
     let snapshot = Bytes::from_vec(kept.key.print(alloc)?.into_bytes());
+    let row = ListedRow::of(kept);
     Ok(ListRow {
         snapshot,
-        damaged: kept.unreadable.is_some(),
-        files: file_count(kept),
+        damaged: row.damaged,
+        files: row.files,
     })
 }
 
@@ -79,15 +54,15 @@ fn rows_of(alloc: Global, listed: &[Listed]) -> Result<Rows<ListRow>, AllocError
 pub fn list<D: Disk>(
     parts: &Parts<D>,
     alloc: Global,
-    _at: Place,
+    at: Place,
     after: &[u8],
 ) -> Result<Reply, Stop>
-    ensures does { PlainDoes D.Disk parts.now parts.now _at (ListAll after.now) result }
-    ensures leaves { PlainLeaves D.Disk parts.now parts.now _at (ListAll after.now) result }
+    ensures does { PlainDoes D.Disk parts.now parts.now at (ListAll after.now) result }
+    ensures leaves { PlainLeaves D.Disk parts.now parts.now at (ListAll after.now) result }
     // on any disk
-    ensures from_state { ActAnswersBy D.Disk parts.now _at (Plain (ListAll after.now)) result }
+    ensures from_state { ActAnswersBy D.Disk parts.now at (Plain (ListAll after.now)) result }
 {
-    let after = key_after(alloc, after)?;
+    let after = parts.after_in(alloc, at.lane, after)?;
     let rows = rows_of(alloc, parts.catalogue.after(after.as_ref()))?;
     Ok(Reply::Listing(rows))
 }

@@ -19,10 +19,11 @@ use Rattle.core_state.specs.declared.collector.Early.{Early}
 use Rattle.core_state.specs.declared.state.Core.{Core}
 use Rattle.core_state.specs.Answers.{HasCause, StartHasCause, StepHasCause, done, failed, halted, short, start_as_any, start_opens, step_as_any, step_ends, step_passes}
 use Rattle.core_state.specs.Collectors.{is_cut, is_on, refusal_of as early_refusal}
-use Rattle.core_state.specs.Replies.{may_answer}
+use Rattle.store_history.specs.Replies.{may_answer}
 use Rattle.core_state.specs.Unreadables.{Asked, TellsUnreadable, known, part_read}
-use Rattle.core_state.specs.Wanted.{session_at}
-use Rattle.core_collect.specs.Acts.{CollectUnreadable, asked_by, asked_of_collector, refusal_of}
+use Rattle.core_state.specs.Kept.{kept_at}
+use Rattle.core_state.specs.Unreadables.{CoreUnreadable}
+use Rattle.core_collect.specs.Acts.{asked_by, asked_of_collector, refusal_of}
 use Rattle.core_collect.specs.Ending.{early_in}
 use Rattle.core_collect.specs.Starting.{StartTells}
 use Rattle.core_collect.specs.Passing.{EndsWhole}
@@ -94,9 +95,9 @@ start_kind d old new answer name (start_opens before three told) is = absurd (un
 start_kind d old new answer name (start_as_any cause) is = as_any_kind d old new answer name cause is
 
 pub start_unreadable : {D E C : Type 0} (d : Ghosts D) (old new : Core D E C) (lane : ℕ) (answer : Answer) → StartHasCause d old new Start answer → StartTells old new lane answer
-    → CollectUnreadable d old lane Start answer
+    → CoreUnreadable d (asked_of_collector Start old.collector) old lane answer
 start_unreadable d old new lane answer cause tells =
-    tells_known d (old.parts).disk (asked_of_collector Start lane old.collector (session_at old.parts lane) (old.parts).catalogue.listed) (answer.entry).kind answer.reply
+    tells_known d (old.parts).disk (asked_of_collector Start old.collector (kept_at old.parts lane)) (answer.entry).kind answer.reply
     (λ name is. let (refusal, said, by) = tells.refused (start_kind d old new answer name cause is) in
     ap (λ o. asked_by (refusal_of o)) by ∙ ap (λ r. asked_by (Some r)) (same_refused refusal (refusals.Unreadable name) (sym said ∙ is)))
     (λ a zero at. let (refusal, said, by) = tells.refused zero in
@@ -145,7 +146,7 @@ abbrev asks : ℕ → Option Collector → Option Asked
 asks lane collector = if is_on lane collector then asked_by (option_map early_refusal (early_in collector)) else None
 
 pub step_unreadable : {D E C : Type 0} (d : Ghosts D) (old new : Core D E C) (lane : ℕ) (answer : Answer) → StepHasCause d old new Step answer → StepTells d old new lane answer
-    → CollectUnreadable d old lane Step answer
+    → CoreUnreadable d (asked_of_collector Step old.collector) old lane answer
 step_unreadable d old new lane answer cause tells =
     tells_known d (old.parts).disk (asks lane old.collector) (answer.entry).kind answer.reply
     (λ name is. by_cut name is (is_cut lane old.collector) refl)

@@ -5,7 +5,7 @@ use Rattle.std.proofs.lemmas.Bool.{eq-eqb, ne_eqb}
 use Rattle.std.proofs.lemmas.List.Elements.{All-cons, All-head, All-nil, All-tail}
 use Rattle.core_state.specs.declared.kept.Listed.{Listed}
 use Rattle.core_state.specs.Numbers.{DifferInNumber}
-use Rattle.core_state.specs.Sweeps.{kept_at}
+use Rattle.core_state.specs.Sweeps.{by_number}
 use Rattle.store_history.proofs.Found.{find_each}
 
 -- ---- the catalogue
@@ -17,7 +17,7 @@ numbers_apart : (xs : List Listed) → AllPairs DifferInNumber xs → AllPairs (
 numbers_apart xs once i j d lt within = ne_eqb (get_or xs i d).number (get_or xs j d).number (once i j d lt within)
 
 -- what is kept of each is what is kept of the one of its number
-pub each_numbered : (xs : List Listed) → AllPairs DifferInNumber xs → All (λ x. kept_at x.number xs ≡ Some (x.kept)) xs
+pub each_numbered : (xs : List Listed) → AllPairs DifferInNumber xs → All (λ x. by_number x.number xs ≡ Some (x.kept)) xs
 each_numbered xs once k d within =
     ap (option_map (λ (x : Listed). x.kept)) (find_each has_number (λ x. eq-eqb x.number x.number refl) xs (numbers_apart xs once) k d within)
 

@@ -18,7 +18,7 @@ use Rattle.core_state.specs.declared.kept.Kept.{Kept}
 use Rattle.core_state.specs.declared.kept.Listed.{Listed}
 use Rattle.core_state.specs.declared.marked.MarkedPages.{MarkedPages}
 use Rattle.core_state.specs.Entries.{FitsPages, count_at_hand, marked_in}
-use Rattle.core_state.specs.Sweeps.{ArePages, FitsRemoved, HasNumber, HasPages, ShowsSweep, digests_named, kept_at, left_at, left_in, left_of_kept, unmarked_by, visits_by}
+use Rattle.core_state.specs.Sweeps.{ArePages, FitsRemoved, HasNumber, HasPages, ShowsSweep, by_number, digests_named, left_at, left_in, left_of_kept, unmarked_by, visits_by}
 use Rattle.core_state.specs.Upkeeps.{TouchesEach}
 use Rattle.core_state.proofs.Finding.{some_same}
 use Rattle.core_collect.specs.Entries.{bytes_of, marked_from}
@@ -268,14 +268,14 @@ module _ (catalogue : List Listed) (snapshots : List Snapshot) where
 
   -- ---- an index that is passed over
 
-  left_none : (i : IndexAt) (first : ℕ) (o : Option Kept) → kept_at i.snapshot catalogue ≡ o → ((k : Kept) → kept_at i.snapshot catalogue ≡ Some k → digests_named k.key i.name snapshots ≡ [])
+  left_none : (i : IndexAt) (first : ℕ) (o : Option Kept) → by_number i.snapshot catalogue ≡ o → ((k : Kept) → by_number i.snapshot catalogue ≡ Some k → digests_named k.key i.name snapshots ≡ [])
       → left_at catalogue snapshots first i ≡ []
   left_none i first None at none = ap (left_of_kept snapshots i.name first) at
   left_none i first (Some k) at none =
       ap (left_of_kept snapshots i.name first) at ∙ unmarked_none k.key i.name _ (ap (drop first) (none k at) ∙ drop_none first)
 
   pub passed_shows : (acts : ℕ) (old new : Collector) (sweep : Sweep) (i : IndexAt) → PassesOver old new → next_index old.plan ≡ Some i
-      → ((k : Kept) → kept_at i.snapshot catalogue ≡ Some k → digests_named k.key i.name snapshots ≡ [])
+      → ((k : Kept) → by_number i.snapshot catalogue ≡ Some k → digests_named k.key i.name snapshots ≡ [])
       → ShowsSweep acts catalogue snapshots old sweep → ShowsSweep acts catalogue snapshots new sweep
   passed_shows acts old new sweep i over at none h =
       let p = old.plan in record {
@@ -283,7 +283,7 @@ module _ (catalogue : List Listed) (snapshots : List Snapshot) where
         cutoff = ap (λ (q : Plan). q.cutoff) over.plan ∙ h.cutoff;
         unmarked =
             ap (λ (q : Plan). unmarked q.indexes q.stage) over.plan
-            ∙ sym (first_left p.indexes p.stage i at ∙ ap (λ us. us ++ unmarked p.indexes (marked_at p.stage 0 0)) (left_none i (marked_in p.stage) (kept_at i.snapshot catalogue) refl none))
+            ∙ sym (first_left p.indexes p.stage i at ∙ ap (λ us. us ++ unmarked p.indexes (marked_at p.stage 0 0)) (left_none i (marked_in p.stage) (by_number i.snapshot catalogue) refl none))
             ∙ h.unmarked;
         to_visit = ap (λ (q : Plan). visits_by q.stage) over.plan ∙ visits_marked p.stage 0 0 ∙ h.to_visit;
         removed = ap (λ (q : Plan). q.removed) over.plan ∙ h.removed;
@@ -294,7 +294,7 @@ module _ (catalogue : List Listed) (snapshots : List Snapshot) where
 
   -- ---- an index whose pages are at hand
 
-  pub begins_with : (c : Collector) (i : IndexAt) (k : Kept) (q : MarkedPages) (digests : List Digest32) (us : List Unmarked) → next_index c.plan ≡ Some i → kept_at i.snapshot catalogue ≡ Some k → c.pages ≡ Some q
+  pub begins_with : (c : Collector) (i : IndexAt) (k : Kept) (q : MarkedPages) (digests : List Digest32) (us : List Unmarked) → next_index c.plan ≡ Some i → by_number i.snapshot catalogue ≡ Some k → c.pages ≡ Some q
       → HasAll snapshots k i q → bytes_of digests ≡ marked_from (marked_in (c.plan).stage) (all_of k i snapshots) → unmarked (c.plan).indexes (c.plan).stage ≡ us → BeginsWith catalogue snapshots c digests us
   begins_with c i k q digests us at there had all are shown =
       let first = marked_in (c.plan).stage in

@@ -35,7 +35,7 @@ use Rattle.core_state.specs.declared.marked.MarkedPage.{MarkedPage}
 use Rattle.core_state.specs.MarkedPage.{IsPageOfText}
 use Rattle.core_state.specs.Found.{kept_named, path_in, path_of_kept}
 use Rattle.core_state.specs.Shown.{files_named, shown_snapshot}
-use Rattle.core_state.specs.Sweeps.{AreOfText, ArePages, digests_in, digests_named, kept_at}
+use Rattle.core_state.specs.Sweeps.{AreOfText, ArePages, by_number, digests_in, digests_named}
 use Rattle.core_state.proofs.Finding.{found_in, mapped}
 use Rattle.core_state.proofs.Found.{IsThere, is_there, kept_is, not_there, there_fits, there_kind, there_named, there_text}
 use Rattle.core_state.proofs.KeptPages.{index_is_kept, kept_is as pages_kept, opens_as, there_path}
@@ -118,13 +118,13 @@ module _ (catalogue : List Listed) (snapshots : List Snapshot) (same : map (λ x
       let y = like.0 in
       ap (λ (q : Kept). kept_named q.key catalogue) like.1 ∙ kept_is catalogue snapshots y.key same ∙ ap (option_map shown_snapshot) like.2 ∙ ap Some (sym like.1)
 
-  numbered_named : (number : ℕ) (k : Kept) → kept_at number catalogue ≡ Some k → kept_named k.key catalogue ≡ Some k
+  numbered_named : (number : ℕ) (k : Kept) → by_number number catalogue ≡ Some k → kept_named k.key catalogue ≡ Some k
   numbered_named number k at =
       let found = mapped (λ (x : Listed). x.kept) (find (λ (x : Listed). x.number == number) catalogue) k at in
       let named : IsNamed found.0 = found_in IsNamed _ catalogue found.0 all_named found.1 in
       ap (λ (q : Kept). kept_named q.key catalogue) found.2 ∙ named ∙ ap Some (sym found.2)
 
-  module _ (i : IndexAt) (k : Kept) (at : kept_at i.snapshot catalogue ≡ Some k) where
+  module _ (i : IndexAt) (k : Kept) (at : by_number i.snapshot catalogue ≡ Some k) where
     path_same : path_in k.key i.name catalogue ≡ path_at i catalogue
     path_same = ap (path_of_kept i.name) (numbered_named i.snapshot k at) ∙ sym (ap (path_of_kept i.name) at)
 

@@ -30,7 +30,7 @@ use Rattle.core_state.specs.MarkedPage.{FitsLast}
 use Rattle.core_state.specs.Entries.{count_at_hand, marked_in}
 use Rattle.core_state.specs.Found.{path_of_kept}
 use Rattle.core_state.specs.Holds.{Holds}
-use Rattle.core_state.specs.Sweeps.{ArePages, FitsRemoved, HasNumber, HasPages, ShowsSweep, digests_named, kept_at, unmarked_by, visits_by}
+use Rattle.core_state.specs.Sweeps.{ArePages, FitsRemoved, HasNumber, HasPages, ShowsSweep, by_number, digests_named, unmarked_by, visits_by}
 use Rattle.core_state.specs.Unchanged.{SameKept}
 use Rattle.core_state.proofs.Acting.{holds_same}
 use Rattle.core_state.proofs.Finding.{some_same}
@@ -94,10 +94,10 @@ none_left : (is : List IndexAt) (stage : Stage) → index_in is stage ≡ None �
 none_left is (marking place first) e = drop_all place is (at_place is place e)
 none_left is (sweeping names) e = refl
 
-kept_there : (i : IndexAt) (catalogue : List Listed) (path : List ℕ) → path_at i catalogue ≡ Some path → (k : Kept) × (kept_at i.snapshot catalogue ≡ Some k)
-kept_there i catalogue path found = from_state (kept_at i.snapshot catalogue) refl found
+kept_there : (i : IndexAt) (catalogue : List Listed) (path : List ℕ) → path_at i catalogue ≡ Some path → (k : Kept) × (by_number i.snapshot catalogue ≡ Some k)
+kept_there i catalogue path found = from_state (by_number i.snapshot catalogue) refl found
   where
-    from_state : (o : Option Kept) → kept_at i.snapshot catalogue ≡ o → path_of_kept i.name o ≡ Some path → (k : Kept) × (kept_at i.snapshot catalogue ≡ Some k)
+    from_state : (o : Option Kept) → by_number i.snapshot catalogue ≡ o → path_of_kept i.name o ≡ Some path → (k : Kept) × (by_number i.snapshot catalogue ≡ Some k)
     from_state None at e = absurd (none_some path e)
     from_state (Some k) at e = (k, at)
 
@@ -155,7 +155,7 @@ module _ {D : Type 0} (d : Ghosts D) (parts : Parts D) where
   passed_settles : (old new : Collector) (i : IndexAt) → next_index old.plan ≡ Some i → PassesOver old new
       → (d.honest parts.disk → standing m catalogue old.pages (marked_in (old.plan).stage) i ≡ passed_over)
       → (path_at i catalogue ≡ None) ⊎ (old.pages ≡ None)
-      → ((s : Store) → Holds d parts s → (k : Kept) → kept_at i.snapshot catalogue ≡ Some k → digests_named k.key i.name s.snapshots ≡ []) → SettlesNext d parts old new (Ok None)
+      → ((s : Store) → Holds d parts s → (k : Kept) → by_number i.snapshot catalogue ≡ Some k → digests_named k.key i.name s.snapshots ≡ []) → SettlesNext d parts old new (Ok None)
   passed_settles old new i at over stands may empty = record {
     further = record {
       lane = over.lane;
@@ -188,7 +188,7 @@ module _ {D : Type 0} (d : Ghosts D) (parts : Parts D) where
 
   -- of a plain store it is an index's file
   is_plain : (c : Collector) (i : IndexAt) (path : List ℕ) (s : Store) → next_index c.plan ≡ Some i → path_at i catalogue ≡ Some path → Holds d parts s
-      → (k : Kept) → kept_at i.snapshot catalogue ≡ Some k → IsPlain m s.snapshots k i.name path
+      → (k : Kept) → by_number i.snapshot catalogue ≡ Some k → IsPlain m s.snapshots k i.name path
   is_plain c i path s at found holds k kept =
       index_plain catalogue s.snapshots (holds.shows).catalogue ((holds.shows).sound).order i k kept m path (holds.files).snapshots
       (at_next (λ (j : IndexAt). is_index_name j.name ≡ true) (c.plan).indexes (c.plan).stage i (c.fits).named at) found
@@ -238,7 +238,7 @@ module _ {D : Type 0} (d : Ghosts D) (parts : Parts D) where
         by_count p false some stands same =
             absurd (by_read p (next_read m path p None 0) (sym (ap (λ b. cond b passed_over (standing_by path p (next_read m path p None 0))) some) ∙ stands))
 
-        none_named : (s : Store) → Holds d parts s → (k : Kept) → kept_at i.snapshot catalogue ≡ Some k → (r : Result IndexPages Refusal) → index_opened m path (kind_of_index i.name) ≡ r
+        none_named : (s : Store) → Holds d parts s → (k : Kept) → by_number i.snapshot catalogue ≡ Some k → (r : Result IndexPages Refusal) → index_opened m path (kind_of_index i.name) ≡ r
             → digests_named k.key i.name s.snapshots ≡ []
         none_named s holds k kept (Err refusal) is = absurd (plain_opens m s.snapshots k i.name path refusal (is_plain old i path s at found holds k kept) is)
         none_named s holds k kept (Ok p) is =
@@ -262,7 +262,7 @@ module _ {D : Type 0} (d : Ghosts D) (parts : Parts D) where
       not_more = le_of_eq (ap left_of plan);
     }
 
-    shows_as : (acts : ℕ) (s : Store) (sweep : Sweep) (i : IndexAt) (k : Kept) (r : MarkedPages) → next_index old.plan ≡ Some i → kept_at i.snapshot catalogue ≡ Some k → new.pages ≡ Some r → ArePages s.snapshots i.name r (Some k)
+    shows_as : (acts : ℕ) (s : Store) (sweep : Sweep) (i : IndexAt) (k : Kept) (r : MarkedPages) → next_index old.plan ≡ Some i → by_number i.snapshot catalogue ≡ Some k → new.pages ≡ Some r → ArePages s.snapshots i.name r (Some k)
         → ShowsSweep acts catalogue s.snapshots old sweep → ShowsSweep acts catalogue s.snapshots new sweep
     shows_as acts s sweep i k r at there had are h = record {
       start = ap (λ (q : Plan). q.start) plan ∙ h.start;
@@ -278,7 +278,7 @@ module _ {D : Type 0} (d : Ghosts D) (parts : Parts D) where
 
   -- for each store they are the file's, and what was at hand is what would be read
   abbrev HasPagesOf : Collector → IndexAt → MarkedPages → Option MarkedPage → Type 0
-  HasPagesOf old i r at_hand = (s : Store) (sweep : Sweep) (acts : ℕ) → Holds d parts s → ShowsSweep acts catalogue s.snapshots old sweep → (k : Kept) → kept_at i.snapshot catalogue ≡ Some k
+  HasPagesOf old i r at_hand = (s : Store) (sweep : Sweep) (acts : ℕ) → Holds d parts s → ShowsSweep acts catalogue s.snapshots old sweep → (k : Kept) → by_number i.snapshot catalogue ≡ Some k
       → ArePages s.snapshots i.name r (Some k) × ((j : ℕ) → bytes_at m r.kept at_hand j ≡ page_at m (pages_by r.kept) j)
 
   module _ (old new : Collector) (i : IndexAt) (path : List ℕ) (r : MarkedPages) (at_hand : Option MarkedPage) (digests : Vec Digest32 Global) (at : next_index old.plan ≡ Some i) (found : path_at i catalogue ≡ Some path)
@@ -489,7 +489,7 @@ module _ {D : Type 0} (d : Ghosts D) (parts : Parts D) where
               next_unread p (marked_from 0 (digests_named k.key i.name s.snapshots)) name
               (sym (ap (standing_by path p) read) ∙ sym (ap (λ b. cond b passed_over (standing_by path p (next_read m path p None 0))) more) ∙ e)
 
-          by_opened : (s : Store) → Holds d parts s → (k : Kept) → kept_at i.snapshot catalogue ≡ Some k → (r : Result IndexPages Refusal) → index_opened m path (kind_of_index i.name) ≡ r
+          by_opened : (s : Store) → Holds d parts s → (k : Kept) → by_number i.snapshot catalogue ≡ Some k → (r : Result IndexPages Refusal) → index_opened m path (kind_of_index i.name) ≡ r
               → standing_as m path (index_opened m path (kind_of_index i.name)) ≡ unreadable name → ⊥
           by_opened s holds k kept (Err refusal) is e = plain_opens m s.snapshots k i.name path refusal (is_plain c i path s at found holds k kept) is
           by_opened s holds k kept (Ok p) is e =

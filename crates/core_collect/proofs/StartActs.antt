@@ -42,13 +42,16 @@ use Rattle.core_state.specs.Entering.{held_by}
 use Rattle.core_state.specs.History.{History, StandsFor, event_of, then_event, world}
 use Rattle.core_state.specs.KeepsTouches.{KeepsTouches, swept_of, touches_of_history}
 use Rattle.core_state.specs.Numbers.{AreNumbered}
-use Rattle.core_state.specs.Replies.{refuses_start}
+use Rattle.store_history.specs.Replies.{refuses_start}
 use Rattle.core_state.specs.Settles.{IsEntered, Settles}
 use Rattle.core_state.specs.Stops.{told}
 use Rattle.snapshot_files.specs.Reads.{StopHasText}
 use Rattle.core_state.specs.Sweeps.{ShowsOpen, ShowsSweep}
 use Rattle.core_state.specs.Upkeeps.{touches_kept}
-use Rattle.core_state.specs.Wanted.{session_at, want_idle}
+use Rattle.core_state.specs.Heads.{idle_in}
+use Rattle.core_state.specs.Kept.{KeptAt, kept_at}
+use Rattle.core_state.specs.Wanted.{session_at}
+use Rattle.core_state.proofs.HeadLemmas.{idle_in_refuses, refuses_some, refuses_then}
 use Rattle.core_state.proofs.Entered.{world_more}
 use Rattle.core_state.proofs.Recorded.{numbers_more}
 use Rattle.core_state.proofs.Started.{start_short_stands, start_told_stands}
@@ -154,28 +157,15 @@ module _ {D E C : Type 0} (d : Ghosts D) (clock : clocks.Ghosts C) (old new : Co
 
 -- ---- what refuses it
 
-start_refusal : (c : Option Collector) (x : Session) (catalogue : List Listed) (refusal : Refusal) → start_told c x catalogue ≡ Err refusal → refuses_start refusal ≡ true
+start_refusal : (c : Option Collector) (k : KeptAt) (refusal : Refusal) → start_told c k ≡ Err refusal → refuses_start refusal ≡ true
 unfolding start_told
-start_refusal c x catalogue refusal is = by_session x is
+start_refusal c k refusal is =
+    refuses_then IsIts (idle_in k) _ (idle_in_refuses IsIts k (λ state. refl))
+    (λ u. refuses_then IsIts (if_none (λ (y : Collector). CollectorBusy y.lane) c) _ (refuses_some IsIts (λ (y : Collector). CollectorBusy y.lane) c (λ y. refl))
+    (λ u. refuses_some IsIts Unreadable (first_unreadable k.catalogue) (λ name. refl))) refusal is
   where
-    same : (a : Refusal) → ◌≡◌ {A = Result (Unit {0}) Refusal} (Err a) (Err refusal) → a ≡ refusal
-    same a e = cc
-
-    ok_err : (u : Unit {0}) → ◌≡◌ {A = Result (Unit {0}) Refusal} (Ok u) (Err refusal) → ⊥
-    ok_err u e = cc
-
-    by_name : (o : Option (List ℕ)) → if_none Unreadable o ≡ Err refusal → refuses_start refusal ≡ true
-    by_name None e = absurd (ok_err tt e)
-    by_name (Some name) e = ap refuses_start (sym (same (Unreadable name) e))
-
-    by_open : (o : Option Collector) → (if_none (λ (y : Collector). CollectorBusy y.lane) o >>= λ _. if_none Unreadable (first_unreadable catalogue)) ≡ Err refusal → refuses_start refusal ≡ true
-    by_open None e = by_name (first_unreadable catalogue) e
-    by_open (Some y) e = ap refuses_start (sym (same (CollectorBusy y.lane) e))
-
-    by_session : (y : Session) → (want_idle y >>= λ _. if_none (λ (z : Collector). CollectorBusy z.lane) c >>= λ _. if_none Unreadable (first_unreadable catalogue)) ≡ Err refusal → refuses_start refusal ≡ true
-    by_session Idle e = by_open c e
-    by_session (Writer w) e = ap refuses_start (sym (same (refusals.WrongState states.Writer) e))
-    by_session (Reader r) e = ap refuses_start (sym (same (refusals.WrongState states.Reader) e))
+    IsIts : Refusal → Type 0
+    IsIts r = refuses_start r ≡ true
 
 no_fault : (refusal : Refusal) → refuses_start refusal ≡ true → refusal ≡ DiskFault → ⊥
 no_fault refusal refuses is = false_true (sym (ap refuses_start is) ∙ refuses)
@@ -220,13 +210,13 @@ module _ {D E C : Type 0} (d : Ghosts D) (clock : clocks.Ghosts C) (old mid new 
   collector = ((admitted.ready).begun).collector
 
   -- what its tests tell, by the core as it was before
-  told_old : start_told mid.collector (session_at mid.parts at.lane) (mid.parts).catalogue.listed ≡ start_told old.collector (session_at old.parts k) (old.parts).catalogue.listed
+  told_old : start_told mid.collector (kept_at mid.parts at.lane) ≡ start_told old.collector (kept_at old.parts k)
   told_old =
-      ap (λ (c : Option Collector). start_told c (session_at mid.parts at.lane) (mid.parts).catalogue.listed) collector
-      ∙ ap (λ (p : Parts D). start_told old.collector (session_at p at.lane) p.catalogue.listed) parts
-      ∙ ap (λ n. start_told old.collector (session_at old.parts n) (old.parts).catalogue.listed) admitted.lane_is
+      ap (λ (c : Option Collector). start_told c (kept_at mid.parts at.lane)) collector
+      ∙ ap (λ (p : Parts D). start_told old.collector (kept_at p at.lane)) parts
+      ∙ ap (λ n. start_told old.collector (kept_at old.parts n)) admitted.lane_is
 
-  may_be : (h : History) → StandsFor d clock.readings old h → start_told old.collector (session_at old.parts k) (old.parts).catalogue.listed ≡ may_open (world h) k
+  may_be : (h : History) → StandsFor d clock.readings old h → start_told old.collector (kept_at old.parts k) ≡ may_open (world h) k
   may_be h s = start_told_is old.parts (world h) k old.collector s.shows s.collecting lt
 
   module _ (c : Collector) (gives : GivesCollector mid.parts mid.collector at (Ok c)) (enters : IsEntered d (record mid { collector = Some c }) new at.lane at.moment 3 None answer) where
@@ -243,7 +233,7 @@ module _ {D E C : Type 0} (d : Ghosts D) (clock : clocks.Ghosts C) (old mid new 
     is_new = subst (λ m. IsNewCollector old.parts k m c) (sym moment_is)
         (subst (λ n. IsNewCollector old.parts n at.moment c) admitted.lane_is (subst (λ (p : Parts D). IsNewCollector p at.lane at.moment c) parts gives.1))
 
-    may_start : start_told old.collector (session_at old.parts k) (old.parts).catalogue.listed ≡ Ok tt
+    may_start : start_told old.collector (kept_at old.parts k) ≡ Ok tt
     may_start = sym told_old ∙ gives.0
 
     pub start_keeps : ActKeeps d old new k Start answer
@@ -278,14 +268,14 @@ module _ {D E C : Type 0} (d : Ghosts D) (clock : clocks.Ghosts C) (old mid new 
   stopped_keeps : (stop : Stop) → GivesCollector mid.parts mid.collector at (Err stop) → Settles d mid new k at.moment (told (Err stop)) answer → ActKeeps d old new k Start answer
   stopped_keeps (stops.Refused refusal) gives settles =
       start_settled_keeps d clock old mid new k at.moment Start tt (Ok (replies.Refused refusal)) refusal answer admitted.ready (λ _. filled) refl
-      (no_fault refusal (start_refusal mid.collector (session_at mid.parts at.lane) (mid.parts).catalogue.listed refusal gives)) settles
+      (no_fault refusal (start_refusal mid.collector (kept_at mid.parts at.lane) refusal gives)) settles
   stopped_keeps stops.NoMemory gives settles =
       start_settled_keeps d clock old mid new k at.moment Start tt (Err disks.NoMemory) refusals.NoMemory answer admitted.ready (λ _. filled) refl memory_apart settles
   stopped_keeps stops.DiskFailed gives settles = absurd gives
 
   stopped_applies : (stop : Stop) → GivesCollector mid.parts mid.collector at (Err stop) → StopHasText stop → Settles d mid new k at.moment (told (Err stop)) answer → ActApplies d clock old new k Start answer
   stopped_applies (stops.Refused refusal) gives text settles =
-      let refuses = start_refusal mid.collector (session_at mid.parts at.lane) (mid.parts).catalogue.listed refusal gives in
+      let refuses = start_refusal mid.collector (kept_at mid.parts at.lane) refusal gives in
       start_settled_applies d clock old mid new k at.moment Start tt (Ok (replies.Refused refusal)) refusal answer admitted.ready (λ _. filled) refl (no_fault refusal refuses) settles lt text refuses
       (λ h s. start_told_stands d clock.readings old mid h k at.moment s admitted.ready new Start refusal answer tt lt (sym (may_be h s) ∙ sym told_old ∙ gives) settles)
   stopped_applies stops.NoMemory gives text settles =

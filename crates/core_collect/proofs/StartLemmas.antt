@@ -41,9 +41,11 @@ use Rattle.core_state.specs.Entries.{FitsPages}
 use Rattle.core_state.specs.Holds.{Shows}
 use Rattle.core_state.specs.Numbers.{AreNumbered, IsGiven}
 use Rattle.core_state.specs.Shown.{files_named, shown_file, shown_files, shown_session, shown_snapshot}
-use Rattle.core_state.specs.Sweeps.{FitsRemoved, HasNumber, HasPages, ShowsSweep, digests_in, kept_at, left_at, left_in, left_of_kept, unmarked_by, visits_by}
-use Rattle.core_state.specs.Wanted.{want_idle}
-use Rattle.core_collect.specs.Starting.{GivesCollector, IsNewCollector, MayOpen, earlier_of, indexes_in, indexes_of, oldest_kept, start_told}
+use Rattle.core_state.specs.Sweeps.{FitsRemoved, HasNumber, HasPages, ShowsSweep, by_number, digests_in, left_at, left_in, left_of_kept, unmarked_by, visits_by}
+use Rattle.core_state.specs.Decides.{Decides}
+use Rattle.core_state.specs.Heads.{idle_in}
+use Rattle.core_state.specs.Kept.{KeptAt}
+use Rattle.core_collect.specs.Starting.{GivesCollector, IsNewCollector, earlier_of, indexes_in, indexes_of, oldest_kept, start_told}
 use Rattle.core_collect.proofs.Lists.{each_numbered}
 
 -- ---- the oldest writer
@@ -123,7 +125,7 @@ module _ (catalogue : List Listed) (snapshots : List Snapshot) where
   left i = left_at catalogue snapshots 0 i
 
   -- of a snapshot that is kept under this number
-  module _ (number : ℕ) (y : Snapshot) (kept : kept_at number catalogue ≡ Some (shown_snapshot y)) (files : files_named y.key snapshots ≡ y.files) where
+  module _ (number : ℕ) (y : Snapshot) (kept : by_number number catalogue ≡ Some (shown_snapshot y)) (files : files_named y.key snapshots ≡ y.files) where
     abbrev of_file : StoredFile → IndexAt
     of_file f = record { snapshot = number; name = f.name }
 
@@ -171,12 +173,12 @@ module _ (catalogue : List Listed) (snapshots : List Snapshot) where
   cons_nil : (x : Kept) (xs : List Kept) → x ∷ xs ≡ [] → ⊥
   cons_nil x xs e = cc
 
-  snapshot_left : (x : Listed) (y : Snapshot) → x.kept ≡ shown_snapshot y → kept_at x.number catalogue ≡ Some (x.kept) → IsWhole y → flat_map left (indexes_of x) ≡ sweeps.indexes_of y
+  snapshot_left : (x : Listed) (y : Snapshot) → x.kept ≡ shown_snapshot y → by_number x.number catalogue ≡ Some (x.kept) → IsWhole y → flat_map left (indexes_of x) ≡ sweeps.indexes_of y
   snapshot_left x y same at whole =
       ap (λ (k : Kept). flat_map left (map (of_file x.number y (at ∙ ap Some same) whole.0) (filter (λ f. is_index_name f.name) k.files))) same
       ∙ files_left x.number y (at ∙ ap Some same) whole.0 y.files (each_file y.files (whole.1).names) (whole.1).kinds
 
-  snapshots_left : (xs : List Listed) (ys : List Snapshot) → map (λ x. x.kept) xs ≡ map shown_snapshot ys → All (λ x. kept_at x.number catalogue ≡ Some (x.kept)) xs → All IsWhole ys
+  snapshots_left : (xs : List Listed) (ys : List Snapshot) → map (λ x. x.kept) xs ≡ map shown_snapshot ys → All (λ x. by_number x.number catalogue ≡ Some (x.kept)) xs → All IsWhole ys
       → flat_map left (indexes_in xs) ≡ sweeps.indexes_in ys
   snapshots_left [] [] same at whole = refl
   snapshots_left [] (y ∷ ys) same at whole = absurd (nil_cons (shown_snapshot y) (map shown_snapshot ys) same)
@@ -184,9 +186,9 @@ module _ (catalogue : List Listed) (snapshots : List Snapshot) where
   snapshots_left (x ∷ xs) (y ∷ ys) same at whole =
       flat_map-append left (indexes_of x) (indexes_in xs)
       ∙ ap (λ us. us ++ flat_map left (indexes_in xs))
-      (snapshot_left x y (heads x.kept (shown_snapshot y) (map (λ z. z.kept) xs) (map shown_snapshot ys) same) (All-head (λ z. kept_at z.number catalogue ≡ Some (z.kept)) x xs at) (All-head IsWhole y ys whole))
+      (snapshot_left x y (heads x.kept (shown_snapshot y) (map (λ z. z.kept) xs) (map shown_snapshot ys) same) (All-head (λ z. by_number z.number catalogue ≡ Some (z.kept)) x xs at) (All-head IsWhole y ys whole))
       ∙ ap (λ us. sweeps.indexes_of y ++ us)
-      (snapshots_left xs ys (tails x.kept (shown_snapshot y) (map (λ z. z.kept) xs) (map shown_snapshot ys) same) (All-tail (λ z. kept_at z.number catalogue ≡ Some (z.kept)) x xs at) (All-tail IsWhole y ys whole))
+      (snapshots_left xs ys (tails x.kept (shown_snapshot y) (map (λ z. z.kept) xs) (map shown_snapshot ys) same) (All-tail (λ z. by_number z.number catalogue ≡ Some (z.kept)) x xs at) (All-tail IsWhole y ys whole))
 
   all_whole : keys_rise snapshots ≡ true → All IsSnapshot snapshots → All IsWhole snapshots
   all_whole rise each k d within =
@@ -238,26 +240,26 @@ oldest_end xs i oldest le so_far = sym (earliest_all oldest) ∙ sym (ap (λ ys.
 abbrev pub busy : Option Collector → Result (Unit {0}) Refusal
 busy c = if_none (λ (x : Collector). CollectorBusy x.lane) c
 
-module _ (c : Option Collector) (x : Session) (catalogue : List Listed) where
+module _ (c : Option Collector) (k : KeptAt) where
   abbrev after_session : Result (Unit {0}) Refusal → Result (Unit {0}) Refusal
-  after_session r = r >>= λ _. busy c >>= λ _. if_none Unreadable (first_unreadable catalogue)
+  after_session r = r >>= λ _. busy c >>= λ _. if_none Unreadable (first_unreadable k.catalogue)
 
   abbrev after_busy : Result (Unit {0}) Refusal → Result (Unit {0}) Refusal
-  after_busy r = r >>= λ _. if_none Unreadable (first_unreadable catalogue)
+  after_busy r = r >>= λ _. if_none Unreadable (first_unreadable k.catalogue)
 
-  pub told_session : (refusal : Refusal) → want_idle x ≡ Err refusal → start_told c x catalogue ≡ Err refusal
+  pub told_session : (refusal : Refusal) → idle_in k ≡ Err refusal → start_told c k ≡ Err refusal
   unfolding start_told
   told_session refusal is = ap after_session is
 
-  pub told_busy : (ahead : Collector) → want_idle x ≡ Ok tt → c ≡ Some ahead → start_told c x catalogue ≡ Err (CollectorBusy ahead.lane)
+  pub told_busy : (ahead : Collector) → idle_in k ≡ Ok tt → c ≡ Some ahead → start_told c k ≡ Err (CollectorBusy ahead.lane)
   unfolding start_told
   told_busy ahead idle is = ap after_session idle ∙ ap (λ o. after_busy (busy o)) is
 
-  pub told_damaged : (name : List ℕ) → want_idle x ≡ Ok tt → c ≡ None → first_unreadable catalogue ≡ Some name → start_told c x catalogue ≡ Err (Unreadable name)
+  pub told_damaged : (name : List ℕ) → idle_in k ≡ Ok tt → c ≡ None → first_unreadable k.catalogue ≡ Some name → start_told c k ≡ Err (Unreadable name)
   unfolding start_told
   told_damaged name idle none is = ap after_session idle ∙ ap (λ o. after_busy (busy o)) none ∙ ap (if_none Unreadable) is
 
-  pub told_free : want_idle x ≡ Ok tt → c ≡ None → first_unreadable catalogue ≡ None → start_told c x catalogue ≡ Ok tt
+  pub told_free : idle_in k ≡ Ok tt → c ≡ None → first_unreadable k.catalogue ≡ None → start_told c k ≡ Ok tt
   unfolding start_told
   told_free idle none whole = ap after_session idle ∙ ap (λ o. after_busy (busy o)) none ∙ ap (if_none Unreadable) whole
 
@@ -310,12 +312,12 @@ fits_new moment oldest catalogue p is =
     none_is e = cc
 
 -- what refuses it is handed on
-pub opening_stops : {D : Type 0} (parts : Parts D) (before : Option Collector) (at : Place) (stop : Stop) (r : Result Collector Stop) → IsErrAnd r (λ x. x ≡ stop) → MayOpen parts before at.lane (Err stop)
-    → (stop ≡ stops.DiskFailed → ⊥) → GivesCollector parts before at r
-opening_stops parts before at stop (Ok c) is gives unfailed = absurd is
-opening_stops parts before at stop (Err x) is gives unfailed = subst (λ y. GivesCollector parts before at (Err y)) (sym is) (by_stop stop gives unfailed)
+pub opening_stops : {D : Type 0} (parts : Parts D) (before : Option Collector) (at : Place) (stop : Stop) (r : Result Collector Stop) → IsErrAnd r (λ x. x ≡ stop)
+    → Decides (λ (may : Unit {0}). may) (start_told before) parts at.lane (Err stop) → GivesCollector parts before at r
+opening_stops parts before at stop (Ok c) is decides = absurd is
+opening_stops parts before at stop (Err x) is decides = subst (λ y. GivesCollector parts before at (Err y)) (sym is) (by_stop stop decides)
   where
-    by_stop : (y : Stop) → MayOpen parts before at.lane (Err y) → (y ≡ stops.DiskFailed → ⊥) → GivesCollector parts before at (Err y)
-    by_stop (stops.Refused refusal) given fine = given
-    by_stop stops.NoMemory given fine = tt
-    by_stop stops.DiskFailed given fine = absurd (fine refl)
+    by_stop : (y : Stop) → Decides (λ (may : Unit {0}). may) (start_told before) parts at.lane (Err y) → GivesCollector parts before at (Err y)
+    by_stop (stops.Refused refusal) decides = decides.0
+    by_stop stops.NoMemory decides = tt
+    by_stop stops.DiskFailed decides = absurd decides

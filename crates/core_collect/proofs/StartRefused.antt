@@ -6,8 +6,7 @@ use Rattle.store_types.specs.declared.refusal.Refusal.{Refusal}
 use Rattle.store_types.specs.declared.refusal.Refusal.TheVariants.{CollectorBusy, Unreadable}
 use Rattle.store_files.specs.Archive.{Snapshot}
 use Rattle.store_model.specs.Lanes.{Collecting}
-use Rattle.store_model.specs.Store.{session}
-use Rattle.store_model.specs.Store as model
+use Rattle.store_model.specs.Heads as model
 use Rattle.store_model.specs.Weave.{want_collector}
 use Rattle.store_history.specs.History.{World}
 use Rattle.store_history.specs.Legal.{may_open}
@@ -17,18 +16,14 @@ use Rattle.core_state.specs.declared.kept.Kept.{Kept}
 use Rattle.core_state.specs.declared.kept.Listed.{Listed}
 use Rattle.core_state.specs.declared.parts.Parts.{Parts}
 use Rattle.core_state.specs.Collectors.{OpenOn, ended_if, open_in, shown_collecting}
+use Rattle.core_state.specs.Heads.{idle_in}
 use Rattle.core_state.specs.Holds.{Shows}
-use Rattle.core_state.specs.Shown.{shown_session, shown_snapshot}
-use Rattle.core_state.specs.Wanted.{session_at, want_idle}
-use Rattle.core_state.proofs.Commanding.{session_shown}
+use Rattle.core_state.specs.Kept.{kept_at}
+use Rattle.core_state.specs.Shown.{shown_snapshot}
+use Rattle.core_state.proofs.HeadLemmas.{idle_in_is}
 use Rattle.core_state.proofs.Finding.{find_map, no_mapped}
 use Rattle.core_collect.specs.Starting.{start_told}
 use Rattle.core_collect.proofs.StartLemmas.{busy}
-
-idle_same : (snapshots : List Snapshot) (x : model.Session) → want_idle (shown_session snapshots x) ≡ model.want_idle x
-idle_same snapshots model.none = refl
-idle_same snapshots (model.writer w) = refl
-idle_same snapshots (model.reader r) = refl
 
 none_some : (x : OpenOn) → None ≡ Some x → ⊥
 none_some x e = cc
@@ -76,10 +71,8 @@ tests_same a b x y o first next none =
 
 -- a start is refused as the plain store's is
 pub start_told_is : {D : Type 0} (parts : Parts D) (w : World) (k : ℕ) (c : Option Collector) → Shows parts w.store → open_in c ≡ shown_collecting w.collecting → k < 64
-    → start_told c (session_at parts k) parts.catalogue.listed ≡ may_open w k
+    → start_told c (kept_at parts k) ≡ may_open w k
 unfolding start_told want_collector
 start_told_is parts w k c shows is lt =
-    tests_same (want_idle (session_at parts k)) (model.want_idle (session w.store k)) (busy c) (busy_in w.collecting) (first_unreadable parts.catalogue.listed)
-    (ap want_idle (session_shown parts w.store k shows lt) ∙ idle_same (w.store).snapshots (session w.store k))
-    (busy_same c w.collecting is)
-    (none_unreadable parts.catalogue.listed (w.store).snapshots shows.catalogue)
+    tests_same (idle_in (kept_at parts k)) (model.idle_in w.store k) (busy c) (busy_in w.collecting) (first_unreadable parts.catalogue.listed)
+    (idle_in_is parts w.store k shows lt) (busy_same c w.collecting is) (none_unreadable parts.catalogue.listed (w.store).snapshots shows.catalogue)

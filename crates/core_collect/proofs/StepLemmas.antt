@@ -33,18 +33,19 @@ use Rattle.core_state.specs.declared.entering.Place.{Place}
 use Rattle.core_state.specs.declared.state.Core.{Core}
 use Rattle.store_stops.specs.declared.stop.Stop.TheVariants as stops
 use Rattle.core_state.specs.declared.upkeep.Upkeep.{Upkeep}
-use Rattle.core_state.specs.Answers.{StepHasCause, done, failed, fault_after, halted, short, step_as_any, step_ends, step_passes}
+use Rattle.core_state.specs.Answers.{StepHasCause, done, failed, halted, short, step_as_any, step_ends, step_passes}
+use Rattle.store_history.specs.Answered.{fault_after}
 use Rattle.core_state.specs.Applies.{ActApplies, ActKeeps}
 use Rattle.core_state.specs.Begins.{AdmittedHasText, IsBegun, IsNext, IsReady, IsShort, Refuses, short as is_out_of_memory, halted as is_halted}
 use Rattle.core_state.specs.Changes.{Change, LeavesChange, after, drops, stays}
-use Rattle.core_state.specs.Chunks.{HoldsOnly}
+use Rattle.store_history.specs.ChunkFiles.{HoldsOnly}
 use Rattle.core_state.specs.Collectors.{OpenOn, closed_on, cut_on, is_cut, is_on, open_in, refusal_of, shown_collecting}
 use Rattle.core_state.specs.Entering.{held_by}
 use Rattle.core_state.specs.History.{History, StandsFor, event_of, pieces_of, then_event, world}
 use Rattle.core_state.specs.Holds.{IsOnDisk}
 use Rattle.core_state.specs.KeepsTouches.{KeepsTouches, swept_of, touches_of_history}
 use Rattle.core_state.specs.Passes.{MayChange, PassTouches, Takes}
-use Rattle.core_state.specs.Replies.{may_end}
+use Rattle.store_history.specs.Replies.{may_end}
 use Rattle.core_state.specs.Reserved.{StepKeeps}
 use Rattle.core_state.specs.Settles.{IsEntered}
 use Rattle.core_state.specs.States.{state_of}

@@ -23,7 +23,7 @@ use Rattle.core_state.specs.declared.collector.Early.{Early}
 use Rattle.core_state.specs.declared.collector.Early.TheVariants.{NoMemory}
 use Rattle.core_state.specs.declared.state.Core.{Core}
 use Rattle.core_state.specs.Changes.{Change, LeavesChange, after, installs}
-use Rattle.core_state.specs.Chunks.{HasChunk, HoldsOnly}
+use Rattle.store_history.specs.ChunkFiles.{HasChunk, HoldsOnly}
 use Rattle.core_state.specs.Collectors.{closed_on, cut_on, first_of, is_cut, is_on, steps_if, steps_left, with_cut}
 use Rattle.core_state.specs.Passes.{KeepsPlan, KeepsPlanOf, MayChange, PassTouches, SavesAt, StepLeaves, stays_open}
 use Rattle.core_state.specs.Upkeeps.{touches_kept}

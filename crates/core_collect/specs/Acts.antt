@@ -7,11 +7,11 @@ use Rattle.store_history.specs.declared.act.Act.{Act}
 use Rattle.store_history.specs.declared.act.Act.TheVariants.{Start, Step}
 use Rattle.store_history.specs.declared.act.Answer.{Answer}
 use Rattle.core_state.specs.declared.collector.Collector.{Collector}
-use Rattle.core_state.specs.declared.kept.Listed.{Listed}
-use Rattle.core_state.specs.declared.kept.Session.{Session}
 use Rattle.core_state.specs.declared.state.Core.{Core}
 use Rattle.core_state.specs.Collectors.{is_on, refusal_of as early_refusal}
-use Rattle.core_state.specs.Unreadables.{Asked, CoreUnreadable, known}
+use Rattle.core_state.specs.Kept.{KeptAt}
+use Rattle.core_state.specs.Tells.{Words, plain_words, untold}
+use Rattle.core_state.specs.Unreadables.{Asked, known}
 use Rattle.core_collect.specs.Ending.{early_in}
 use Rattle.core_collect.specs.Starting.{StartTells, start_told}
 use Rattle.core_collect.specs.Stepping.{StepTells}
@@ -34,11 +34,11 @@ refusal_of (Ok may) = None
 refusal_of (Err refusal) = Some refusal
 
 -- A start asks for the first damaged snapshot's, where nothing else refuses it; the end of a collector for the one that ended it early.
-abbrev pub asked_of_collector : Act → ℕ → Option Collector → Session → List Listed → Option Asked
-asked_of_collector Start lane collector session catalogue = asked_by (refusal_of (start_told collector session catalogue))
-asked_of_collector Step lane collector session catalogue = if is_on lane collector then asked_by (option_map early_refusal (early_in collector)) else None
-asked_of_collector _ lane collector session catalogue = None
+abbrev pub asked_of_collector : Act → Option Collector → KeptAt → Option Asked
+asked_of_collector Start collector k = asked_by (refusal_of (start_told collector k))
+asked_of_collector Step collector k = if is_on k.lane collector then asked_by (option_map early_refusal (early_in collector)) else None
+asked_of_collector _ collector k = None
 
--- it is told so exactly, on any disk
-abbrev pub CollectUnreadable : {D E C : Type 0} → Ghosts D → Core D E C → ℕ → Act → Answer → Type 0
-CollectUnreadable d old lane act answer = CoreUnreadable d (asked_of_collector act lane old.collector) old lane answer
+-- what it tells by its words
+abbrev pub collect_words : {D : Type 0} → Act → Option Collector → Words D
+collect_words act collector = record (plain_words untold) { asked = asked_of_collector act collector }

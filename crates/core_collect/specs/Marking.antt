@@ -28,7 +28,7 @@ use Rattle.core_collect.specs.declared.marking.Unread.TheVariants.{DiskFailed, N
 use Rattle.core_state.specs.Entries.{count_at_hand, marked_in}
 use Rattle.core_state.specs.Found.{path_of_kept}
 use Rattle.core_state.specs.Holds.{Holds}
-use Rattle.core_state.specs.Sweeps.{ArePages, ShowsSweep, digests_named, kept_at, unmarked_by}
+use Rattle.core_state.specs.Sweeps.{ArePages, ShowsSweep, by_number, digests_named, unmarked_by}
 use Rattle.core_state.specs.Upkeeps.{TouchesEach}
 use Rattle.core_collect.specs.Entries.{AreNext, IsHad, IsThePage, bytes_of, last_page, marked_from, next_read}
 
@@ -36,7 +36,7 @@ use Rattle.core_collect.specs.Entries.{AreNext, IsHad, IsThePage, bytes_of, last
 
 -- where it stands, if its snapshot was not forgotten
 abbrev pub path_at : IndexAt → List Listed → Option (List ℕ)
-path_at i catalogue = path_of_kept i.name (kept_at i.snapshot catalogue)
+path_at i catalogue = path_of_kept i.name (by_number i.snapshot catalogue)
 
 -- an index that is unreadable has this path
 abbrev pub IfUnreadable : (List ℕ → Type 0) → Unread → Type 0
@@ -225,7 +225,7 @@ pub record BeginsWith (catalogue : List Listed) (snapshots : List Snapshot) (c :
   pub index : IndexAt
   pub kept : Kept
   pub next : next_index c.plan ≡ Some index
-  pub there : kept_at index.snapshot catalogue ≡ Some kept
+  pub there : by_number index.snapshot catalogue ≡ Some kept
   pub all : IsSomeAnd c.pages (HasAll snapshots kept index)
   pub digests_are : bytes_of digests ≡ marked_from (marked_in (c.plan).stage) (all_of kept index snapshots)
   pub begins : unmarked ≡ record { key = kept.key; name = index.name; digests = drop (marked_in (c.plan).stage) (all_of kept index snapshots) } ∷ behind_next catalogue snapshots c.plan

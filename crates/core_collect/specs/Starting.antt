@@ -22,8 +22,8 @@ use Rattle.store_stops.specs.declared.stop.Stop.{Stop}
 use Rattle.store_stops.specs.declared.stop.Stop.TheVariants as stops
 use Rattle.core_state.specs.Collectors.{collector_by}
 use Rattle.core_state.specs.Found.{first_unreadable}
-use Rattle.store_stops.specs.Stops.{Gives}
-use Rattle.core_state.specs.Wanted.{session_at, want_idle}
+use Rattle.core_state.specs.Heads.{idle_in}
+use Rattle.core_state.specs.Kept.{KeptAt, kept_at}
 
 -- ---- what is to be marked
 
@@ -49,15 +49,11 @@ oldest_kept (x ∷ xs) = earlier_of (oldest_kept xs) x
 -- ---- what refuses it
 
 -- the lane has a session, a collector is open, or a snapshot is damaged, in this order
-unfoldable pub start_told : Option Collector → Session → List Listed → Result (Unit {0}) Refusal
-start_told collector session catalogue = do
-  _ ← want_idle session
+unfoldable pub start_told : Option Collector → KeptAt → Result (Unit {0}) Refusal
+start_told collector k = do
+  _ ← idle_in k
   _ ← if_none (λ c. CollectorBusy c.lane) collector
-  if_none Unreadable (first_unreadable catalogue)
-
--- nothing refuses it, or this does
-abbrev pub MayOpen : {D : Type 0} → Parts D → Option Collector → ℕ → Result (Unit {0}) Stop → Type 0
-MayOpen parts collector lane result = Gives (λ (may : Unit {0}). may) result (start_told collector (session_at parts lane) parts.catalogue.listed)
+  if_none Unreadable (first_unreadable k.catalogue)
 
 -- ---- the collector that opens
 
@@ -69,16 +65,16 @@ pub record IsNewCollector {D : Type 0} (parts : Parts D) (lane moment : ℕ) (c 
 
 -- it opens where nothing refuses it
 abbrev pub GivesCollector : {D : Type 0} → Parts D → Option Collector → Place → Result Collector Stop → Type 0
-GivesCollector parts before at (Ok c) = (start_told before (session_at parts at.lane) parts.catalogue.listed ≡ Ok tt) × IsNewCollector parts at.lane at.moment c
-GivesCollector parts before at (Err (stops.Refused refusal)) = start_told before (session_at parts at.lane) parts.catalogue.listed ≡ Err refusal
+GivesCollector parts before at (Ok c) = (start_told before (kept_at parts at.lane) ≡ Ok tt) × IsNewCollector parts at.lane at.moment c
+GivesCollector parts before at (Err (stops.Refused refusal)) = start_told before (kept_at parts at.lane) ≡ Err refusal
 GivesCollector parts before at (Err stops.NoMemory) = Unit {0}
 GivesCollector parts before at (Err stops.DiskFailed) = ⊥
 
 -- The core answers a start so, on any disk.
 pub record StartTells {D E C : Type 0} (old new : Core D E C) (lane : ℕ) (answer : Answer) : Type 0 where
   pub refused : (answer.entry).kind ≡ COMMAND_KIND → (refusal : Refusal) × (answer.reply ≡ Some (Refused refusal))
-      × (start_told old.collector (session_at old.parts lane) (old.parts).catalogue.listed ≡ Err refusal)
-  pub opens : (answer.entry).kind ≡ START_KIND → (start_told old.collector (session_at old.parts lane) (old.parts).catalogue.listed ≡ Ok tt)
+      × (start_told old.collector (kept_at old.parts lane) ≡ Err refusal)
+  pub opens : (answer.entry).kind ≡ START_KIND → (start_told old.collector (kept_at old.parts lane) ≡ Ok tt)
       × IsSomeAnd new.collector (IsNewCollector old.parts lane (answer.entry).moment)
   -- where none opens, another lane's stays as it is
   pub others : ((answer.entry).kind ≡ START_KIND → ⊥) → new.collector ≡ collector_by (answer.entry).kind lane old.collector

@@ -4,7 +4,8 @@ ghost use Rattle.std.specs.Prelude.{◌≡◌, ◌<◌};
 ghost use Rattle.store_history.specs.Acts.{family_of};
 ghost use Rattle.core_state.specs.Applies.{ActApplies, ActKeeps};
 ghost use Rattle.core_state.specs.Reserved.{HasRoom};
-ghost use Rattle.core_collect.specs.Acts.{CollectUnreadable, CoreAnswersBy};
+ghost use Rattle.core_state.specs.Tells.{CoreTells};
+ghost use Rattle.core_collect.specs.Acts.{CoreAnswersBy, collect_words};
 
 use crate::starting::start;
 use crate::stepping::step;
@@ -28,7 +29,7 @@ pub fn collect_act<D: Disk, E, C: Clock>(
     // on any disk: what it answers by what the core keeps, which collector opens, and what ends one early
     ensures from_state { CoreAnswersBy D.Disk core.old core.new lane act result }
     // a snapshot is told as damaged exactly where one is, and an index as unreadable exactly where one ended the collector
-    ensures unreadable { CollectUnreadable D.Disk core.old lane act result }
+    ensures tells { CoreTells (collect_words act core.old.collector) D.Disk core.old core.new lane result }
 {
     match act {
         Act::Start => start(core, alloc, lane),

@@ -1,6 +1,6 @@
 //! The start of a collector.
 
-ghost use Rattle.std.specs.Prelude.{◌≡◌, ◌<◌, ◌++◌, IfErr, IfOk, IsErrOf, OnOk};
+ghost use Rattle.std.specs.Prelude.{◌≡◌, ◌<◌, ◌++◌, IfErr, IfOk, OnOk};
 ghost use Rattle.store_types.specs.declared.refusal.Refusal.TheVariants.{CollectorBusy};
 ghost use Rattle.wire_commands.specs.declared.reply.Reply.TheVariants.{Refused};
 ghost use Rattle.wire_commands.specs.HasText.{ReplyHasText};
@@ -8,8 +8,8 @@ ghost use Rattle.store_history.specs.declared.act.Act.TheVariants.{Start};
 ghost use Rattle.core_state.specs.Applies.{ActApplies, ActKeeps};
 ghost use Rattle.core_state.specs.Reserved.{HasRoom};
 ghost use Rattle.snapshot_files.specs.Reads.{StopHasText};
-ghost use Rattle.store_stops.specs.declared.stop.Stop.TheVariants.{DiskFailed};
-ghost use Rattle.core_collect.specs.Starting.{GivesCollector, IsNewCollector, MayOpen, earlier_of, indexes_in as indexes_listed, indexes_of as indexes_kept, oldest_kept, StartTells};
+ghost use Rattle.core_state.specs.Decides.{Decides};
+ghost use Rattle.core_collect.specs.Starting.{GivesCollector, IsNewCollector, earlier_of, indexes_in as indexes_listed, indexes_of as indexes_kept, oldest_kept, start_told, StartTells};
 
 use core_state::{
     Act, Admitted, Answer, Collector, Core, Listed, Parts, Place, Session, begin, enter, settle,
@@ -87,11 +87,9 @@ fn busy_on(lane: u32) -> Refusal
 /// snapshot is damaged, of which the first in the catalogue is told.
 fn may_open<D>(parts: &Parts<D>, collector: &Option<Collector>, lane: u32) -> Result<(), Stop>
     requires { lane < 64 }
-    ensures value { MayOpen parts.now collector.now lane result }
-    ensures text { IfErr result StopHasText }
-    ensures unfailed { IsErrOf result DiskFailed → ⊥ }
+    ensures { Decides (λ may. may) (start_told collector.now) parts.now lane result }
 {
-    parts.idle(lane)?;
+    parts.idle_in(lane)?;
     if let Some(other) = collector {
         return Err(Stop::Refused(busy_on(other.lane)));
     }

@@ -14,7 +14,7 @@ use Rattle.core_state.specs.Closing.{is_closing}
 use Rattle.core_state.specs.Entering.{OthersHold, held_by}
 use Rattle.core_state.specs.History.{event_of}
 use Rattle.core_state.specs.Records.{Reaches}
-use Rattle.core_state.specs.Remotes.{reads_remote}
+use Rattle.store_history.specs.RemoteDisk.{reads_remote}
 use Rattle.core_state.specs.Reserved.{ClassKeeps, Keeps, KeepsSpare}
 use Rattle.core_state.proofs.Reaching.{reaches_more}
 use Rattle.core_laws.specs.Playing.{AllWhole, HasPlayed, asked_in, with_more}

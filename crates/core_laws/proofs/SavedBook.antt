@@ -25,12 +25,13 @@ use Rattle.store_history.specs.Legal.{IsLegal, Right}
 use Rattle.store_history.specs.Saved.{book_name}
 use Rattle.store_history.specs.Sweeping.{Swept, swept, swept_after, swept_all, taken_by, touched_after, without}
 use Rattle.core_state.specs.declared.state.Core.{Core}
-use Rattle.core_state.specs.Answers.{StepHasCause, done, failed, fault_after, halted, short, step_as_any, step_ends, step_passes}
+use Rattle.core_state.specs.Answers.{StepHasCause, done, failed, halted, short, step_as_any, step_ends, step_passes}
+use Rattle.store_history.specs.Answered.{fault_after}
 use Rattle.core_state.specs.Changes.{Change, after}
 use Rattle.core_state.specs.History.{StandsFor, event_of, then_event}
 use Rattle.core_state.specs.KeepsTouches.{KeepsTouches, touches_of_history}
 use Rattle.core_state.specs.Passes.{StepLeaves}
-use Rattle.core_state.specs.Replies.{may_end}
+use Rattle.store_history.specs.Replies.{may_end}
 use Rattle.core_state.specs.Upkeeps.{touches_kept}
 use Rattle.core_laws.specs.Laws.{EndsSaveTheBook}
 

@@ -23,9 +23,9 @@ use Rattle.store_model.proofs.Finding.{some_same}
 use Rattle.store_model.proofs.Insertions.{Contains-here, Contains-later, Contains-cases}
 use Rattle.snapshot_files.proofs.Mapped.{contains_map, map_contains, given_contains, entry_read}
 use Rattle.snapshot_files.proofs.Rising.{not_member}
-use Rattle.opening_files.specs.Leaving.{IsLeaving, IsTemporary, MayClean}
-use Rattle.opening_files.proofs.Endings.{last, last_temporary}
-use Rattle.opening_files.proofs.Leavers.{chunk_stays}
+use Rattle.snapshot_files.specs.Leaving.{IsLeaving, IsTemporary, MayClean}
+use Rattle.snapshot_files.proofs.Endings.{last, last_temporary}
+use Rattle.snapshot_files.proofs.Leavers.{chunk_stays}
 use Rattle.store_history.specs.History.{Opening}
 use Rattle.store_history.specs.Saved.{book_in, book_name, saved_book}
 use Rattle.store_history.specs.LastTouches.{SameTouches, is_one_of, touches_at_opening}
@@ -38,7 +38,8 @@ use Rattle.core_state.specs.KeepsTouches.{KeepsTouches}
 use Rattle.core_state.specs.Sweeps.{ShowsOpen}
 use Rattle.core_state.specs.Upkeeps.{touches_kept}
 use Rattle.core_state.proofs.Chunks.{is_digest, opened_only}
-use Rattle.core_opening.specs.Opening.{IsBookOf, NumbersAll, opening_of}
+use Rattle.core_opening.specs.Opening.{IsBookOf, NumbersAll}
+use Rattle.store_history.specs.Opened.{opening_of}
 
 -- ---- the saved book stays
 

@@ -16,14 +16,14 @@ use Rattle.store_model.specs.Stands.{StandsFor as Stands}
 use Rattle.store_model.specs.Clash.{chunk_pieces}
 use Rattle.atime_book.specs.Touches.{IsEarly, NoneAfter}
 use Rattle.store_history.specs.History.{after_all}
-use Rattle.opening_files.specs.Leaving.{IsLeaving, MayClean}
-use Rattle.opening_files.proofs.Leavers.{stands_cleaned}
+use Rattle.snapshot_files.specs.Leaving.{IsLeaving, MayClean}
+use Rattle.snapshot_files.proofs.Leavers.{stands_cleaned}
 use Rattle.core_state.specs.declared.state.Core.{Core}
 use Rattle.core_state.specs.declared.indexes.Indexes.{Indexes}
 use Rattle.core_state.specs.declared.indexes.Indexes.TheVariants.{Unread}
 use Rattle.core_state.specs.declared.kept.Session.TheVariants.{Idle}
 use Rattle.core_state.specs.Indexed.{FitsRow, row_in}
-use Rattle.core_state.specs.Chunks.{HoldsOnly}
+use Rattle.store_history.specs.ChunkFiles.{HoldsOnly}
 use Rattle.core_state.specs.Collectors.{open_in}
 use Rattle.core_state.specs.Shown.{shown_session}
 use Rattle.core_state.specs.Locked.{Locked}
@@ -32,7 +32,8 @@ use Rattle.core_state.specs.History.{StandsFor, began}
 use Rattle.core_state.proofs.Chunks.{opened_only, only_same}
 use Rattle.core_state.proofs.LockLemmas.{locked_none}
 use Rattle.core_state.specs.Numbers.{first_number}
-use Rattle.core_opening.specs.Opening.{HasBegun, IsBookOf, IsCatalogue, NumbersAll, RecordsOpened, opening_of}
+use Rattle.core_opening.specs.Opening.{HasBegun, IsBookOf, IsCatalogue, NumbersAll, RecordsOpened}
+use Rattle.store_history.specs.Opened.{opening_of}
 use Rattle.core_opening.proofs.Booked.{opened_moment}
 use Rattle.core_opening.proofs.KeptShown.{kept_shown}
 

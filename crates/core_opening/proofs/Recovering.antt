@@ -2,8 +2,8 @@
 use Rattle.std.proofs.Common.{Option, refl}
 use Rattle.disk_trait.specs.declared.disk.Disk.{Ghosts}
 use Rattle.port_traits.specs.Readings.{Readings}
-use Rattle.opening_files.specs.Opened.{Opens}
-use Rattle.opening_files.proofs.Leavers.{stands_cleaned}
+use Rattle.snapshot_files.specs.Opened.{Opens}
+use Rattle.snapshot_files.proofs.Leavers.{stands_cleaned}
 use Rattle.core_state.specs.declared.state.Core.{Core}
 use Rattle.core_opening.specs.Opening.{RecoversOpened}
 

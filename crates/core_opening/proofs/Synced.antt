@@ -3,11 +3,12 @@ use Rattle.std.proofs.Common.{◌≡◌, Err, IsErrOf, refl, sym, subst, ◌∙�
 use Rattle.disk_trait.specs.declared.disk.Disk.{Ghosts}
 use Rattle.disk_trait.specs.declared.disk.DiskError.{DiskError}
 use Rattle.disk_trait.specs.declared.disk.DiskError.TheVariants.{NoMemory as Wanting, Failed}
-use Rattle.opening_files.specs.Opened.{Opens}
-use Rattle.opening_files.proofs.Leavers.{stands_cleaned}
+use Rattle.snapshot_files.specs.Opened.{Opens}
+use Rattle.snapshot_files.proofs.Leavers.{stands_cleaned}
 use Rattle.core_opening.specs.declared.opening.OpenFault.{OpenFault}
 use Rattle.core_opening.specs.declared.opening.OpenFault.TheVariants.{DiskFault, NoMemory}
-use Rattle.core_opening.specs.Opening.{StopsOpening, StopsSynced, TellsDisk, fault_of}
+use Rattle.core_opening.specs.Opening.{TellsDisk, fault_of}
+use Rattle.core_opening.specs.Stops.{StopsOpening, StopsSynced}
 
 -- the disk's fault is told where it failed
 pub of_disk : (A : Type 0) (e : DiskError) (fault : OpenFault) → fault ≡ fault_of e → TellsDisk fault → IsErrOf {T = A} (Err e) Failed

@@ -1,8 +1,7 @@
 -- What a datastore is opened with, and what opening leaves.
 use Rattle.std.specs.Prelude.{◌≡◌, ◌≤◌, ◌+◌, ◌↔◌, ℕ, Bool, true, ◌&&◌, List, [], ◌∷◌, map, replicate, Option, None, Some, is_some, Result, Ok, Err, IsTrue, IfOk}
 use Rattle.std.specs.List.{Contains}
-use Rattle.disk_trait.specs.Disk.{Serves, Same}
-use Rattle.disk_trait.specs.Effects.{StepsOn}
+use Rattle.disk_trait.specs.Disk.{Serves}
 use Rattle.disk_trait.specs.declared.disk.DiskError.{DiskError}
 use Rattle.disk_trait.specs.declared.disk.DiskError.TheVariants.{NoMemory as Wanting, Failed}
 use Rattle.disk_trait.specs.declared.disk.Disk.{Ghosts}
@@ -19,12 +18,11 @@ use Rattle.store_files.specs.Manifest.{Manifest}
 use Rattle.chunk_store.specs.Listed.{Lists as ListsDigests}
 use Rattle.atime_book.specs.Touches.{IsEarly}
 use Rattle.atime_book.specs.Present.{IsOfPresent}
-use Rattle.store_model.specs.Clash.{chunk_pieces}
 use Rattle.store_model.specs.Manifests.{listed_names}
 use Rattle.store_model.specs.Stands.{StandsFor as Stands}
 use Rattle.snapshot_files.specs.Scanned.{FoundSnapshot, Lists}
-use Rattle.opening_files.specs.Leaving.{Cleans, MayClean}
-use Rattle.opening_files.specs.Opened.{Opens}
+use Rattle.snapshot_files.specs.Leaving.{Cleans, MayClean}
+use Rattle.snapshot_files.specs.Opened.{Opens}
 use Rattle.store_history.specs.History.{Opening}
 use Rattle.store_history.specs.Saved.{saved_book}
 use Rattle.core_state.specs.declared.kept.Kept.{Kept}
@@ -45,6 +43,8 @@ use Rattle.core_state.specs.KeepsTouches.{KeepsTouches}
 use Rattle.core_state.specs.Numbers.{AreNumbered, first_number}
 use Rattle.core_state.specs.Records.{Records}
 use Rattle.core_state.specs.Recovers.{Recovers}
+use Rattle.store_history.specs.Opened.{opening_of}
+use Rattle.core_opening.specs.Stops.{StopsOpening}
 
 -- ---- the catalogue
 
@@ -129,16 +129,6 @@ HasBook d core = IsBookOf (d.content (core.parts).disk) core.upkeep
 
 -- ---- the core
 
--- the snapshots that the disk stood for, the saved book, the disk's calls once it was opened, and the pieces of the chunk files
-abbrev pub opening_of : {D : Type 0} → Ghosts D → D → D → List Snapshot → Opening
-opening_of d old new snapshots = record {
-  snapshots = snapshots;
-  moment = (saved_book (d.content old)).moment;
-  touches = (saved_book (d.content old)).touches;
-  calls = d.calls new;
-  chunks = chunk_pieces (d.content old);
-}
-
 -- no act is in the order, each reserve is whole, and no lane has a session or keeps anything of indexes
 pub record IsNew (x : Opened) : Type 0 where
   pub entries : (x.journal).entries.items ≡ []
@@ -212,17 +202,6 @@ fault_of Failed = DiskFault
 -- opening serves the disk: it is honest where it was, and a fault is told only where its count rose
 abbrev pub ServesOpening : {D E C : Type 0} → Ghosts D → D → Result (Core D E C) (NotOpened D E C) → Type 0
 ServesOpening d disk result = Serves d.honest d.faults disk (disk_after result) (IsFaulted result)
-
--- It was synced, and then not opened: from such a moment on, too.
-pub record StopsSynced {D : Type 0} (d : Ghosts D) (old new : D) : Type 0 where
-  pub opens : Opens d old new
-  pub stops : (L : List Snapshot) → Stands (d.content old) L → (t : ℕ) (c : Files) → opens.start ≤ t → d.images new t c → Stands c L
-
--- What a crash leaves where it was not opened: as before, where the disk could not be synced.
-abbrev pub StopsOpening : {D : Type 0} → Ghosts D → D → D → OpenFault → Type 0
-StopsOpening d old new NotSynced = StepsOn d old new Same
-StopsOpening d old new DiskFault = StopsSynced d old new
-StopsOpening d old new NoMemory = StopsSynced d old new
 
 abbrev pub LeavesOpened : {D E C : Type 0} → Ghosts D → D → Result (Core D E C) (NotOpened D E C) → Type 0
 LeavesOpened d disk (Ok core) = Opens d disk (core.parts).disk

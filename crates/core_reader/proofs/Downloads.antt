@@ -30,16 +30,17 @@ use Rattle.store_files.specs.Folder.{file_path}
 use Rattle.paged_indexes.specs.declared.index.IndexPages.{IndexPages}
 use Rattle.paged_indexes.specs.Index.{opened}
 use Rattle.restore_reader.specs.Shown.{pages_of}
+use Rattle.core_state.specs.Kept.{KeptAt, kept_at}
 use Rattle.core_state.specs.declared.parts.Parts.{Parts}
 use Rattle.core_state.specs.declared.kept.Listed.{Listed}
 use Rattle.core_state.specs.declared.kept.Session.{Session}
 use Rattle.core_state.specs.Found.{path_in}
 use Rattle.core_state.specs.Holds.{IsReader, IsOnDisk, Holds, Shows}
 use Rattle.core_state.specs.Shown.{files_named, shown_reader, shown_session, shown_snapshot}
-use Rattle.core_state.specs.Replies.{refuses_download}
+use Rattle.store_history.specs.Replies.{refuses_download}
 use Rattle.store_stops.specs.Stops.{Gives, IfRefused}
 use Rattle.core_state.specs.Unreadables.{Asked, from_offset}
-use Rattle.core_state.specs.Wanted.{reader_in, session_at}
+use Rattle.core_state.specs.Wanted.{reader_in}
 use Rattle.store_stops.specs.declared.stop.Stop.{Stop}
 use Rattle.store_stops.specs.declared.stop.Stop.TheVariants.{Refused, NoMemory, DiskFailed}
 use Rattle.core_state.proofs.Commanding.{reader_shown, reader_wanted, refused_by_state}
@@ -94,33 +95,33 @@ module _ (s : Store) (lane m : ℕ) (name : List ℕ) (offset : ℕ) where
 -- ---- what is kept
 
 -- a file of the reader's snapshot, and how it is read
-pub record IsAsked (file : List ℕ) (session : Session) (catalogue : List Listed) (path : List ℕ) (whole : Option IndexKind) : Type 0 where
+pub record IsAsked (file : List ℕ) (k : KeptAt) (path : List ℕ) (whole : Option IndexKind) : Type 0 where
   pub reading : Reading
-  pub reads : reader_in session ≡ Ok reading
+  pub reads : reader_in k.session ≡ Ok reading
   pub named : is_file_name file ≡ true
-  pub found : path_in reading.key file catalogue ≡ Some path
+  pub found : path_in reading.key file k.catalogue ≡ Some path
   pub whole_is : whole_for reading file ≡ whole
 
-module _ (file : List ℕ) (offset : ℕ) (session : Session) (catalogue : List Listed) where
-  pub file_unread : (refusal : Refusal) → reader_in session ≡ Err refusal → file_asked file offset session catalogue ≡ Err refusal
+module _ (file : List ℕ) (offset : ℕ) (k : KeptAt) where
+  pub file_unread : (refusal : Refusal) → reader_in k.session ≡ Err refusal → file_asked file offset k ≡ Err refusal
   unfolding file_asked
   file_unread refusal no_reader = rw no_reader refl
 
-  pub file_bad : (r : Reading) → reader_in session ≡ Ok r → is_file_name file ≡ false → file_asked file offset session catalogue ≡ Err BadName
+  pub file_bad : (r : Reading) → reader_in k.session ≡ Ok r → is_file_name file ≡ false → file_asked file offset k ≡ Err BadName
   unfolding file_asked
   file_bad r at bad = rw (at, bad) refl
 
-  pub file_absent : (r : Reading) → reader_in session ≡ Ok r → is_file_name file ≡ true → path_in r.key file catalogue ≡ None → file_asked file offset session catalogue ≡ Err NoFile
+  pub file_absent : (r : Reading) → reader_in k.session ≡ Ok r → is_file_name file ≡ true → path_in r.key file k.catalogue ≡ None → file_asked file offset k ≡ Err NoFile
   unfolding file_asked
   file_absent r at good missing = rw (at, good, missing) refl
 
-  pub file_there : (r : Reading) (path : List ℕ) → reader_in session ≡ Ok r → is_file_name file ≡ true → path_in r.key file catalogue ≡ Some path
-      → file_asked file offset session catalogue ≡ Ok (asked_at r file offset path)
+  pub file_there : (r : Reading) (path : List ℕ) → reader_in k.session ≡ Ok r → is_file_name file ≡ true → path_in r.key file k.catalogue ≡ Some path
+      → file_asked file offset k ≡ Ok (asked_at r file offset path)
   unfolding file_asked
   file_there r path at good found = rw (at, good, found) refl
 
-  pub file_is : (path : List ℕ) (whole : Option IndexKind) → file_asked file offset session catalogue ≡ Ok (record { path = path; way = from_offset whole offset }) → IsAsked file session catalogue path whole
-  file_is path whole e = by_reader (reader_in session) refl
+  pub file_is : (path : List ℕ) (whole : Option IndexKind) → file_asked file offset k ≡ Ok (record { path = path; way = from_offset whole offset }) → IsAsked file k path whole
+  file_is path whole e = by_reader (reader_in k.session) refl
     where
       same : (a b : Asked) → ◌≡◌ {A = Result Asked Refusal} (Ok a) (Ok b) → a ≡ b
       same a b e = cc
@@ -131,7 +132,7 @@ module _ (file : List ℕ) (offset : ℕ) (session : Session) (catalogue : List 
       apart : (refusal : Refusal) (a : Asked) → ◌≡◌ {A = Result Asked Refusal} (Err refusal) (Ok a) → ⊥
       apart refusal a e = cc
 
-      by_path : (r : Reading) (o : Option (List ℕ)) → reader_in session ≡ Ok r → is_file_name file ≡ true → path_in r.key file catalogue ≡ o → IsAsked file session catalogue path whole
+      by_path : (r : Reading) (o : Option (List ℕ)) → reader_in k.session ≡ Ok r → is_file_name file ≡ true → path_in r.key file k.catalogue ≡ o → IsAsked file k path whole
       by_path r None at good found = absurd (apart NoFile _ (sym (file_absent r at good found) ∙ e))
       by_path r (Some p) at good found =
           let is = same (asked_at r file offset p) (record { path = path; way = from_offset whole offset }) (sym (file_there r p at good found) ∙ e) in record {
@@ -142,20 +143,20 @@ module _ (file : List ℕ) (offset : ℕ) (session : Session) (catalogue : List 
             whole_is = ways (whole_for r file) whole (ap (λ (a : Asked). a.way) is);
           }
 
-      by_name : (r : Reading) (b : Bool) → reader_in session ≡ Ok r → is_file_name file ≡ b → IsAsked file session catalogue path whole
-      by_name r true at good = by_path r (path_in r.key file catalogue) at good refl
+      by_name : (r : Reading) (b : Bool) → reader_in k.session ≡ Ok r → is_file_name file ≡ b → IsAsked file k path whole
+      by_name r true at good = by_path r (path_in r.key file k.catalogue) at good refl
       by_name r false at bad = absurd (apart BadName _ (sym (file_bad r at bad) ∙ e))
 
-      by_reader : (o : Result Reading Refusal) → reader_in session ≡ o → IsAsked file session catalogue path whole
+      by_reader : (o : Result Reading Refusal) → reader_in k.session ≡ o → IsAsked file k path whole
       by_reader (Ok r) at = by_name r (is_file_name file) at refl
       by_reader (Err refusal) no_reader = absurd (apart refusal _ (sym (file_unread refusal no_reader) ∙ e))
 
   -- or why there is none
-  pub file_refused : (P : Refusal → Type 0) → ((refusal : Refusal) → reader_in session ≡ Err refusal → P refusal)
-      → ((r : Reading) → reader_in session ≡ Ok r → is_file_name file ≡ false → P BadName)
-      → ((r : Reading) → reader_in session ≡ Ok r → is_file_name file ≡ true → path_in r.key file catalogue ≡ None → P NoFile)
-      → (refusal : Refusal) → file_asked file offset session catalogue ≡ Err refusal → P refusal
-  file_refused P unread bad absent refusal e = by_reader (reader_in session) refl
+  pub file_refused : (P : Refusal → Type 0) → ((refusal : Refusal) → reader_in k.session ≡ Err refusal → P refusal)
+      → ((r : Reading) → reader_in k.session ≡ Ok r → is_file_name file ≡ false → P BadName)
+      → ((r : Reading) → reader_in k.session ≡ Ok r → is_file_name file ≡ true → path_in r.key file k.catalogue ≡ None → P NoFile)
+      → (refusal : Refusal) → file_asked file offset k ≡ Err refusal → P refusal
+  file_refused P unread bad absent refusal e = by_reader (reader_in k.session) refl
     where
       same : (a b : Refusal) → ◌≡◌ {A = Result Asked Refusal} (Err a) (Err b) → a ≡ b
       same a b e = cc
@@ -163,44 +164,44 @@ module _ (file : List ℕ) (offset : ℕ) (session : Session) (catalogue : List 
       apart : (a : Asked) → ◌≡◌ {A = Result Asked Refusal} (Ok a) (Err refusal) → ⊥
       apart a e = cc
 
-      by_path : (r : Reading) (o : Option (List ℕ)) → reader_in session ≡ Ok r → is_file_name file ≡ true → path_in r.key file catalogue ≡ o → P refusal
+      by_path : (r : Reading) (o : Option (List ℕ)) → reader_in k.session ≡ Ok r → is_file_name file ≡ true → path_in r.key file k.catalogue ≡ o → P refusal
       by_path r None at good found = subst P (same NoFile refusal (sym (file_absent r at good found) ∙ e)) (absent r at good found)
       by_path r (Some p) at good found = absurd (apart _ (sym (file_there r p at good found) ∙ e))
 
-      by_name : (r : Reading) (b : Bool) → reader_in session ≡ Ok r → is_file_name file ≡ b → P refusal
-      by_name r true at good = by_path r (path_in r.key file catalogue) at good refl
+      by_name : (r : Reading) (b : Bool) → reader_in k.session ≡ Ok r → is_file_name file ≡ b → P refusal
+      by_name r true at good = by_path r (path_in r.key file k.catalogue) at good refl
       by_name r false at is_bad = subst P (same BadName refusal (sym (file_bad r at is_bad) ∙ e)) (bad r at is_bad)
 
-      by_reader : (o : Result Reading Refusal) → reader_in session ≡ o → P refusal
+      by_reader : (o : Result Reading Refusal) → reader_in k.session ≡ o → P refusal
       by_reader (Ok r) at = by_name r (is_file_name file) at refl
       by_reader (Err q) no_reader = subst P (same q refusal (sym (file_unread q no_reader) ∙ e)) (unread q no_reader)
 
   -- a stop before the file is read
-  pub file_stops : (P : Refusal → Type 0) (stop : Stop) → ((refusal : Refusal) → file_asked file offset session catalogue ≡ Err refusal → P refusal)
-      → Gives {A = Asked} (λ a. a) (Err stop) (file_asked file offset session catalogue) → IfRefused P stop
+  pub file_stops : (P : Refusal → Type 0) (stop : Stop) → ((refusal : Refusal) → file_asked file offset k ≡ Err refusal → P refusal)
+      → Gives {A = Asked} (λ a. a) (Err stop) (file_asked file offset k) → IfRefused P stop
   file_stops P (Refused refusal) so gives = so refusal gives
   file_stops P NoMemory so gives = tt
   file_stops P DiskFailed so gives = tt
 
-  pub file_text_of : (refusal : Refusal) → file_asked file offset session catalogue ≡ Err refusal → ReplyHasText (replies.Refused refusal)
-  file_text_of = file_refused (λ r. ReplyHasText (replies.Refused r)) (λ r e. refused_by_state session r (λ q. ReplyHasText (replies.Refused q)) (λ state. wrong_state_has_text state) e)
+  pub file_text_of : (refusal : Refusal) → file_asked file offset k ≡ Err refusal → ReplyHasText (replies.Refused refusal)
+  file_text_of = file_refused (λ r. ReplyHasText (replies.Refused r)) (λ r e. refused_by_state k.session r (λ q. ReplyHasText (replies.Refused q)) (λ state. wrong_state_has_text state) e)
       (λ r at bad. bad_name_has_text) (λ r at good missing. no_file_has_text)
 
-  pub file_answers : (refusal : Refusal) → file_asked file offset session catalogue ≡ Err refusal → refuses_download refusal ≡ true
-  file_answers = file_refused (λ r. refuses_download r ≡ true) (λ r e. refused_by_state session r (λ q. refuses_download q ≡ true) (λ state. refl) e) (λ r at bad. refl) (λ r at good missing. refl)
+  pub file_answers : (refusal : Refusal) → file_asked file offset k ≡ Err refusal → refuses_download refusal ≡ true
+  file_answers = file_refused (λ r. refuses_download r ≡ true) (λ r e. refused_by_state k.session r (λ q. refuses_download q ≡ true) (λ state. refl) e) (λ r at bad. refl) (λ r at good missing. refl)
 
-  pub file_untold : (refusal : Refusal) → file_asked file offset session catalogue ≡ Err refusal → (result_ok (file_asked file offset session catalogue) ≡ None) × ((name : List ℕ) → refusal ≡ Unreadable name → ⊥)
+  pub file_untold : (refusal : Refusal) → file_asked file offset k ≡ Err refusal → (result_ok (file_asked file offset k) ≡ None) × ((name : List ℕ) → refusal ≡ Unreadable name → ⊥)
   file_untold refusal e = (ap (λ (x : Result Asked Refusal). result_ok x) e, apart refusal e)
     where
-      apart : (refusal : Refusal) → file_asked file offset session catalogue ≡ Err refusal → (name : List ℕ) → refusal ≡ Unreadable name → ⊥
-      apart = file_refused (λ r. (name : List ℕ) → r ≡ Unreadable name → ⊥) (λ r e. refused_by_state session r (λ q. (name : List ℕ) → q ≡ Unreadable name → ⊥) (λ state name is. cc) e)
+      apart : (refusal : Refusal) → file_asked file offset k ≡ Err refusal → (name : List ℕ) → refusal ≡ Unreadable name → ⊥
+      apart = file_refused (λ r. (name : List ℕ) → r ≡ Unreadable name → ⊥) (λ r e. refused_by_state k.session r (λ q. (name : List ℕ) → q ≡ Unreadable name → ⊥) (λ state name is. cc) e)
           (λ r at bad name is. cc) (λ r at good missing name is. cc)
 
 -- the plain store refuses it too
 pub file_refuses : {D : Type 0} (parts : Parts D) (s : Store) (lane m : ℕ) (file : List ℕ) (offset : ℕ) → Shows parts s → lane < 64
-    → (refusal : Refusal) → file_asked file offset (session_at parts lane) parts.catalogue.listed ≡ Err refusal → outcome s lane m (Download file offset) ≡ Err refusal
+    → (refusal : Refusal) → file_asked file offset (kept_at parts lane) ≡ Err refusal → outcome s lane m (Download file offset) ≡ Err refusal
 file_refuses parts s lane m file offset shows lt =
-    file_refused file offset (session_at parts lane) parts.catalogue.listed (λ r. outcome s lane m (Download file offset) ≡ Err r)
+    file_refused file offset (kept_at parts lane) (λ r. outcome s lane m (Download file offset) ≡ Err r)
     (λ r e. down_unread s lane m file offset r (reader_wanted parts s lane r shows lt e))
     (λ r reads bad. let (v, at, is) = reader_shown parts s lane r shows lt reads in down_bad s lane m file offset v at bad)
     (λ r reads good missing. let (v, at, is) = reader_shown parts s lane r shows lt reads in down_absent s lane m file offset parts.catalogue.listed v r shows.catalogue at is good missing)
@@ -333,7 +334,7 @@ asked_as r file offset path text name whole is one two =
     ∙ ap (λ w. let a : Asked = record { path = text; way = from_offset w offset } in Ok a) (ap (whole_for r) (sym two) ∙ sym one)
 
 module _ {D : Type 0} (d : Ghosts D) (old : Parts D) (s : Store) (lane m : ℕ) (file path : List ℕ) (offset : ℕ) (whole : Option IndexKind) (lt : lane < 64)
-    (asked : IsAsked file (session_at old lane) old.catalogue.listed path whole) (h : Holds d old s) where
+    (asked : IsAsked file (kept_at old lane) path whole) (h : Holds d old s) where
   pub asked_part_refused : (q : List ℕ) (refusal : Refusal) → q ≡ path → part_at (d.content old.disk) q offset ≡ Err refusal → outcome s lane m (Download file offset) ≡ Err refusal
   asked_part_refused q refusal same gives =
       let (v, at, is) = reader_shown old s lane asked.reading h.shows lt asked.reads in

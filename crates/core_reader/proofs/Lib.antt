@@ -1,5 +1,3 @@
-pub mod ActLemmas
-pub mod ActNotes
 pub mod OpenSteps
 pub mod CloseSteps
 pub mod Noted

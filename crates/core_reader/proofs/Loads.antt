@@ -24,7 +24,7 @@ use Rattle.chunk_store.specs.Faults.{IsDamageAsked, IsNotDamaged}
 use Rattle.chunk_store.specs.declared.chunk.LoadFault.{LoadFault}
 use Rattle.chunk_store.specs.declared.chunk.LoadFault.TheVariants as loads
 use Rattle.chunk_store.proofs.Blobs.{data_behind_header, data_is, checked_piece}
-use Rattle.core_state.specs.Replies.{refuses_get}
+use Rattle.store_history.specs.Replies.{refuses_get}
 use Rattle.core_state.specs.Unchanged.{is_uncalled}
 use Rattle.snapshot_files.specs.Reads.{StopHasText}
 use Rattle.store_stops.specs.Stops.{Gives, IfRefused}

@@ -5,6 +5,7 @@ use Rattle.store_types.specs.declared.refusal.Refusal.{Refusal}
 use Rattle.paged_indexes.specs.declared.kinds.IndexKind.{IndexKind}
 use Rattle.wire_commands.specs.declared.reply.Reply.{Reply}
 use Rattle.store_stops.specs.declared.stop.Stop.{Stop}
+use Rattle.core_state.specs.Kept.{kept_at}
 use Rattle.core_state.specs.declared.entering.Place.{Place}
 use Rattle.core_state.specs.declared.parts.Parts.{Parts}
 use Rattle.core_state.specs.Unreadables.{Asked, from_offset}
@@ -29,7 +30,7 @@ whole_same p q v w offset e = ways_same v w offset (ap (λ (a : Asked). a.way) e
 
 module _ {D : Type 0} (d : Ghosts D) (old new : Parts D) (at : Place) (file : List ℕ) (offset : ℕ) where
   abbrev asked : Result Asked Refusal
-  asked = file_asked file offset (session_at old at.lane) old.catalogue.listed
+  asked = file_asked file offset (kept_at old at.lane)
 
   pub notes_none : (stop : Stop) (result : Result Reply Stop) → IsErrAnd result (λ x. x ≡ stop) → NotesIndex d old new at.lane file offset result
   notes_none stop (Ok reply) is = absurd is

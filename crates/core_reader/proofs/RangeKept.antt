@@ -7,13 +7,13 @@ use Rattle.store_files.specs.Archive.{Snapshot}
 use Rattle.store_model.specs.Store as model
 use Rattle.store_model.specs.Store.{session}
 use Rattle.store_stops.specs.declared.stop.Stop.{Stop}
+use Rattle.core_state.specs.Kept.{kept_at}
 use Rattle.core_state.specs.declared.indexes.Indexes.{Indexes}
 use Rattle.core_state.specs.declared.indexes.Indexes.TheVariants.{Unread, Pooled, Opened, LastPage}
 use Rattle.core_state.specs.declared.pages.ReadPage.{ReadPage}
 use Rattle.core_state.specs.declared.parts.Parts.{Parts}
 use Rattle.core_state.specs.Commands.{LeavesRows}
 use Rattle.core_state.specs.Indexed.{FitsRanged, FitsRow, ranged_to, row_at, row_in, with_page}
-use Rattle.core_state.specs.Wanted.{session_at}
 use Rattle.core_state.proofs.Commanding.{KeepsFit}
 use Rattle.core_state.proofs.Sessions.{by_lane}
 use Rattle.core_reader.specs.NotesRange.{Keeps, KeepsLast, NotesRange}
@@ -30,7 +30,7 @@ page_fits snapshots x file page (LastPage p) fit is = is
 
 module _ {D : Type 0} (d : Ghosts D) (old new : Parts D) (lane : ℕ) (file : List ℕ) (offset len : ℕ) (lt : lane < 64) where
   abbrev Asks : RangeAsked → Type 0
-  Asks q = range_asked (row_at old lane) file offset len (session_at old lane) old.catalogue.listed ≡ Ok q
+  Asks q = range_asked file offset len (kept_at old lane) ≡ Ok q
 
   -- it stopped
   pub notes_stopped : {A : Type 0} (stop : Stop) (result : Result A Stop) → IsErrAnd result (λ x. x ≡ stop) → new.indexes.items ≡ old.indexes.items → NotesRange d old new lane file offset len result

@@ -16,14 +16,10 @@ use Rattle.wire_frames.specs.Frames.{body_limit}
 use Rattle.wire_commands.specs.declared.command.Command.TheVariants.{Range}
 use Rattle.store_model.specs.Store.{Store}
 use Rattle.store_model.specs.Steps.{outcome}
-use Rattle.core_state.specs.declared.indexes.Indexes.{Indexes}
-use Rattle.core_state.specs.declared.kept.Listed.{Listed}
-use Rattle.core_state.specs.declared.kept.Session.{Session}
+use Rattle.core_state.specs.Kept.{KeptAt, kept_at}
 use Rattle.core_state.specs.declared.parts.Parts.{Parts}
 use Rattle.core_state.specs.Holds.{Holds}
-use Rattle.core_state.specs.Indexed.{row_at}
-use Rattle.core_state.specs.Wanted.{session_at}
-use Rattle.core_state.specs.Replies.{refuses_range, reply_told}
+use Rattle.store_history.specs.Replies.{refuses_range, reply_told}
 use Rattle.core_state.specs.declared.entering.Place.{Place}
 use Rattle.wire_commands.specs.HasText.{ReplyHasText}
 use Rattle.restore_reader.specs.Answers.{RefusesRange as PlanRefuses}
@@ -39,10 +35,11 @@ use Rattle.store_stops.specs.Stops.{Gives, IfRefused}
 use Rattle.snapshot_files.specs.Reads.{StopHasText}
 use Rattle.core_reader.specs.AnsweredBy.{ActReads, bytes_told}
 use Rattle.core_reader.specs.Asked.{as_range}
-use Rattle.core_reader.specs.Damages.{MayNeed, TellsDamaged, damage_in}
+use Rattle.core_state.specs.Damages.{TellsDamaged}
+use Rattle.core_reader.specs.Damages.{MayNeed, damage_in}
 use Rattle.core_reader.specs.Chunks.{IsUnrefused}
 use Rattle.core_reader.specs.Ranges.{RangeAsked, RangeRefuses, RefusesAsked, StandsAsked, range_asked, range_place, range_told, range_with}
-use Rattle.core_reader.proofs.Damaging.{damages_failed, damages_none, damages_told}
+use Rattle.core_state.proofs.DamageLemmas.{damages_failed, damages_none, damages_told}
 use Rattle.core_reader.proofs.Ranging.{asked_refuses, asked_unplaced, range_given, range_is, range_refused, range_stands, refuses_asked}
 use Rattle.core_reader.proofs.ReadTold.{stop_told}
 use Rattle.core_reader.proofs.Telling.{Tells, tells_by}
@@ -190,14 +187,14 @@ module _ {D : Type 0} (d : Ghosts D) (disk : D) where
 
 module _ {D : Type 0} (d : Ghosts D) (old : Parts D) (at : Place) (file : List ℕ) (offset len : ℕ) where
   abbrev bytes_here : Result (List ℕ) Refusal
-  bytes_here = range_told (row_at old at.lane) file offset len (d.content old.disk) (session_at old at.lane) old.catalogue.listed
+  bytes_here = range_told file offset len (d.content old.disk) (kept_at old at.lane)
 
   abbrev told_here : Result Reply Refusal
-  told_here = bytes_told (row_at old at.lane) file offset len (d.content old.disk) at.lane (session_at old at.lane) old.catalogue.listed old.locks
+  told_here = bytes_told file offset len (d.content old.disk) (kept_at old at.lane)
 
   -- the refusal
   pub range_untold : {A : Type 0} (f : A → List ℕ) (stop : Stop) (result : Result Reply Stop) → IsErrAnd result (λ x. x ≡ stop) → (d.honest old.disk → Gives f (Err stop) bytes_here)
-      → ActReads d (bytes_told (row_at old at.lane) file offset len) old at result
+      → ActReads d (bytes_told file offset len) old at result
   range_untold {A} f stop result is gives = λ honest. stop_told told_here stop result is (by_stop stop (gives honest))
     where
       by_stop : (stop : Stop) → Gives {A = A} f (Err stop) bytes_here → Gives {A = Reply} (λ reply. reply) (Err stop) told_here
@@ -206,21 +203,21 @@ module _ {D : Type 0} (d : Ghosts D) (old : Parts D) (at : Place) (file : List �
       by_stop stops.DiskFailed gives = tt
 
   -- the bytes
-  pub range_tells : (bytes : List ℕ) → (d.honest old.disk → bytes_here ≡ Ok bytes) → ActReads d (bytes_told (row_at old at.lane) file offset len) old at (Ok (Data bytes))
+  pub range_tells : (bytes : List ℕ) → (d.honest old.disk → bytes_here ≡ Ok bytes) → ActReads d (bytes_told file offset len) old at (Ok (Data bytes))
   range_tells bytes gives = λ honest. sym (ap reply_told (ap (λ (r : Result (List ℕ) Refusal). r >>= λ b. Ok (Data b)) (gives honest)))
 
 -- ---- beside the plain store
 
-pub sound : (row : Indexes) (file : List ℕ) (offset len : ℕ) (session : Session) (catalogue : List Listed) → IfErr (range_asked row file offset len session catalogue) (λ r. refuses_asked r ≡ true)
-sound row file offset len session catalogue = by_asked (range_asked row file offset len session catalogue) refl
+pub sound : (file : List ℕ) (offset len : ℕ) (k : KeptAt) → IfErr (range_asked file offset len k) (λ r. refuses_asked r ≡ true)
+sound file offset len k = by_asked (range_asked file offset len k) refl
   where
-    by_asked : (q : Result RangeAsked Refusal) → range_asked row file offset len session catalogue ≡ q → IfErr q (λ r. refuses_asked r ≡ true)
+    by_asked : (q : Result RangeAsked Refusal) → range_asked file offset len k ≡ q → IfErr q (λ r. refuses_asked r ≡ true)
     by_asked (Ok a) e = tt
-    by_asked (Err r) e = asked_refuses row file offset len session catalogue r e
+    by_asked (Err r) e = asked_refuses file offset len k r e
 
 module _ {D : Type 0} (d : Ghosts D) (old : Parts D) (s : Store) (lane moment : ℕ) (file : List ℕ) (offset len : ℕ) (h : Holds d old s) (lt : lane < 64) where
   abbrev asked : Result RangeAsked Refusal
-  asked = range_asked (row_at old lane) file offset len (session_at old lane) old.catalogue.listed
+  asked = range_asked file offset len (kept_at old lane)
 
   -- it is refused as the plain store refuses it, and nothing that is read is refused
   pub range_refused_plainly : (A : Type 0) (stop : Stop) → IfRefused (RangeRefuses asked offset (offset + len)) stop
@@ -300,11 +297,11 @@ text_on stop (Ok x) is h = tt
 text_on stop (Err x) is h = subst (λ y. StopHasText y) (sym is) h
 
 -- what the place is refused by
-pub place_none : {A : Type 0} (f : A → List ℕ) (row : Indexes) (file : List ℕ) (offset len : ℕ) (session : Session) (catalogue : List Listed) (stop : Stop) → Gives f (Err stop) (range_place file session catalogue)
-    → IfRefused (λ r. range_asked row file offset len session catalogue ≡ Err r) stop
-place_none f row file offset len session catalogue (stops.Refused r) gives = asked_unplaced row file offset len session catalogue r gives
-place_none f row file offset len session catalogue stops.NoMemory gives = tt
-place_none f row file offset len session catalogue stops.DiskFailed gives = tt
+pub place_none : {A : Type 0} (f : A → List ℕ) (file : List ℕ) (offset len : ℕ) (k : KeptAt) (stop : Stop) → Gives f (Err stop) (range_place file k)
+    → IfRefused (λ r. range_asked file offset len k ≡ Err r) stop
+place_none f file offset len k (stops.Refused r) gives = asked_unplaced file offset len k r gives
+place_none f file offset len k stops.NoMemory gives = tt
+place_none f file offset len k stops.DiskFailed gives = tt
 
 -- ---- read
 

@@ -36,6 +36,7 @@ use Rattle.restore_reader.specs.Session.{Noted, Reading}
 use Rattle.restore_reader.specs.Shown.{pages_of}
 use Rattle.restore_reader.specs.Steps.{noted_as, range_plan}
 use Rattle.restore_reader.proofs.Plainly.{PlansPlainly, plan_none, plan_noted, planned_plainly}
+use Rattle.core_state.specs.Kept.{KeptAt, kept_at}
 use Rattle.core_state.specs.Found.{path_in}
 use Rattle.core_state.specs.Holds.{IsOnDisk, Shows}
 use Rattle.core_state.specs.Indexed.{FitsRanged, FitsRow, IsRangedOf, ranged_of, row_at}
@@ -85,39 +86,39 @@ module _ (s : Store) (lane : ℕ) (name : List ℕ) (offset len : ℕ) where
 
 -- ---- what is kept
 
-module _ (file : List ℕ) (session : Session) (catalogue : List Listed) where
-  pub place_unread : (refusal : Refusal) → reader_in session ≡ Err refusal → range_place file session catalogue ≡ Err refusal
+module _ (file : List ℕ) (k : KeptAt) where
+  pub place_unread : (refusal : Refusal) → reader_in k.session ≡ Err refusal → range_place file k ≡ Err refusal
   unfolding range_place
   place_unread refusal no_reader = rw no_reader refl
 
-  pub place_bad : (r : Reading) → reader_in session ≡ Ok r → is_index_name file ≡ false → range_place file session catalogue ≡ Err BadName
+  pub place_bad : (r : Reading) → reader_in k.session ≡ Ok r → is_index_name file ≡ false → range_place file k ≡ Err BadName
   unfolding range_place
   place_bad r at bad = rw (at, bad) refl
 
-  pub place_missing : (r : Reading) → reader_in session ≡ Ok r → is_index_name file ≡ true → path_in r.key file catalogue ≡ None → range_place file session catalogue ≡ Err NoFile
+  pub place_missing : (r : Reading) → reader_in k.session ≡ Ok r → is_index_name file ≡ true → path_in r.key file k.catalogue ≡ None → range_place file k ≡ Err NoFile
   unfolding range_place
   place_missing r at good missing = rw (at, good, missing) refl
 
-  pub place_found : (r : Reading) (path : List ℕ) → reader_in session ≡ Ok r → is_index_name file ≡ true → path_in r.key file catalogue ≡ Some path → range_place file session catalogue ≡ Ok path
+  pub place_found : (r : Reading) (path : List ℕ) → reader_in k.session ≡ Ok r → is_index_name file ≡ true → path_in r.key file k.catalogue ≡ Some path → range_place file k ≡ Ok path
   unfolding range_place
   place_found r path at good found = rw (at, good, found) refl
 
-module _ (row : Indexes) (file : List ℕ) (offset len : ℕ) (session : Session) (catalogue : List Listed) where
-  pub asked_unplaced : (refusal : Refusal) → range_place file session catalogue ≡ Err refusal → range_asked row file offset len session catalogue ≡ Err refusal
+module _ (file : List ℕ) (offset len : ℕ) (k : KeptAt) where
+  pub asked_unplaced : (refusal : Refusal) → range_place file k ≡ Err refusal → range_asked file offset len k ≡ Err refusal
   unfolding range_asked
   asked_unplaced refusal is = rw is refl
 
-  pub asked_unread : (path : List ℕ) (refusal : Refusal) → range_place file session catalogue ≡ Ok path → reader_in session ≡ Err refusal → range_asked row file offset len session catalogue ≡ Err refusal
+  pub asked_unread : (path : List ℕ) (refusal : Refusal) → range_place file k ≡ Ok path → reader_in k.session ≡ Err refusal → range_asked file offset len k ≡ Err refusal
   unfolding range_asked
   asked_unread path refusal at no_reader = rw (at, no_reader) refl
 
-  pub asked_unplanned : (path : List ℕ) (r : Reading) (refusal : Refusal) → range_place file session catalogue ≡ Ok path → reader_in session ≡ Ok r → range_plan r file offset len ≡ Err refusal
-      → range_asked row file offset len session catalogue ≡ Err refusal
+  pub asked_unplanned : (path : List ℕ) (r : Reading) (refusal : Refusal) → range_place file k ≡ Ok path → reader_in k.session ≡ Ok r → range_plan r file offset len ≡ Err refusal
+      → range_asked file offset len k ≡ Err refusal
   unfolding range_asked
   asked_unplanned path r refusal at reads is = rw (at, reads, is) refl
 
-  pub asked_planned : (path : List ℕ) (r : Reading) (pages : IndexPages) → range_place file session catalogue ≡ Ok path → reader_in session ≡ Ok r → range_plan r file offset len ≡ Ok pages
-      → range_asked row file offset len session catalogue ≡ Ok (asking path pages (ranged_of file row))
+  pub asked_planned : (path : List ℕ) (r : Reading) (pages : IndexPages) → range_place file k ≡ Ok path → reader_in k.session ≡ Ok r → range_plan r file offset len ≡ Ok pages
+      → range_asked file offset len k ≡ Ok (asking path pages (ranged_of file k.row))
   unfolding range_asked
   asked_planned path r pages at reads is = rw (at, reads, is) refl
 
@@ -152,34 +153,34 @@ module _ {B : Type 0} (f : B → List ℕ) (found : Option B) (key held : Snapsh
 -- ---- beside the plain store
 
 -- a range of an index of the reader's snapshot
-pub record IsRanged (s : Store) (lane : ℕ) (row : Indexes) (file : List ℕ) (offset len : ℕ) (found : Session) (catalogue : List Listed) : Type 0 where
+pub record IsRanged (s : Store) (lane : ℕ) (file : List ℕ) (offset len : ℕ) (k : KeptAt) : Type 0 where
   pub reading : model.Reader
   pub path : List ℕ
   pub pages : IndexPages
   pub at : session s lane ≡ reader reading
   pub good : is_index_name file ≡ true
   pub there : IsThere s.snapshots reading.key file path
-  pub asked : range_asked row file offset len found catalogue ≡ Ok (asking path pages (ranged_of file row))
+  pub asked : range_asked file offset len k ≡ Ok (asking path pages (ranged_of file k.row))
   pub plans : PlansBytes (reader_files s reading) reading file offset len pages
   pub told : range s lane file offset len ≡ Ok (s, Data (take len (drop offset (concat (pieces_at (reader_files s reading) file)))))
 
 -- or it is refused before a page is read
-pub data Asks (s : Store) (lane : ℕ) (row : Indexes) (file : List ℕ) (offset len : ℕ) (found : Session) (catalogue : List Listed) : Type 0 where
-  asks_none : (refusal : Refusal) → range_asked row file offset len found catalogue ≡ Err refusal → range s lane file offset len ≡ Err refusal → Asks s lane row file offset len found catalogue
-  asks_of : IsRanged s lane row file offset len found catalogue → Asks s lane row file offset len found catalogue
+pub data Asks (s : Store) (lane : ℕ) (file : List ℕ) (offset len : ℕ) (k : KeptAt) : Type 0 where
+  asks_none : (refusal : Refusal) → range_asked file offset len k ≡ Err refusal → range s lane file offset len ≡ Err refusal → Asks s lane file offset len k
+  asks_of : IsRanged s lane file offset len k → Asks s lane file offset len k
 
 module _ {D : Type 0} (parts : Parts D) (s : Store) (lane : ℕ) (file : List ℕ) (offset len : ℕ) (shows : Shows parts s) (lt : lane < 64) where
+  abbrev k : KeptAt
+  k = kept_at parts lane
+
   abbrev x : Session
   x = session_at parts lane
 
   abbrev catalogue : List Listed
   catalogue = parts.catalogue.listed
 
-  abbrev row : Indexes
-  row = row_at parts lane
-
   abbrev Answer : Type 0
-  Answer = Asks s lane row file offset len x catalogue
+  Answer = Asks s lane file offset len k
 
   module _ (r : Reading) (v : model.Reader) (reads : reader_in x ≡ Ok r) (at : session s lane ≡ reader v) (is : shown_reader s.snapshots v ≡ r) (good : is_index_name file ≡ true) where
     by_plan : (path : List ℕ) → path_in r.key file catalogue ≡ Some path → (plan : Result IndexPages Refusal) → range_plan r file offset len ≡ plan
@@ -193,19 +194,19 @@ module _ {D : Type 0} (parts : Parts D) (s : Store) (lane : ℕ) (file : List �
           at = at;
           good = good;
           there = t;
-          asked = asked_planned row file offset len x catalogue path r pages (place_found file x catalogue r path reads good found) reads e;
+          asked = asked_planned file offset len k path r pages (place_found file k r path reads good found) reads e;
           plans = plans;
           told = range_told s lane file offset len v t.file (Ok (take len (drop offset (concat (pieces_at (reader_files s v) file))))) at good (there_named s.snapshots v.key file path t) plans.stepped;
         })
     by_plan path found (Err refusal) e plans =
         let t = is_there file catalogue s.snapshots v.key path shows.catalogue (ap (λ (y : Reading). path_in y.key file catalogue) is ∙ found) in
         asks_none refusal
-        (asked_unplanned row file offset len x catalogue path r refusal (place_found file x catalogue r path reads good found) reads e)
+        (asked_unplanned file offset len k path r refusal (place_found file k r path reads good found) reads e)
         (range_told s lane file offset len v t.file (Err refusal) at good (there_named s.snapshots v.key file path t) plans)
 
     by_path : (o : Option (List ℕ)) → path_in r.key file catalogue ≡ o → Answer
     by_path None missing =
-        asks_none NoFile (asked_unplaced row file offset len x catalogue NoFile (place_missing file x catalogue r reads good missing))
+        asks_none NoFile (asked_unplaced file offset len k NoFile (place_missing file k r reads good missing))
         (range_missing s lane file offset len v at good (not_there file catalogue s.snapshots v.key shows.catalogue (ap (λ (y : Reading). path_in y.key file catalogue) is ∙ missing)))
     by_path (Some path) found =
         by_plan path found (range_plan r file offset len) refl (planned_plainly (reader_files s v) v r file offset len (sym is))
@@ -214,7 +215,7 @@ module _ {D : Type 0} (parts : Parts D) (s : Store) (lane : ℕ) (file : List �
   by_name r reads true good = let (v, at, is) = reader_shown parts s lane r shows lt reads in by_path r v reads at is good (path_in r.key file catalogue) refl
   by_name r reads false bad =
       let (v, at, is) = reader_shown parts s lane r shows lt reads in
-      asks_none BadName (asked_unplaced row file offset len x catalogue BadName (place_bad file x catalogue r reads bad)) (range_bad s lane file offset len v at bad)
+      asks_none BadName (asked_unplaced file offset len k BadName (place_bad file k r reads bad)) (range_bad s lane file offset len v at bad)
 
   pub asks : Answer
   asks = by_reader (reader_in x) refl
@@ -222,7 +223,7 @@ module _ {D : Type 0} (parts : Parts D) (s : Store) (lane : ℕ) (file : List �
       by_reader : (told : Result Reading Refusal) → reader_in x ≡ told → Answer
       by_reader (Ok r) reads = by_name r reads (is_index_name file) refl
       by_reader (Err refusal) reads =
-          asks_none refusal (asked_unplaced row file offset len x catalogue refusal (place_unread file x catalogue refusal reads))
+          asks_none refusal (asked_unplaced file offset len k refusal (place_unread file k refusal reads))
           (range_unread s lane file offset len refusal (reader_wanted parts s lane refusal shows lt reads))
 
 -- ---- the index stands there
@@ -276,7 +277,7 @@ module _ {D : Type 0} (m : Files) (parts : Parts D) (s : Store) (lane : ℕ) (fi
         subst (IsHandOf pages (ends_from 0 a.pieces)) page (page_fits p named fit)
 
   -- the pieces of the archive
-  record Stands (q : IsRanged s lane kept file offset len (session_at parts lane) parts.catalogue.listed) : Type 0 where
+  record Stands (q : IsRanged s lane file offset len (kept_at parts lane)) : Type 0 where
     one : Archive
     content : content_at (reader_files s q.reading) file ≡ Some (archive one)
     opened : q.pages ≡ pages_of file (file_path (q.reading).key file) (file_text (archive one))
@@ -286,7 +287,7 @@ module _ {D : Type 0} (m : Files) (parts : Parts D) (s : Store) (lane : ℕ) (fi
     held : All (IsHeld m) (pieces_at (reader_files s q.reading) file)
     hand : FitsHand q.pages (ends_from 0 (pieces_at (reader_files s q.reading) file)) (ranged_of file kept)
 
-  stands : (q : IsRanged s lane kept file offset len (session_at parts lane) parts.catalogue.listed) → Stands q
+  stands : (q : IsRanged s lane file offset len (kept_at parts lane)) → Stands q
   stands q =
       let v = q.reading in
       let t = q.there in
@@ -311,21 +312,21 @@ module _ {D : Type 0} (m : Files) (parts : Parts D) (s : Store) (lane : ℕ) (fi
         hand = subst (λ ps. FitsHand q.pages (ends_from 0 ps) (ranged_of file kept)) (sym pieces) (hand_fits v q.at a content q.pages pages (ranged_of file kept) refl);
       }
 
-  asked_stands : (q : IsRanged s lane kept file offset len (session_at parts lane) parts.catalogue.listed) → StandsAsked m (asking q.path q.pages (ranged_of file kept))
+  asked_stands : (q : IsRanged s lane file offset len (kept_at parts lane)) → StandsAsked m (asking q.path q.pages (ranged_of file kept))
   asked_stands q =
       let st = stands q in
       record { whole = record { pieces = pieces_at (reader_files s q.reading) file; index = st.index; steps = st.steps; held = st.held }; hand = st.hand }
 
   -- where it is read, its index stands there, and its pieces do
-  pub range_stands : (a : RangeAsked) → range_asked kept file offset len (session_at parts lane) parts.catalogue.listed ≡ Ok a → StandsAsked m a
+  pub range_stands : (a : RangeAsked) → range_asked file offset len (kept_at parts lane) ≡ Ok a → StandsAsked m a
   range_stands a is = by_case (asks parts s lane file offset len shows lt)
     where
-      by_case : Asks s lane kept file offset len (session_at parts lane) parts.catalogue.listed → StandsAsked m a
+      by_case : Asks s lane file offset len (kept_at parts lane) → StandsAsked m a
       by_case (asks_none refusal asked told) = absurd (ok_err a refusal (sym is ∙ asked))
       by_case (asks_of q) = subst (StandsAsked m) (asked_same (asking q.path q.pages (ranged_of file kept)) a (sym q.asked ∙ is)) (asked_stands q)
 
   -- a page of it that was read is one that the lane may keep
-  page_kept : (q : IsRanged s lane kept file offset len (session_at parts lane) parts.catalogue.listed) (x : ReadPage) → x.number < page_count (pages_by q.pages).count → x.start ≡ start_by q.pages x.number
+  page_kept : (q : IsRanged s lane file offset len (kept_at parts lane)) (x : ReadPage) → x.number < page_count (pages_by q.pages).count → x.start ≡ start_by q.pages x.number
       → page_entries m q.path q.pages x.number ≡ Ok (ends_of x.entries.items) → FitsRanged s.snapshots (record { name = file; page = x }) (session s lane)
   page_kept q x below start read =
       let st = stands q in
@@ -343,11 +344,11 @@ module _ {D : Type 0} (m : Files) (parts : Parts D) (s : Store) (lane : ℕ) (fi
       entries_same : (a b : List Ended) → ◌≡◌ {A = Result (List Ended) Refusal} (Ok a) (Ok b) → a ≡ b
       entries_same a b e = cc
 
-  pub range_keeps : (a : RangeAsked) (x : ReadPage) → range_asked kept file offset len (session_at parts lane) parts.catalogue.listed ≡ Ok a → x.number < page_count (pages_by (a.index).pages).count
+  pub range_keeps : (a : RangeAsked) (x : ReadPage) → range_asked file offset len (kept_at parts lane) ≡ Ok a → x.number < page_count (pages_by (a.index).pages).count
       → x.start ≡ start_by (a.index).pages x.number → ReadsPage m a.index x → FitsRanged s.snapshots (record { name = file; page = x }) (session s lane)
   range_keeps a x is below start read = by_case (asks parts s lane file offset len shows lt)
     where
-      by_case : Asks s lane kept file offset len (session_at parts lane) parts.catalogue.listed → FitsRanged s.snapshots (record { name = file; page = x }) (session s lane)
+      by_case : Asks s lane file offset len (kept_at parts lane) → FitsRanged s.snapshots (record { name = file; page = x }) (session s lane)
       by_case (asks_none refusal asked told) = absurd (ok_err a refusal (sym is ∙ asked))
       by_case (asks_of q) =
           let mine = asked_same a (asking q.path q.pages (ranged_of file kept)) (sym is ∙ q.asked) in
@@ -355,23 +356,23 @@ module _ {D : Type 0} (m : Files) (parts : Parts D) (s : Store) (lane : ℕ) (fi
           (subst (λ (b : RangeAsked). ReadsPage m b.index x) mine read)
 
   -- it is refused as the plain store refuses it
-  pub range_refused : (refusal : Refusal) → range_asked kept file offset len (session_at parts lane) parts.catalogue.listed ≡ Err refusal → range s lane file offset len ≡ Err refusal
+  pub range_refused : (refusal : Refusal) → range_asked file offset len (kept_at parts lane) ≡ Err refusal → range s lane file offset len ≡ Err refusal
   range_refused refusal is = by_case (asks parts s lane file offset len shows lt)
     where
       same : (r q : Refusal) → ◌≡◌ {A = Result RangeAsked Refusal} (Err r) (Err q) → r ≡ q
       same r q e = cc
 
-      by_case : Asks s lane kept file offset len (session_at parts lane) parts.catalogue.listed → range s lane file offset len ≡ Err refusal
+      by_case : Asks s lane file offset len (kept_at parts lane) → range s lane file offset len ≡ Err refusal
       by_case (asks_none other asked told) = told ∙ ap Err (same other refusal (sym asked ∙ is))
       by_case (asks_of q) = absurd (ok_err (asking q.path q.pages (ranged_of file kept)) refusal (sym q.asked ∙ is))
 
   -- the bytes that are read are the plain store's
-  pub range_given : (a : RangeAsked) (bytes : List ℕ) → range_asked kept file offset len (session_at parts lane) parts.catalogue.listed ≡ Ok a → range_with m a offset (offset + len) ≡ Ok bytes
+  pub range_given : (a : RangeAsked) (bytes : List ℕ) → range_asked file offset len (kept_at parts lane) ≡ Ok a → range_with m a offset (offset + len) ≡ Ok bytes
       → range s lane file offset len ≡ Ok (s, Data bytes)
   unfolding asked_stands
   range_given a bytes is read = by_case (asks parts s lane file offset len shows lt)
     where
-      by_case : Asks s lane kept file offset len (session_at parts lane) parts.catalogue.listed → range s lane file offset len ≡ Ok (s, Data bytes)
+      by_case : Asks s lane file offset len (kept_at parts lane) → range s lane file offset len ≡ Ok (s, Data bytes)
       by_case (asks_none refusal asked told) = absurd (ok_err a refusal (sym is ∙ asked))
       by_case (asks_of q) =
           let mine = asked_same a (asking q.path q.pages (ranged_of file kept)) (sym is ∙ q.asked) in
@@ -421,29 +422,29 @@ plan_refuses reading file offset len r is = by_noted (noted_as reading file) ref
     by_noted None e = refuses_same NotAllowed r (asked_err NotAllowed r (sym (plan_none reading file offset len e) ∙ is)) refl
     by_noted (Some x) e = by_want x e (want_range x.size offset len) refl
 
-pub asked_refuses : (row : Indexes) (file : List ℕ) (offset len : ℕ) (session : Session) (catalogue : List Listed) (r : Refusal) → range_asked row file offset len session catalogue ≡ Err r → refuses_asked r ≡ true
-asked_refuses row file offset len session catalogue r is = by_session session refl
+pub asked_refuses : (file : List ℕ) (offset len : ℕ) (k : KeptAt) (r : Refusal) → range_asked file offset len k ≡ Err r → refuses_asked r ≡ true
+asked_refuses file offset len k r is = from_session k.session refl
   where
-    refused_as : (q : Refusal) → range_asked row file offset len session catalogue ≡ Err q → refuses_asked q ≡ true → refuses_asked r ≡ true
+    refused_as : (q : Refusal) → range_asked file offset len k ≡ Err q → refuses_asked q ≡ true → refuses_asked r ≡ true
     refused_as q asked h = refuses_same q r (asked_err q r (sym asked ∙ is)) h
 
-    unread : (state : SessionState) → reader_in session ≡ Err (WrongState state) → refuses_asked r ≡ true
-    unread state e = refused_as (WrongState state) (asked_unplaced row file offset len session catalogue (WrongState state) (place_unread file session catalogue (WrongState state) e)) refl
+    unread : (state : SessionState) → reader_in k.session ≡ Err (WrongState state) → refuses_asked r ≡ true
+    unread state e = refused_as (WrongState state) (asked_unplaced file offset len k (WrongState state) (place_unread file k (WrongState state) e)) refl
 
-    by_plan : (reading : Reading) (path : List ℕ) → reader_in session ≡ Ok reading → range_place file session catalogue ≡ Ok path → (p : Result IndexPages Refusal) → range_plan reading file offset len ≡ p → refuses_asked r ≡ true
-    by_plan reading path reads at (Ok pages) e = absurd (ok_err (asking path pages (ranged_of file row)) r (sym (asked_planned row file offset len session catalogue path reading pages at reads e) ∙ is))
-    by_plan reading path reads at (Err q) e = refused_as q (asked_unplanned row file offset len session catalogue path reading q at reads e) (plan_refuses reading file offset len q e)
+    by_plan : (reading : Reading) (path : List ℕ) → reader_in k.session ≡ Ok reading → range_place file k ≡ Ok path → (p : Result IndexPages Refusal) → range_plan reading file offset len ≡ p → refuses_asked r ≡ true
+    by_plan reading path reads at (Ok pages) e = absurd (ok_err (asking path pages (ranged_of file k.row)) r (sym (asked_planned file offset len k path reading pages at reads e) ∙ is))
+    by_plan reading path reads at (Err q) e = refused_as q (asked_unplanned file offset len k path reading q at reads e) (plan_refuses reading file offset len q e)
 
-    by_path : (reading : Reading) → reader_in session ≡ Ok reading → is_index_name file ≡ true → (o : Option (List ℕ)) → path_in reading.key file catalogue ≡ o → refuses_asked r ≡ true
-    by_path reading reads good None missing = refused_as NoFile (asked_unplaced row file offset len session catalogue NoFile (place_missing file session catalogue reading reads good missing)) refl
+    by_path : (reading : Reading) → reader_in k.session ≡ Ok reading → is_index_name file ≡ true → (o : Option (List ℕ)) → path_in reading.key file k.catalogue ≡ o → refuses_asked r ≡ true
+    by_path reading reads good None missing = refused_as NoFile (asked_unplaced file offset len k NoFile (place_missing file k reading reads good missing)) refl
     by_path reading reads good (Some path) found =
-        by_plan reading path reads (place_found file session catalogue reading path reads good found) (range_plan reading file offset len) refl
+        by_plan reading path reads (place_found file k reading path reads good found) (range_plan reading file offset len) refl
 
-    by_name : (reading : Reading) → reader_in session ≡ Ok reading → (b : Bool) → is_index_name file ≡ b → refuses_asked r ≡ true
-    by_name reading reads true good = by_path reading reads good (path_in reading.key file catalogue) refl
-    by_name reading reads false bad = refused_as BadName (asked_unplaced row file offset len session catalogue BadName (place_bad file session catalogue reading reads bad)) refl
+    by_name : (reading : Reading) → reader_in k.session ≡ Ok reading → (b : Bool) → is_index_name file ≡ b → refuses_asked r ≡ true
+    by_name reading reads true good = by_path reading reads good (path_in reading.key file k.catalogue) refl
+    by_name reading reads false bad = refused_as BadName (asked_unplaced file offset len k BadName (place_bad file k reading reads bad)) refl
 
-    by_session : (x : Session) → session ≡ x → refuses_asked r ≡ true
-    by_session Idle e = unread (state_of Idle) (ap reader_in e)
-    by_session (Writer w) e = unread (state_of (Writer w)) (ap reader_in e)
-    by_session (Reader reading) e = by_name reading (ap reader_in e) (is_index_name file) refl
+    from_session : (x : Session) → k.session ≡ x → refuses_asked r ≡ true
+    from_session Idle e = unread (state_of Idle) (ap reader_in e)
+    from_session (Writer w) e = unread (state_of (Writer w)) (ap reader_in e)
+    from_session (Reader reading) e = by_name reading (ap reader_in e) (is_index_name file) refl

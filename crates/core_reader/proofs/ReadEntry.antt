@@ -40,20 +40,19 @@ use Rattle.snapshot_files.specs.Parts.{RefusesPart}
 use Rattle.store_stops.specs.declared.stop.Stop.{Stop}
 use Rattle.snapshot_files.proofs.Archives.{blob_no_dynamic, blob_no_fixed, layout_index}
 use Rattle.chunk_store.specs.Pieces.{IsHeld}
+use Rattle.core_state.specs.Kept.{KeptAt, kept_at}
 use Rattle.core_state.specs.declared.indexes.Indexes.{Indexes}
 use Rattle.core_state.specs.declared.indexes.Indexes.TheVariants.{Unread, Pooled, Opened, LastPage}
 use Rattle.core_state.specs.declared.indexes.OpenIndex.{OpenIndex}
 use Rattle.core_state.specs.declared.indexes.OpenPage.{OpenPage}
 use Rattle.store_files.specs.DynamicIndex.{Ended}
-use Rattle.core_state.specs.declared.kept.Listed.{Listed}
-use Rattle.core_state.specs.declared.kept.Session.{Session}
 use Rattle.core_state.specs.declared.parts.Parts.{Parts}
 use Rattle.store_stops.specs.declared.stop.Stop.TheVariants.{Refused, NoMemory, DiskFailed}
 use Rattle.core_state.specs.Found.{path_in}
 use Rattle.core_state.specs.Holds.{Holds, Shows}
 use Rattle.core_state.specs.Indexed.{AreOpened, FitsRow, IsOpened, IsPageOf, open_of, opened_of, page_of, row_at}
 use Rattle.core_state.specs.Shown.{files_named}
-use Rattle.core_state.specs.Replies.{refuses_entry}
+use Rattle.store_history.specs.Replies.{refuses_entry}
 use Rattle.store_stops.specs.Stops.{Gives, IfRefused}
 use Rattle.core_state.specs.Unreadables.{Asked, TellsUnreadable, part_read}
 use Rattle.core_state.specs.Wanted.{reader_in, session_at}
@@ -104,7 +103,7 @@ module _ (s : Store) (lane : ℕ) (name : List ℕ) (place : ℕ) where
   found_file r f at good found = rw (at, good, found) refl
 
 module _ {D : Type 0} (parts : Parts D) (s : Store) (lane : ℕ) (name : List ℕ) (place : ℕ) (shows : Shows parts s) (lt : lane < 64) where
-  pub chunk_unnamed : (path : List ℕ) → IsPlaced name (session_at parts lane) parts.catalogue.listed path → is_index_name name ≡ false → read_chunk s lane name place ≡ Err NoFile
+  pub chunk_unnamed : (path : List ℕ) → IsPlaced name (kept_at parts lane) path → is_index_name name ≡ false → read_chunk s lane name place ≡ Err NoFile
   chunk_unnamed path there bad = let (v, at, is) = reader_shown parts s lane there.reading shows lt there.reads in unnamed s lane name place v at bad
 
   absent : (r : Reading) → reader_in (session_at parts lane) ≡ Ok r → path_in r.key name parts.catalogue.listed ≡ None → read_chunk s lane name place ≡ Err NoFile
@@ -117,9 +116,9 @@ module _ {D : Type 0} (parts : Parts D) (s : Store) (lane : ℕ) (name : List �
       by_name false bad = let (v, at, is) = reader_shown parts s lane r shows lt reads in unnamed s lane name place v at bad
 
   -- where the file does not stand the store refuses it too
-  pub chunk_refuses : (refusal : Refusal) → place_of name (session_at parts lane) parts.catalogue.listed ≡ Err refusal → read_chunk s lane name place ≡ Err refusal
+  pub chunk_refuses : (refusal : Refusal) → place_of name (kept_at parts lane) ≡ Err refusal → read_chunk s lane name place ≡ Err refusal
   chunk_refuses =
-      place_refused name (session_at parts lane) parts.catalogue.listed (λ r. read_chunk s lane name place ≡ Err r)
+      place_refused name (kept_at parts lane) (λ r. read_chunk s lane name place ≡ Err r)
       (λ r e. chunk_unread s lane name place r (reader_wanted parts s lane r shows lt e)) absent
 
 -- ---- what stands there
@@ -295,7 +294,7 @@ record HasIndex (m : Files) (s : Store) (lane : ℕ) (row : Indexes) (name path 
   pub step_is : read_chunk s lane name place ≡ piece_then s (length one.pieces) (slice_get one.pieces place)
   pub held : All (IsHeld m) one.pieces
 
-module _ {D : Type 0} (d : Ghosts D) (old : Parts D) (s : Store) (lane : ℕ) (name path : List ℕ) (place : ℕ) (lt : lane < 64) (placed : IsPlaced name (session_at old lane) old.catalogue.listed path)
+module _ {D : Type 0} (d : Ghosts D) (old : Parts D) (s : Store) (lane : ℕ) (name path : List ℕ) (place : ℕ) (lt : lane < 64) (placed : IsPlaced name (kept_at old lane) path)
     (good : is_index_name name ≡ true) (h : Holds d old s) where
   abbrev content : Files
   content = d.content old.disk
@@ -390,63 +389,63 @@ bytes_short bytes le = omega (arith, le)
 
 -- ---- what is asked for
 
-module _ (row : Indexes) (name : List ℕ) (place : ℕ) (session : Session) (catalogue : List Listed) where
+module _ (name : List ℕ) (place : ℕ) (k : KeptAt) where
   abbrev asked_by : Result (List ℕ) Refusal → Option Asked
-  asked_by o = option_map (as_entry row name place) (result_ok o)
+  asked_by o = option_map (as_entry k.row name place) (result_ok o)
 
-  index_unread : (refusal : Refusal) → reader_in session ≡ Err refusal → index_of name session catalogue ≡ Err refusal
+  index_unread : (refusal : Refusal) → reader_in k.session ≡ Err refusal → index_of name k ≡ Err refusal
   unfolding index_of
   index_unread refusal no_reader = rw no_reader refl
 
-  pub index_unnamed : (r : Reading) → reader_in session ≡ Ok r → is_index_name name ≡ false → index_of name session catalogue ≡ Err NoFile
+  pub index_unnamed : (r : Reading) → reader_in k.session ≡ Ok r → is_index_name name ≡ false → index_of name k ≡ Err NoFile
   unfolding index_of
   index_unnamed r at bad = rw (at, bad) refl
 
-  index_absent : (r : Reading) → reader_in session ≡ Ok r → is_index_name name ≡ true → path_in r.key name catalogue ≡ None → index_of name session catalogue ≡ Err NoFile
+  index_absent : (r : Reading) → reader_in k.session ≡ Ok r → is_index_name name ≡ true → path_in r.key name k.catalogue ≡ None → index_of name k ≡ Err NoFile
   unfolding index_of
   index_absent r at good missing = rw (at, good, missing) refl
 
-  pub index_there : (r : Reading) (path : List ℕ) → reader_in session ≡ Ok r → is_index_name name ≡ true → path_in r.key name catalogue ≡ Some path → index_of name session catalogue ≡ Ok path
+  pub index_there : (r : Reading) (path : List ℕ) → reader_in k.session ≡ Ok r → is_index_name name ≡ true → path_in r.key name k.catalogue ≡ Some path → index_of name k ≡ Ok path
   unfolding index_of
   index_there r path at good found = rw (at, good, found) refl
 
-  pub index_unplaced : (refusal : Refusal) → place_of name session catalogue ≡ Err refusal → index_of name session catalogue ≡ Err refusal
-  index_unplaced = place_refused name session catalogue (λ r. index_of name session catalogue ≡ Err r) index_unread absent
+  pub index_unplaced : (refusal : Refusal) → place_of name k ≡ Err refusal → index_of name k ≡ Err refusal
+  index_unplaced = place_refused name k (λ r. index_of name k ≡ Err r) index_unread absent
     where
-      absent : (r : Reading) → reader_in session ≡ Ok r → path_in r.key name catalogue ≡ None → index_of name session catalogue ≡ Err NoFile
+      absent : (r : Reading) → reader_in k.session ≡ Ok r → path_in r.key name k.catalogue ≡ None → index_of name k ≡ Err NoFile
       absent r at missing = by_name (is_index_name name) refl
         where
-          by_name : (b : Bool) → is_index_name name ≡ b → index_of name session catalogue ≡ Err NoFile
+          by_name : (b : Bool) → is_index_name name ≡ b → index_of name k ≡ Err NoFile
           by_name true good = index_absent r at good missing
           by_name false bad = index_unnamed r at bad
 
-  unplaced_none : (refusal : Refusal) → place_of name session catalogue ≡ Err refusal → asked_entry row name place session catalogue ≡ None
+  unplaced_none : (refusal : Refusal) → place_of name k ≡ Err refusal → asked_entry name place k ≡ None
   unplaced_none refusal e = ap asked_by (index_unplaced refusal e)
 
-  pub entry_unplaced : (refusal : Refusal) → place_of name session catalogue ≡ Err refusal → (asked_entry row name place session catalogue ≡ None) × ((n : List ℕ) → refusal ≡ Unreadable n → ⊥)
-  entry_unplaced refusal e = (unplaced_none refusal e, place_untold name session catalogue refusal e)
+  pub entry_unplaced : (refusal : Refusal) → place_of name k ≡ Err refusal → (asked_entry name place k ≡ None) × ((n : List ℕ) → refusal ≡ Unreadable n → ⊥)
+  entry_unplaced refusal e = (unplaced_none refusal e, place_untold name k refusal e)
 
-  pub entry_unnamed : (path : List ℕ) → IsPlaced name session catalogue path → is_index_name name ≡ false → asked_entry row name place session catalogue ≡ None
+  pub entry_unnamed : (path : List ℕ) → IsPlaced name k path → is_index_name name ≡ false → asked_entry name place k ≡ None
   entry_unnamed path there bad = ap asked_by (index_unnamed there.reading there.reads bad)
 
-  pub entry_asked : (path : List ℕ) → IsPlaced name session catalogue path → is_index_name name ≡ true → asked_entry row name place session catalogue ≡ Some (as_entry row name place path)
+  pub entry_asked : (path : List ℕ) → IsPlaced name k path → is_index_name name ≡ true → asked_entry name place k ≡ Some (as_entry k.row name place path)
   entry_asked path there good = ap asked_by (index_there there.reading path there.reads good there.found)
 
   -- nor does its refusal tell of damage
-  pub entry_undamaged : (H : Type 0) (m : Files) (refusal : Refusal) → place_of name session catalogue ≡ Err refusal
-      → (H → asked_damage m (asked_entry row name place session catalogue) ≡ None) × ((digest : Digest32) (found : ChunkFault) → refusal ≡ Damaged digest found → ⊥)
+  pub entry_undamaged : (H : Type 0) (m : Files) (refusal : Refusal) → place_of name k ≡ Err refusal
+      → (H → asked_damage m (asked_entry name place k) ≡ None) × ((digest : Digest32) (found : ChunkFault) → refusal ≡ Damaged digest found → ⊥)
   entry_undamaged H m refusal e = (
     λ h. ap (asked_damage m) (unplaced_none refusal e),
-    place_refused name session catalogue (λ r. (digest : Digest32) (found : ChunkFault) → r ≡ Damaged digest found → ⊥)
-        (λ r u. refused_by_state session r (λ q. (digest : Digest32) (found : ChunkFault) → q ≡ Damaged digest found → ⊥) (λ state digest found is. cc) u)
+    place_refused name k (λ r. (digest : Digest32) (found : ChunkFault) → r ≡ Damaged digest found → ⊥)
+        (λ r u. refused_by_state k.session r (λ q. (digest : Digest32) (found : ChunkFault) → q ≡ Damaged digest found → ⊥) (λ state digest found is. cc) u)
         (λ r at missing digest found is. cc) refusal e,
   )
 
-  pub place_no_damage : (refusal : Refusal) → place_of name session catalogue ≡ Err refusal → (digest : Digest32) (found : ChunkFault) → refusal ≡ Damaged digest found → ⊥
+  pub place_no_damage : (refusal : Refusal) → place_of name k ≡ Err refusal → (digest : Digest32) (found : ChunkFault) → refusal ≡ Damaged digest found → ⊥
   place_no_damage refusal e = (entry_undamaged (Unit {0}) (Rattle.std.specs.FinMap.empty) refusal e).1
 
-  pub entry_refused_by : (refusal : Refusal) → place_of name session catalogue ≡ Err refusal → refuses_entry refusal ≡ true
-  entry_refused_by = place_refused name session catalogue (λ r. refuses_entry r ≡ true) (λ r e. refused_by_state session r (λ q. refuses_entry q ≡ true) (λ state. refl) e) (λ r at missing. refl)
+  pub entry_refused_by : (refusal : Refusal) → place_of name k ≡ Err refusal → refuses_entry refusal ≡ true
+  entry_refused_by = place_refused name k (λ r. refuses_entry r ≡ true) (λ r e. refused_by_state k.session r (λ q. refuses_entry q ≡ true) (λ state. refl) e) (λ r at missing. refl)
 
 -- ---- what is told of the index
 

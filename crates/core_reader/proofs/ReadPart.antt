@@ -21,12 +21,11 @@ use Rattle.restore_reader.specs.Session.{Reading}
 use Rattle.snapshot_files.specs.Parts.{FillsPart, RefusesPart, part_at, part_from, part_reply}
 use Rattle.snapshot_files.specs.declared.parts.FilePart.{FilePart}
 use Rattle.store_stops.specs.declared.stop.Stop.{Stop}
-use Rattle.core_state.specs.declared.kept.Listed.{Listed}
-use Rattle.core_state.specs.declared.kept.Session.{Session}
+use Rattle.core_state.specs.Kept.{KeptAt, kept_at}
 use Rattle.core_state.specs.declared.parts.Parts.{Parts}
 use Rattle.core_state.specs.Found.{path_in}
 use Rattle.core_state.specs.Holds.{Holds, Shows}
-use Rattle.core_state.specs.Replies.{answers_part, refuses_part}
+use Rattle.store_history.specs.Replies.{answers_part, refuses_part}
 use Rattle.store_stops.specs.Stops.{Gives, IfRefused}
 use Rattle.store_stops.specs.declared.stop.Stop.TheVariants.{Refused, NoMemory, DiskFailed}
 use Rattle.core_state.specs.Unreadables.{Asked}
@@ -61,26 +60,26 @@ read_absent parts s lane name offset r shows lt reads good missing =
 -- ---- where the file stands
 
 -- a file of the reader's snapshot that has this name stands there
-pub record IsPlaced (name : List ℕ) (session : Session) (catalogue : List Listed) (path : List ℕ) : Type 0 where
+pub record IsPlaced (name : List ℕ) (k : KeptAt) (path : List ℕ) : Type 0 where
   pub reading : Reading
-  pub reads : reader_in session ≡ Ok reading
-  pub found : path_in reading.key name catalogue ≡ Some path
+  pub reads : reader_in k.session ≡ Ok reading
+  pub found : path_in reading.key name k.catalogue ≡ Some path
 
-module _ (name : List ℕ) (session : Session) (catalogue : List Listed) where
-  pub place_unread : (refusal : Refusal) → reader_in session ≡ Err refusal → place_of name session catalogue ≡ Err refusal
+module _ (name : List ℕ) (k : KeptAt) where
+  pub place_unread : (refusal : Refusal) → reader_in k.session ≡ Err refusal → place_of name k ≡ Err refusal
   unfolding place_of
   place_unread refusal no_reader = rw no_reader refl
 
-  pub place_absent : (r : Reading) → reader_in session ≡ Ok r → path_in r.key name catalogue ≡ None → place_of name session catalogue ≡ Err NoFile
+  pub place_absent : (r : Reading) → reader_in k.session ≡ Ok r → path_in r.key name k.catalogue ≡ None → place_of name k ≡ Err NoFile
   unfolding place_of
   place_absent r at missing = rw (at, missing) refl
 
-  pub place_there : (r : Reading) (path : List ℕ) → reader_in session ≡ Ok r → path_in r.key name catalogue ≡ Some path → place_of name session catalogue ≡ Ok path
+  pub place_there : (r : Reading) (path : List ℕ) → reader_in k.session ≡ Ok r → path_in r.key name k.catalogue ≡ Some path → place_of name k ≡ Ok path
   unfolding place_of
   place_there r path at found = rw (at, found) refl
 
-  pub place_is : (path : List ℕ) → place_of name session catalogue ≡ Ok path → IsPlaced name session catalogue path
-  place_is path e = by_reader (reader_in session) refl
+  pub place_is : (path : List ℕ) → place_of name k ≡ Ok path → IsPlaced name k path
+  place_is path e = by_reader (reader_in k.session) refl
     where
       same : (a b : List ℕ) → ◌≡◌ {A = Result (List ℕ) Refusal} (Ok a) (Ok b) → a ≡ b
       same a b e = cc
@@ -88,19 +87,19 @@ module _ (name : List ℕ) (session : Session) (catalogue : List Listed) where
       apart : (refusal : Refusal) → ◌≡◌ {A = Result (List ℕ) Refusal} (Err refusal) (Ok path) → ⊥
       apart refusal e = cc
 
-      by_path : (r : Reading) (o : Option (List ℕ)) → reader_in session ≡ Ok r → path_in r.key name catalogue ≡ o → IsPlaced name session catalogue path
+      by_path : (r : Reading) (o : Option (List ℕ)) → reader_in k.session ≡ Ok r → path_in r.key name k.catalogue ≡ o → IsPlaced name k path
       by_path r None at missing = absurd (apart NoFile (sym (place_absent r at missing) ∙ e))
       by_path r (Some p) at found = record { reading = r; reads = at; found = found ∙ ap (λ q. Some q) (same p path (sym (place_there r p at found) ∙ e)) }
 
-      by_reader : (o : Result Reading Refusal) → reader_in session ≡ o → IsPlaced name session catalogue path
-      by_reader (Ok r) at = by_path r (path_in r.key name catalogue) at refl
+      by_reader : (o : Result Reading Refusal) → reader_in k.session ≡ o → IsPlaced name k path
+      by_reader (Ok r) at = by_path r (path_in r.key name k.catalogue) at refl
       by_reader (Err refusal) no_reader = absurd (apart refusal (sym (place_unread refusal no_reader) ∙ e))
 
   -- or why there is none
-  pub place_refused : (P : Refusal → Type 0) → ((refusal : Refusal) → reader_in session ≡ Err refusal → P refusal)
-      → ((r : Reading) → reader_in session ≡ Ok r → path_in r.key name catalogue ≡ None → P NoFile)
-      → (refusal : Refusal) → place_of name session catalogue ≡ Err refusal → P refusal
-  place_refused P unread absent refusal e = by_reader (reader_in session) refl
+  pub place_refused : (P : Refusal → Type 0) → ((refusal : Refusal) → reader_in k.session ≡ Err refusal → P refusal)
+      → ((r : Reading) → reader_in k.session ≡ Ok r → path_in r.key name k.catalogue ≡ None → P NoFile)
+      → (refusal : Refusal) → place_of name k ≡ Err refusal → P refusal
+  place_refused P unread absent refusal e = by_reader (reader_in k.session) refl
     where
       same : (a b : Refusal) → ◌≡◌ {A = Result (List ℕ) Refusal} (Err a) (Err b) → a ≡ b
       same a b e = cc
@@ -108,41 +107,41 @@ module _ (name : List ℕ) (session : Session) (catalogue : List Listed) where
       apart : (path : List ℕ) → ◌≡◌ {A = Result (List ℕ) Refusal} (Ok path) (Err refusal) → ⊥
       apart path e = cc
 
-      by_path : (r : Reading) (o : Option (List ℕ)) → reader_in session ≡ Ok r → path_in r.key name catalogue ≡ o → P refusal
+      by_path : (r : Reading) (o : Option (List ℕ)) → reader_in k.session ≡ Ok r → path_in r.key name k.catalogue ≡ o → P refusal
       by_path r None at missing = subst P (same NoFile refusal (sym (place_absent r at missing) ∙ e)) (absent r at missing)
       by_path r (Some p) at found = absurd (apart p (sym (place_there r p at found) ∙ e))
 
-      by_reader : (o : Result Reading Refusal) → reader_in session ≡ o → P refusal
-      by_reader (Ok r) at = by_path r (path_in r.key name catalogue) at refl
+      by_reader : (o : Result Reading Refusal) → reader_in k.session ≡ o → P refusal
+      by_reader (Ok r) at = by_path r (path_in r.key name k.catalogue) at refl
       by_reader (Err q) no_reader = subst P (same q refusal (sym (place_unread q no_reader) ∙ e)) (unread q no_reader)
 
   -- a stop before the file is read
-  pub place_stops : (P : Refusal → Type 0) (stop : Stop) → ((refusal : Refusal) → place_of name session catalogue ≡ Err refusal → P refusal)
-      → Gives {A = List ℕ} (λ path. path) (Err stop) (place_of name session catalogue) → IfRefused P stop
+  pub place_stops : (P : Refusal → Type 0) (stop : Stop) → ((refusal : Refusal) → place_of name k ≡ Err refusal → P refusal)
+      → Gives {A = List ℕ} (λ path. path) (Err stop) (place_of name k) → IfRefused P stop
   place_stops P (Refused refusal) so gives = so refusal gives
   place_stops P NoMemory so gives = tt
   place_stops P DiskFailed so gives = tt
 
-  pub place_text : (refusal : Refusal) → place_of name session catalogue ≡ Err refusal → ReplyHasText (replies.Refused refusal)
-  place_text = place_refused (λ r. ReplyHasText (replies.Refused r)) (λ r e. refused_by_state session r (λ q. ReplyHasText (replies.Refused q)) (λ state. wrong_state_has_text state) e)
+  pub place_text : (refusal : Refusal) → place_of name k ≡ Err refusal → ReplyHasText (replies.Refused refusal)
+  place_text = place_refused (λ r. ReplyHasText (replies.Refused r)) (λ r e. refused_by_state k.session r (λ q. ReplyHasText (replies.Refused q)) (λ state. wrong_state_has_text state) e)
       (λ r at missing. no_file_has_text)
 
   -- it tells of no file
-  pub place_untold : (refusal : Refusal) → place_of name session catalogue ≡ Err refusal → (n : List ℕ) → refusal ≡ Unreadable n → ⊥
-  place_untold = place_refused (λ r. (n : List ℕ) → r ≡ Unreadable n → ⊥) (λ r e. refused_by_state session r (λ q. (n : List ℕ) → q ≡ Unreadable n → ⊥) (λ state n is. cc) e)
+  pub place_untold : (refusal : Refusal) → place_of name k ≡ Err refusal → (n : List ℕ) → refusal ≡ Unreadable n → ⊥
+  place_untold = place_refused (λ r. (n : List ℕ) → r ≡ Unreadable n → ⊥) (λ r e. refused_by_state k.session r (λ q. (n : List ℕ) → q ≡ Unreadable n → ⊥) (λ state n is. cc) e)
       (λ r at missing n is. cc)
 
 -- ---- the store refuses it too, or gives the part
 
 pub read_refuses : {D : Type 0} (parts : Parts D) (s : Store) (lane : ℕ) (name : List ℕ) (offset : ℕ) → Shows parts s → lane < 64 → is_file_name name ≡ true
-    → (refusal : Refusal) → place_of name (session_at parts lane) parts.catalogue.listed ≡ Err refusal → read_file s lane name offset ≡ Err refusal
+    → (refusal : Refusal) → place_of name (kept_at parts lane) ≡ Err refusal → read_file s lane name offset ≡ Err refusal
 read_refuses parts s lane name offset shows lt good =
-    place_refused name (session_at parts lane) parts.catalogue.listed (λ r. read_file s lane name offset ≡ Err r)
+    place_refused name (kept_at parts lane) (λ r. read_file s lane name offset ≡ Err r)
     (λ r e. read_unread s lane name offset r (reader_wanted parts s lane r shows lt e))
     (λ r reads missing. read_absent parts s lane name offset r shows lt reads good missing)
 
 module _ {D : Type 0} (d : Ghosts D) (old : Parts D) (s : Store) (lane : ℕ) (name path q : List ℕ) (offset : ℕ) (lt : lane < 64) (good : is_file_name name ≡ true)
-    (there : IsPlaced name (session_at old lane) old.catalogue.listed path) (here : q ≡ path) (h : Holds d old s) where
+    (there : IsPlaced name (kept_at old lane) path) (here : q ≡ path) (h : Holds d old s) where
   read_there : read_file s lane name offset ≡ (part_at (d.content old.disk) q offset >>= λ reply. Ok (s, reply))
   read_there =
       let r = there.reading in
@@ -163,18 +162,18 @@ module _ {D : Type 0} (d : Ghosts D) (old : Parts D) (s : Store) (lane : ℕ) (n
 
 -- ---- what is asked for
 
-module _ (name : List ℕ) (offset : ℕ) (session : Session) (catalogue : List Listed) where
+module _ (name : List ℕ) (offset : ℕ) (k : KeptAt) where
   abbrev asked_by : Result (List ℕ) Refusal → Option Asked
   asked_by o = option_map (as_part offset) (result_ok o)
 
-  pub part_unplaced : (refusal : Refusal) → place_of name session catalogue ≡ Err refusal → (asked_part name offset session catalogue ≡ None) × ((n : List ℕ) → refusal ≡ Unreadable n → ⊥)
-  part_unplaced refusal e = (ap asked_by e, place_untold name session catalogue refusal e)
+  pub part_unplaced : (refusal : Refusal) → place_of name k ≡ Err refusal → (asked_part name offset k ≡ None) × ((n : List ℕ) → refusal ≡ Unreadable n → ⊥)
+  part_unplaced refusal e = (ap asked_by e, place_untold name k refusal e)
 
-  pub part_asked : (path : List ℕ) → place_of name session catalogue ≡ Ok path → asked_part name offset session catalogue ≡ Some (as_part offset path)
+  pub part_asked : (path : List ℕ) → place_of name k ≡ Ok path → asked_part name offset k ≡ Some (as_part offset path)
   part_asked path e = ap asked_by e
 
-  pub part_refused : (refusal : Refusal) → place_of name session catalogue ≡ Err refusal → refuses_part refusal ≡ true
-  part_refused = place_refused name session catalogue (λ r. refuses_part r ≡ true) (λ r e. refused_by_state session r (λ q. refuses_part q ≡ true) (λ state. refl) e) (λ r at missing. refl)
+  pub part_refused : (refusal : Refusal) → place_of name k ≡ Err refusal → refuses_part refusal ≡ true
+  part_refused = place_refused name k (λ r. refuses_part r ≡ true) (λ r e. refused_by_state k.session r (λ q. refuses_part q ≡ true) (λ state. refl) e) (λ r at missing. refl)
 
 -- ---- what is answered
 

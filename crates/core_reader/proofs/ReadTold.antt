@@ -10,6 +10,7 @@ use Rattle.store_types.specs.FileNames.{is_index_name}
 use Rattle.wire_commands.specs.declared.reply.Reply.{Reply}
 use Rattle.wire_commands.specs.declared.reply.Reply.TheVariants.{Data}
 use Rattle.snapshot_files.specs.Parts.{part_reply}
+use Rattle.core_state.specs.Kept.{kept_at}
 use Rattle.core_state.specs.declared.indexes.Indexes.{Indexes}
 use Rattle.core_state.specs.Indexed.{row_at}
 use Rattle.core_reader.specs.Entries.{entry_by}
@@ -18,10 +19,9 @@ use Rattle.store_stops.specs.declared.stop.Stop.{Stop}
 use Rattle.core_state.specs.declared.entering.Place.{Place}
 use Rattle.core_state.specs.declared.parts.Parts.{Parts}
 use Rattle.store_stops.specs.declared.stop.Stop.TheVariants.{Refused, NoMemory, DiskFailed}
-use Rattle.core_state.specs.Replies.{reply_told}
+use Rattle.store_history.specs.Replies.{reply_told}
 use Rattle.core_state.specs.Stops.{told}
 use Rattle.store_stops.specs.Stops.{Gives}
-use Rattle.core_state.specs.Wanted.{session_at}
 use Rattle.core_state.proofs.FromState.{Stops, stopped}
 use Rattle.core_reader.specs.AnsweredBy.{ActReads, chunk_told, part_told}
 use Rattle.core_reader.specs.Asked.{index_of, place_of}
@@ -52,10 +52,10 @@ first_stops rest DiskFailed first gives = tt
 
 module _ {D : Type 0} (d : Ghosts D) (old : Parts D) (at : Place) (name : List ℕ) (offset : ℕ) where
   abbrev part_here : Result Reply Refusal
-  part_here = part_told name offset (d.content old.disk) at.lane (session_at old at.lane) old.catalogue.listed old.locks
+  part_here = part_told name offset (d.content old.disk) (kept_at old at.lane)
 
   abbrev placed : Result (List ℕ) Refusal
-  placed = place_of name (session_at old at.lane) old.catalogue.listed
+  placed = place_of name (kept_at old at.lane)
 
   abbrev part_in : List ℕ → Result Reply Refusal
   part_in path = part_at (d.content old.disk) path offset
@@ -86,10 +86,10 @@ module _ {D : Type 0} (d : Ghosts D) (old : Parts D) (at : Place) (name : List �
   row = row_at old at.lane
 
   abbrev chunk_here : Result Reply Refusal
-  chunk_here = chunk_told row name place (d.content old.disk) at.lane (session_at old at.lane) old.catalogue.listed old.locks
+  chunk_here = chunk_told name place (d.content old.disk) (kept_at old at.lane)
 
   abbrev indexed : Result (List ℕ) Refusal
-  indexed = index_of name (session_at old at.lane) old.catalogue.listed
+  indexed = index_of name (kept_at old at.lane)
 
   abbrev data_in : List ℕ → Result Reply Refusal
   data_in bytes = Ok (Data bytes)
@@ -101,20 +101,20 @@ module _ {D : Type 0} (d : Ghosts D) (old : Parts D) (at : Place) (name : List �
   chunk_in path = entry_by row name place (d.content old.disk) path >>= bytes_in
 
   -- there is no such file
-  pub chunk_missing : (stop : Stop) (result : Result Reply Stop) → Stops result stop → Gives {A = List ℕ} (λ path. path) (Err stop) (place_of name (session_at old at.lane) old.catalogue.listed)
-      → ActReads d (chunk_told row name place) old at result
+  pub chunk_missing : (stop : Stop) (result : Result Reply Stop) → Stops result stop → Gives {A = List ℕ} (λ path. path) (Err stop) (place_of name (kept_at old at.lane))
+      → ActReads d (chunk_told name place) old at result
   chunk_missing stop result stops gives = λ honest. stop_told chunk_here stop result stops (first_stops {A = List ℕ} chunk_in stop indexed (by_stop stop gives))
     where
-      by_stop : (stop : Stop) → Gives {A = List ℕ} (λ path. path) (Err stop) (place_of name (session_at old at.lane) old.catalogue.listed) → Gives {A = List ℕ} (λ path. path) (Err stop) indexed
-      by_stop (Refused refusal) gives = index_unplaced row name place (session_at old at.lane) old.catalogue.listed refusal gives
+      by_stop : (stop : Stop) → Gives {A = List ℕ} (λ path. path) (Err stop) (place_of name (kept_at old at.lane)) → Gives {A = List ℕ} (λ path. path) (Err stop) indexed
+      by_stop (Refused refusal) gives = index_unplaced name place (kept_at old at.lane) refusal gives
       by_stop NoMemory gives = tt
       by_stop DiskFailed gives = tt
 
-  module _ (path : List ℕ) (there : IsPlaced name (session_at old at.lane) old.catalogue.listed path) where
+  module _ (path : List ℕ) (there : IsPlaced name (kept_at old at.lane) path) where
     -- its name is no index's
-    pub chunk_unindexed : is_index_name name ≡ false → ActReads d (chunk_told row name place) old at (Err (Refused NoFile))
+    pub chunk_unindexed : is_index_name name ≡ false → ActReads d (chunk_told name place) old at (Err (Refused NoFile))
     chunk_unindexed bad = λ honest.
-        sym (ap reply_told (ap (λ (o : Result (List ℕ) Refusal). o >>= chunk_in) (index_unnamed row name place (session_at old at.lane) old.catalogue.listed there.reading there.reads bad)))
+        sym (ap reply_told (ap (λ (o : Result (List ℕ) Refusal). o >>= chunk_in) (index_unnamed name place (kept_at old at.lane) there.reading there.reads bad)))
 
     module _ (good : is_index_name name ≡ true) (q : List ℕ) (here : q ≡ path) where
       abbrev entry : Result Digest32 Refusal
@@ -122,12 +122,12 @@ module _ {D : Type 0} (d : Ghosts D) (old : Parts D) (at : Place) (name : List �
 
       chunk_wanted : chunk_here ≡ (entry >>= bytes_in)
       chunk_wanted =
-          ap (λ (o : Result (List ℕ) Refusal). o >>= chunk_in) (index_there row name place (session_at old at.lane) old.catalogue.listed there.reading path there.reads good there.found)
+          ap (λ (o : Result (List ℕ) Refusal). o >>= chunk_in) (index_there name place (kept_at old at.lane) there.reading path there.reads good there.found)
           ∙ ap (λ (o : Result Digest32 Refusal). o >>= bytes_in) (sym (entry_here (d.content old.disk) path q row name place here))
 
       -- the entry is refused by what stands there
       pub entry_unread : (e : Stop) (result : Result Reply Stop) → Stops result e → (d.honest old.disk → Gives {A = Digest32} (λ digest. digest) (Err e) entry)
-          → ActReads d (chunk_told row name place) old at result
+          → ActReads d (chunk_told name place) old at result
       entry_unread e result stops gives = λ honest.
           stop_told chunk_here e result stops
           (subst (λ w. Gives {A = Reply} (λ reply. reply) (Err e) w) (sym chunk_wanted)

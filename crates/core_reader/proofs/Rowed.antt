@@ -14,6 +14,7 @@ use Rattle.store_model.specs.Store.{Store, session}
 use Rattle.store_stops.specs.declared.stop.Stop.{Stop}
 use Rattle.store_stops.specs.declared.stop.Stop.TheVariants.{Refused, NoMemory, DiskFailed}
 use Rattle.store_stops.specs.Stops.{Gives, IfRefused}
+use Rattle.core_state.specs.Kept.{kept_at}
 use Rattle.core_state.specs.declared.entering.Place.{Place}
 use Rattle.core_state.specs.declared.indexes.Indexes.{Indexes}
 use Rattle.core_state.specs.declared.indexes.Indexes.TheVariants.{Unread}
@@ -21,7 +22,6 @@ use Rattle.core_state.specs.declared.parts.Parts.{Parts}
 use Rattle.core_state.specs.Commands.{keeps_row, row_stays}
 use Rattle.core_state.specs.Holds.{Holds}
 use Rattle.core_state.specs.Indexed.{FitsRow, FitsRows, row_at, row_in}
-use Rattle.core_state.specs.Wanted.{session_at}
 use Rattle.core_state.proofs.Rows.{rows_but, rows_put}
 use Rattle.core_state.proofs.Sessions.{by_lane}
 use Rattle.core_reader.specs.declared.entries.Turn.{Turn}
@@ -109,7 +109,7 @@ module _ {D : Type 0} (d : Ghosts D) (old new : Parts D) (at : Place) (name : Li
 
 -- it turned to what was opened and read
 module _ {D : Type 0} (d : Ghosts D) (old : Parts D) (rows : List Indexes) (at : Place) (name : List ℕ) (place : ℕ) (lt : at.lane < 64)
-    (path : List ℕ) (placed : IsPlaced name (session_at old at.lane) old.catalogue.listed path) (good : is_index_name name ≡ true) (q : List ℕ) (here : q ≡ path) (found mid left : Indexes) (turn : Turn) (b : Bool)
+    (path : List ℕ) (placed : IsPlaced name (kept_at old at.lane) path) (good : is_index_name name ≡ true) (q : List ℕ) (here : q ≡ path) (found mid left : Indexes) (turn : Turn) (b : Bool)
     (is : found ≡ row_at old at.lane) (same : mid ≡ row_at old at.lane) (kept : left ≡ kept_by b turn mid) (l : rows ≡ set old.indexes.items at.lane left)
     (only : IsTurn found name place turn) (reads : d.honest old.disk → ReadsTurn found (d.content old.disk) q name turn) where
   left_is : left ≡ kept_by b turn (row_at old at.lane)
@@ -157,7 +157,7 @@ module _ {D : Type 0} (d : Ghosts D) (old : Parts D) (rows : List Indexes) (at :
     stays = λ none. ap (λ xs. row_in xs at.lane) same_rows ∙ row_is ∙ ap (λ x. kept_by x turn (row_at old at.lane)) (sym told ∙ none);
     turns = λ there. (
       path,
-      index_there (row_at old at.lane) name place (session_at old at.lane) old.catalogue.listed placed.reading path placed.reads good placed.found,
+      index_there name place (kept_at old at.lane) placed.reading path placed.reads good placed.found,
       record { turn = turn; is = ap (λ xs. row_in xs at.lane) same_rows ∙ row_is ∙ ap (λ x. kept_by x turn (row_at old at.lane)) (sym told ∙ there); only = only_here; reads = reads_here },
     );
   }

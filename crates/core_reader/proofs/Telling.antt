@@ -1,6 +1,6 @@
 -- What a DOWNLOAD tells of the file that is asked for.
 use Rattle.disk_trait.specs.declared.disk.Disk.{Ghosts}
-use Rattle.std.proofs.Common.{◌≡◌, ℕ, true, false, List, Option, Some, None, Result, Ok, Err, IsErrAnd, IsErrOf, IsTrue, refl, sym, ap, subst, ◌∙◌}
+use Rattle.std.proofs.Common.{set, ◌≡◌, ℕ, true, false, List, Option, Some, None, Result, Ok, Err, IsErrAnd, IsErrOf, IsTrue, refl, sym, ap, subst, ◌∙◌}
 use Rattle.disk_trait.specs.Effects.{OnlyReads}
 use Rattle.disk_trait.proofs.OnlyReading.{reads_as}
 use Rattle.disk_trait.specs.Files.{Files}
@@ -25,10 +25,11 @@ use Rattle.core_state.specs.Commands.{ActDoes, ActLeaves, IsNoRefusal}
 use Rattle.core_state.specs.Holds.{Holds}
 use Rattle.core_state.specs.Wanted.{session_at}
 use Rattle.core_state.specs.declared.entering.Place.{Place}
+use Rattle.core_state.specs.declared.kept.Session.{Session}
 use Rattle.core_state.specs.declared.parts.Parts.{Parts}
 use Rattle.core_state.proofs.Rows.{rows_same}
-use Rattle.core_state.proofs.Commanding.{act_does, reads_disk, stopped_does, stopped_leaves, writes_leaves}
-use Rattle.core_state.specs.Replies.{answers_download, may_answer, refuses_download}
+use Rattle.core_state.proofs.Commanding.{act_does, others_set, reads_disk, stopped_does, stopped_leaves, writes_leaves}
+use Rattle.store_history.specs.Replies.{answers_download, may_answer, refuses_download}
 use Rattle.core_state.specs.Settles.{kind_by, reply_by}
 use Rattle.core_state.specs.Stops.{told}
 use Rattle.store_stops.specs.Stops.{IfRefused, Gives}
@@ -116,10 +117,10 @@ module _ {D : Type 0} (d : Ghosts D) (old new : Parts D) (at : Place) (act : Act
 
 -- done, where the lane's session alone has changed
 pub noted_leaves : {D : Type 0} (d : Ghosts D) (old new : Parts D) (at : Place) (file : List ℕ) (offset : ℕ) (reply : Reply) (F : Type 0) → IsNoRefusal reply → OnlyReads d old.disk new.disk F
-    → new.catalogue.listed ≡ old.catalogue.listed → new.indexes.items ≡ old.indexes.items → ActLeaves d old new at (Plain (Download file offset)) (Ok reply)
-noted_leaves d old new at file offset reply F plain reads same rows =
+    → new.catalogue.listed ≡ old.catalogue.listed → (left : Session) → new.sessions.items ≡ set old.sessions.items at.lane left → new.indexes.items ≡ old.indexes.items → ActLeaves d old new at (Plain (Download file offset)) (Ok reply)
+noted_leaves d old new at file offset reply F plain reads same left sets rows =
     writes_leaves d old new at (Plain (Download file offset)) reply plain refl reads.same reads.crash tt same (λ e. cc) (adds_same d old new (Plain (Download file offset)) (Ok reply) reads.same) (λ e. cc) (λ e. cc)
-    (rows_same old new.indexes.items at.lane (Plain (Download file offset)) rows)
+    (rows_same old new.indexes.items at.lane (Plain (Download file offset)) rows) (others_set old new at.lane left sets)
 
 -- ---- what is told
 

@@ -3,10 +3,8 @@
 use Rattle.disk_trait.specs.declared.disk.Disk.{Ghosts}
 use Rattle.std.specs.Prelude.{◌≡◌, ℕ, true, List, Result, Ok, OnOk}
 use Rattle.disk_trait.specs.Files.{Files}
-use Rattle.lock_book.specs.Locks.{Locks}
 use Rattle.store_types.specs.declared.refusal.Refusal.{Refusal}
-use Rattle.store_types.specs.declared.refusal.Refusal.TheVariants.{Unreadable}
-use Rattle.store_types.specs.Chain.Refusing.{◌>>=◌, if_none}
+use Rattle.store_types.specs.Chain.Refusing.{◌>>=◌}
 use Rattle.wire_commands.specs.declared.command.Command.TheVariants.{OpenReader, Range}
 use Rattle.wire_commands.specs.declared.reply.Reply.{Reply}
 use Rattle.wire_commands.specs.declared.reply.Reply.TheVariants.{Data, Done}
@@ -14,47 +12,38 @@ use Rattle.store_history.specs.declared.act.Act.{Act}
 use Rattle.store_history.specs.declared.act.Act.TheVariants.{Plain, ReadFile, ReadChunk}
 use Rattle.store_history.specs.declared.act.Answer.{Answer}
 use Rattle.snapshot_files.specs.Parts.{part_at}
+use Rattle.core_state.specs.Kept.{KeptAt}
 use Rattle.core_state.specs.declared.entering.Place.{Place}
-use Rattle.core_state.specs.declared.kept.Kept.{Kept}
-use Rattle.core_state.specs.declared.kept.Listed.{Listed}
-use Rattle.core_state.specs.declared.kept.Session.{Session}
 use Rattle.core_state.specs.declared.parts.Parts.{Parts}
 use Rattle.core_state.specs.declared.state.Core.{Core}
 use Rattle.store_stops.specs.declared.stop.Stop.{Stop}
 use Rattle.core_state.specs.FromState.{ActTells, FromState, CoreTells}
 use Rattle.core_state.specs.Closing.{is_reader}
 use Rattle.core_state.specs.Wanted.{session_at}
-use Rattle.core_reader.specs.Asked.{index_of, place_of, to_read}
-use Rattle.core_state.specs.declared.indexes.Indexes.{Indexes}
-use Rattle.core_state.specs.Indexed.{row_at}
+use Rattle.core_reader.specs.Asked.{index_of, place_of, to_open}
 use Rattle.core_reader.specs.Chunks.{bytes_at}
 use Rattle.core_reader.specs.Entries.{entry_by}
 use Rattle.core_reader.specs.Ranges.{range_told}
-use Rattle.core_reader.specs.ReaderActs.{CoreOpens}
-
--- where no file is known to make it damaged
-abbrev pub opens_whole : Kept → Result Reply Refusal
-opens_whole k = if_none Unreadable k.unreadable >>= λ _. Ok Done
 
 -- the snapshot is to be read and whole, or the refusal
-abbrev pub reader_told : List ℕ → ℕ → Session → List Listed → Locks → Result Reply Refusal
-reader_told text lane session catalogue locks = to_read text session catalogue >>= opens_whole
+abbrev pub reader_told : List ℕ → KeptAt → Result Reply Refusal
+reader_told text k = to_open text k >>= λ key. Ok Done
 
 -- a part of a file of the lane's snapshot, as it stands there, or the refusal
-abbrev pub part_told : List ℕ → ℕ → Files → ℕ → Session → List Listed → Locks → Result Reply Refusal
-part_told name offset files lane session catalogue locks = place_of name session catalogue >>= λ path. part_at files path offset
+abbrev pub part_told : List ℕ → ℕ → Files → KeptAt → Result Reply Refusal
+part_told name offset files k = place_of name k >>= λ path. part_at files path offset
 
--- the bytes of the chunk at an entry of one of its indexes, beside what the lane keeps of indexes, as they stand there, or the refusal
-abbrev pub chunk_told : Indexes → List ℕ → ℕ → Files → ℕ → Session → List Listed → Locks → Result Reply Refusal
-chunk_told row name place files lane session catalogue locks = do
-  path ← index_of name session catalogue
-  digest ← entry_by row name place files path
+-- the bytes of the chunk at an entry of one of its indexes, as they stand there, or the refusal
+abbrev pub chunk_told : List ℕ → ℕ → Files → KeptAt → Result Reply Refusal
+chunk_told name place files k = do
+  path ← index_of name k
+  digest ← entry_by k.row name place files path
   bytes ← bytes_at files digest
   Ok (Data bytes)
 
--- the bytes of a range, beside what the lane keeps of indexes, by its index as it was opened and by what stands there, or the refusal
-abbrev pub bytes_told : Indexes → List ℕ → ℕ → ℕ → Files → ℕ → Session → List Listed → Locks → Result Reply Refusal
-bytes_told row file offset len files lane session catalogue locks = range_told row file offset len files session catalogue >>= λ bytes. Ok (Data bytes)
+-- the bytes of a range, by its index as it was opened and by what stands there, or the refusal
+abbrev pub bytes_told : List ℕ → ℕ → ℕ → Files → KeptAt → Result Reply Refusal
+bytes_told file offset len files k = range_told file offset len files k >>= λ bytes. Ok (Data bytes)
 
 -- an OPEN_READER that is done is answered by what the core keeps, on any disk, and the lane then has a reader
 pub record ActOpens {D : Type 0} (snapshot : List ℕ) (old new : Parts D) (at : Place) (result : Result Reply Stop) : Type 0 where
@@ -64,26 +53,3 @@ pub record ActOpens {D : Type 0} (snapshot : List ℕ) (old new : Parts D) (at :
 -- a read is answered by what stands on an honest disk, whatever it holds
 abbrev pub ActReads : {D : Type 0} → Ghosts D → (Files → FromState) → Parts D → Place → Result Reply Stop → Type 0
 ActReads d wanted old at result = d.honest old.disk → ActTells (wanted (d.content old.disk)) old at result
-
--- so are these of the acts of readers
-abbrev pub ActAnswersBy : {D : Type 0} → Ghosts D → Parts D → Parts D → Place → Act → Result Reply Stop → Type 0
-ActAnswersBy d old new at (Plain (OpenReader snapshot)) result = ActOpens snapshot old new at result
-ActAnswersBy d old new at (Plain (Range file offset len)) result = ActReads d (bytes_told (row_at old at.lane) file offset len) old at result
-ActAnswersBy d old new at (ReadFile name offset) result = ActReads d (part_told name offset) old at result
-ActAnswersBy d old new at (ReadChunk name entry) result = ActReads d (chunk_told (row_at old at.lane) name entry) old at result
-ActAnswersBy d old new at act result = Unit {0}
-
--- and the core's answers
-pub record CoreOpensBy {D E C : Type 0} (snapshot : List ℕ) (old new : Core D E C) (lane : ℕ) (answer : Answer) : Type 0 where
-  pub answers : CoreTells (reader_told snapshot) old lane answer
-  pub opened : CoreOpens new lane (Plain (OpenReader snapshot)) answer
-
-abbrev pub CoreReads : {D E C : Type 0} → Ghosts D → (Files → FromState) → Core D E C → ℕ → Answer → Type 0
-CoreReads d wanted old lane answer = d.honest (old.parts).disk → CoreTells (wanted (d.content (old.parts).disk)) old lane answer
-
-abbrev pub CoreAnswersBy : {D E C : Type 0} → Ghosts D → Core D E C → Core D E C → ℕ → Act → Answer → Type 0
-CoreAnswersBy d old new lane (Plain (OpenReader snapshot)) answer = CoreOpensBy snapshot old new lane answer
-CoreAnswersBy d old new lane (Plain (Range file offset len)) answer = CoreReads d (bytes_told (row_at old.parts lane) file offset len) old lane answer
-CoreAnswersBy d old new lane (ReadFile name offset) answer = CoreReads d (part_told name offset) old lane answer
-CoreAnswersBy d old new lane (ReadChunk name entry) answer = CoreReads d (chunk_told (row_at old.parts lane) name entry) old lane answer
-CoreAnswersBy d old new lane act answer = Unit {0}

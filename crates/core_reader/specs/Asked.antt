@@ -3,8 +3,9 @@ use Rattle.std.specs.Prelude.{◌≡◌, ℕ, ◌+◌, List, Option, None, Some,
 use Rattle.std.specs.declared.alloc.Global.{Global}
 use Rattle.std.specs.Result.{result_ok}
 use Rattle.store_types.specs.declared.refusal.Refusal.{Refusal}
-use Rattle.store_types.specs.declared.refusal.Refusal.TheVariants.{BadName, NoFile}
-use Rattle.store_types.specs.Chain.Refusing.{◌>>=◌, unless, or_else}
+use Rattle.store_types.specs.declared.names.SnapshotKey.{SnapshotKey}
+use Rattle.store_types.specs.declared.refusal.Refusal.TheVariants.{BadName, NoFile, NoSnapshot, Unreadable}
+use Rattle.store_types.specs.Chain.Refusing.{◌>>=◌, if_none, or_else, unless}
 use Rattle.store_types.specs.FileNames.{is_file_name, is_index_name}
 use Rattle.wire_commands.specs.declared.command.Command.TheVariants.{Download, OpenReader, Range}
 use Rattle.wire_commands.specs.declared.reply.Reply.TheVariants.{Data}
@@ -25,18 +26,19 @@ use Rattle.restore_reader.specs.Kept.{IsTable}
 use Rattle.restore_reader.specs.Session.{Reading}
 use Rattle.restore_reader.specs.Shown.{IsOf}
 use Rattle.restore_reader.specs.Steps as steps
+use Rattle.core_state.specs.Kept.{KeptAt, kept_at}
 use Rattle.core_state.specs.declared.kept.Kept.{Kept}
-use Rattle.core_state.specs.declared.kept.Listed.{Listed}
 use Rattle.core_state.specs.declared.kept.Session.{Session}
 use Rattle.core_state.specs.declared.kept.Session.TheVariants.{Idle, Writer, Reader}
 use Rattle.core_state.specs.declared.parts.Parts.{Parts}
 use Rattle.store_stops.specs.declared.stop.Stop.{Stop}
 use Rattle.store_stops.specs.declared.stop.Stop.TheVariants as stops
-use Rattle.core_state.specs.Found.{named_kept, path_in}
+use Rattle.core_state.specs.Found.{kept_named, path_in}
+use Rattle.core_state.specs.Heads.{idle_key}
 use Rattle.core_state.specs.Shown.{files_named, shown_session}
 use Rattle.store_stops.specs.Stops.{Gives}
 use Rattle.core_state.specs.Unreadables.{Asked, at_entry, from_offset, known, read_with}
-use Rattle.core_state.specs.Wanted.{reader_in, session_at, want_idle}
+use Rattle.core_state.specs.Wanted.{reader_in}
 use Rattle.core_reader.specs.declared.downloading.AskedFile.{AskedFile}
 use Rattle.core_reader.specs.declared.downloading.Given.{Given}
 use Rattle.core_state.specs.declared.indexes.Indexes.{Indexes}
@@ -46,8 +48,18 @@ use Rattle.core_reader.specs.Ranges.{RangeAsked, range_asked, range_with}
 -- ---- the snapshot
 
 -- the snapshot that is to be read, or the refusal
-abbrev pub to_read : List ℕ → Session → List Listed → Result Kept Refusal
-to_read text session catalogue = want_idle session >>= λ _. named_kept text catalogue
+abbrev pub to_read : List ℕ → KeptAt → Result Kept Refusal
+to_read text k = do
+  key ← idle_key text k
+  or_else NoSnapshot (kept_named key k.catalogue)
+
+-- its key, where it is whole: no file is known to make it damaged
+unfoldable pub to_open : List ℕ → KeptAt → Result SnapshotKey Refusal
+to_open text k = do
+  key ← idle_key text k
+  x ← or_else NoSnapshot (kept_named key k.catalogue)
+  _ ← if_none Unreadable x.unreadable
+  Ok key
 
 -- the file that makes it damaged
 abbrev pub as_known : List ℕ → Asked
@@ -58,8 +70,8 @@ damage_of (Ok k) = option_map as_known k.unreadable
 damage_of (Err refusal) = None
 
 -- an OPEN_READER asks for it
-abbrev pub asked_open : List ℕ → Session → List Listed → Option Asked
-asked_open text session catalogue = damage_of (to_read text session catalogue)
+abbrev pub asked_open : List ℕ → KeptAt → Option Asked
+asked_open text k = damage_of (to_read text k)
 
 -- ---- files
 
@@ -71,49 +83,49 @@ abbrev pub asked_at : Reading → List ℕ → ℕ → List ℕ → Asked
 asked_at r file offset path = record { path = path; way = from_offset (whole_for r file) offset }
 
 -- a file of the snapshot of the lane's reader, or the refusal before it is read
-unfoldable pub file_asked : List ℕ → ℕ → Session → List Listed → Result Asked Refusal
-file_asked file offset session catalogue = do
-  r ← reader_in session
+unfoldable pub file_asked : List ℕ → ℕ → KeptAt → Result Asked Refusal
+file_asked file offset k = do
+  r ← reader_in k.session
   _ ← unless BadName (is_file_name file)
-  path ← or_else NoFile (path_in r.key file catalogue)
+  path ← or_else NoFile (path_in r.key file k.catalogue)
   Ok (asked_at r file offset path)
 
 -- the file that a DOWNLOAD asks for
-abbrev pub asked_download : List ℕ → ℕ → Session → List Listed → Option Asked
-asked_download file offset session catalogue = result_ok (file_asked file offset session catalogue)
+abbrev pub asked_download : List ℕ → ℕ → KeptAt → Option Asked
+asked_download file offset k = result_ok (file_asked file offset k)
 
 -- ---- a VERIFY's own reads
 
 -- the file of the snapshot of the lane's reader that has this name, where it stands, or the refusal before it is read
-unfoldable pub place_of : List ℕ → Session → List Listed → Result (List ℕ) Refusal
-place_of name session catalogue = do
-  r ← reader_in session
-  or_else NoFile (path_in r.key name catalogue)
+unfoldable pub place_of : List ℕ → KeptAt → Result (List ℕ) Refusal
+place_of name k = do
+  r ← reader_in k.session
+  or_else NoFile (path_in r.key name k.catalogue)
 
 -- it is told where, or the refusal
 abbrev pub GivesPlace : {D : Type 0} → Parts D → ℕ → List ℕ → Result (String Global) Stop → Type 0
-GivesPlace parts lane name result = Gives (λ (path : String Global). string_bytes path) result (place_of name (session_at parts lane) parts.catalogue.listed)
+GivesPlace parts lane name result = Gives (λ (path : String Global). string_bytes path) result (place_of name (kept_at parts lane))
 
 -- a part of it, whatever it is
 abbrev pub as_part : ℕ → List ℕ → Asked
 as_part offset path = record { path = path; way = from_offset None offset }
 
-abbrev pub asked_part : List ℕ → ℕ → Session → List Listed → Option Asked
-asked_part name offset session catalogue = option_map (as_part offset) (result_ok (place_of name session catalogue))
+abbrev pub asked_part : List ℕ → ℕ → KeptAt → Option Asked
+asked_part name offset k = option_map (as_part offset) (result_ok (place_of name k))
 
 -- an index of the snapshot of the lane's reader that has this name, where it stands, or the refusal before it is read
-unfoldable pub index_of : List ℕ → Session → List Listed → Result (List ℕ) Refusal
-index_of name session catalogue = do
-  r ← reader_in session
+unfoldable pub index_of : List ℕ → KeptAt → Result (List ℕ) Refusal
+index_of name k = do
+  r ← reader_in k.session
   _ ← unless NoFile (is_index_name name)
-  or_else NoFile (path_in r.key name catalogue)
+  or_else NoFile (path_in r.key name k.catalogue)
 
 -- an entry of it, beside what the lane keeps of indexes
 abbrev pub as_entry : Indexes → List ℕ → ℕ → List ℕ → Asked
 as_entry row name place path = record { path = path; way = at_entry (entry_by row name place) }
 
-abbrev pub asked_entry : Indexes → List ℕ → ℕ → Session → List Listed → Option Asked
-asked_entry row name place session catalogue = option_map (as_entry row name place) (result_ok (index_of name session catalogue))
+abbrev pub asked_entry : List ℕ → ℕ → KeptAt → Option Asked
+asked_entry name place k = option_map (as_entry k.row name place) (result_ok (index_of name k))
 
 -- ---- a range
 
@@ -121,19 +133,19 @@ asked_entry row name place session catalogue = option_map (as_entry row name pla
 abbrev pub as_range : ℕ → ℕ → RangeAsked → Asked
 as_range from to q = record { path = (q.index).path; way = read_with (λ m path. range_with m q from to >>= λ bytes. Ok (Data bytes)) }
 
-abbrev pub asked_range : Indexes → List ℕ → ℕ → ℕ → Session → List Listed → Option Asked
-asked_range row file offset len session catalogue = option_map (as_range offset (offset + len)) (result_ok (range_asked row file offset len session catalogue))
+abbrev pub asked_range : List ℕ → ℕ → ℕ → KeptAt → Option Asked
+asked_range file offset len k = option_map (as_range offset (offset + len)) (result_ok (range_asked file offset len k))
 
 -- ---- by the act
 
--- the file that an act asks for, beside what the lane keeps of indexes
-abbrev pub asked_file : Indexes → Act → Session → List Listed → Option Asked
-asked_file row (Plain (OpenReader snapshot)) session catalogue = asked_open snapshot session catalogue
-asked_file row (Plain (Download file offset)) session catalogue = asked_download file offset session catalogue
-asked_file row (Plain (Range file offset len)) session catalogue = asked_range row file offset len session catalogue
-asked_file row (ReadFile name offset) session catalogue = asked_part name offset session catalogue
-asked_file row (ReadChunk name entry) session catalogue = asked_entry row name entry session catalogue
-asked_file row act session catalogue = None
+-- the file that an act asks for
+abbrev pub asked_file : Act → KeptAt → Option Asked
+asked_file (Plain (OpenReader snapshot)) k = asked_open snapshot k
+asked_file (Plain (Download file offset)) k = asked_download file offset k
+asked_file (Plain (Range file offset len)) k = asked_range file offset len k
+asked_file (ReadFile name offset) k = asked_part name offset k
+asked_file (ReadChunk name entry) k = asked_entry name entry k
+asked_file act k = None
 
 -- a file that was found, read as a part from an offset
 abbrev pub asked_from : ℕ → AskedFile → Asked
@@ -142,7 +154,7 @@ asked_from offset a = record { path = string_bytes a.path; way = from_offset a.w
 -- it is found, or the refusal is told, whatever the offset
 abbrev pub GivesFile : {D : Type 0} → Parts D → ℕ → List ℕ → Result AskedFile Stop → Type 0
 GivesFile parts lane file result =
-    (offset : ℕ) → Gives (asked_from offset) result (file_asked file offset (session_at parts lane) parts.catalogue.listed)
+    (offset : ℕ) → Gives (asked_from offset) result (file_asked file offset (kept_at parts lane))
 
 -- ---- an index that is read whole
 

@@ -8,8 +8,6 @@ use Rattle.store_types.specs.declared.names.Digest32.{Digest32}
 use Rattle.store_types.specs.declared.refusal.ChunkFault.{ChunkFault}
 use Rattle.store_types.specs.declared.refusal.ChunkFault.TheVariants.{Nothing, NotABlob}
 use Rattle.store_files.specs.Folder.{chunk_name}
-use Rattle.core_state.specs.declared.indexes.Indexes.{Indexes}
-use Rattle.core_state.specs.Indexed.{row_at}
 use Rattle.store_types.specs.declared.refusal.Refusal.{Refusal}
 use Rattle.store_types.specs.declared.refusal.Refusal.TheVariants.{Damaged}
 use Rattle.store_types.specs.declared.order.TheConstants.{COMMAND_KIND}
@@ -22,7 +20,8 @@ use Rattle.store_history.specs.declared.act.Act.TheVariants.{Plain, ReadChunk}
 use Rattle.store_history.specs.declared.act.Answer.{Answer}
 use Rattle.restore_reader.specs.Steps.{is_allowed}
 use Rattle.chunk_store.specs.Pieces.{found_at}
-use Rattle.core_state.specs.declared.kept.Listed.{Listed}
+use Rattle.core_state.specs.Damages.{TellsDamaged}
+use Rattle.core_state.specs.Kept.{KeptAt, kept_at}
 use Rattle.core_state.specs.declared.kept.Session.{Session}
 use Rattle.core_state.specs.declared.kept.Session.TheVariants.{Reader}
 use Rattle.core_state.specs.declared.entering.Place.{Place}
@@ -32,7 +31,6 @@ use Rattle.store_stops.specs.declared.stop.Stop.{Stop}
 use Rattle.core_state.specs.Settles.{kind_by, reply_by}
 use Rattle.core_state.specs.Stops.{told}
 use Rattle.core_state.specs.Unreadables.{Asked, Way, at_entry}
-use Rattle.core_state.specs.Wanted.{session_at}
 use Rattle.core_reader.specs.Asked.{asked_entry}
 use Rattle.core_reader.specs.Ranges.{AskedNeeds, RangeAsked, range_asked, range_told}
 
@@ -73,12 +71,12 @@ abbrev pub first_damage : Files → List Digest32 → Option (Digest32 × ChunkF
 first_damage files [] = None
 first_damage files (d ∷ ds) = elim (found_at files d.0) [ Ok piece ↦ first_damage files ds | Err found ↦ Some (d, found) ]
 
--- what an act's chunks are found to be, beside what the lane keeps of indexes
-abbrev pub damage_by : Indexes → Act → Session → List Listed → Files → Option (Digest32 × ChunkFault)
-damage_by row (Plain (GetChunk digest)) session catalogue files = first_damage files (chunk_needed digest session)
-damage_by row (Plain (Range file offset len)) session catalogue files = damage_in (range_told row file offset len files session catalogue)
-damage_by row (ReadChunk name entry) session catalogue files = asked_damage files (asked_entry row name entry session catalogue)
-damage_by row act session catalogue files = None
+-- what an act's chunks are found to be
+abbrev pub damage_by : Act → KeptAt → Files → Option (Digest32 × ChunkFault)
+damage_by (Plain (GetChunk digest)) k files = first_damage files (chunk_needed digest k.session)
+damage_by (Plain (Range file offset len)) k files = damage_in (range_told file offset len files k)
+damage_by (ReadChunk name entry) k files = asked_damage files (asked_entry name entry k)
+damage_by act k files = None
 
 -- of a range that is read
 abbrev pub MayNeed : Result RangeAsked Refusal → ℕ → ℕ → Digest32 → Type 0
@@ -87,26 +85,13 @@ MayNeed (Err refusal) from to digest = ⊥
 
 -- A chunk that an act may tell of: on any disk one that it needs, a RANGE by the page at hand or by a page's bytes with the SHA-256 that
 -- was kept. A VERIFY's read learns which one from the disk.
-abbrev pub MayName : Indexes → Act → Session → List Listed → Digest32 → Type 0
-MayName row (Plain (GetChunk needed)) session catalogue digest = Contains (chunk_needed needed session) digest
-MayName row (Plain (Range file offset len)) session catalogue digest = MayNeed (range_asked row file offset len session catalogue) offset (offset + len) digest
-MayName row (ReadChunk name entry) session catalogue digest = Unit {0}
-MayName row act session catalogue digest = ⊥
+abbrev pub MayName : Act → KeptAt → Digest32 → Type 0
+MayName (Plain (GetChunk needed)) k digest = Contains (chunk_needed needed k.session) digest
+MayName (Plain (Range file offset len)) k digest = MayNeed (range_asked file offset len k) offset (offset + len) digest
+MayName (ReadChunk name entry) k digest = Unit {0}
+MayName act k digest = ⊥
 
--- A chunk that the answer needs is told to be damaged. On an honest disk, whatever it holds, that is so exactly where one is, or, in a
--- range, has another length than the index says, before a page is unreadable, of the first such, with what is found there: want of memory
--- and faults of the disk, which have kinds of their own, apart.
-pub record TellsDamaged {D : Type 0} (d : Ghosts D) (disk : D) (may_name : Digest32 → Type 0) (damage : Files → Option (Digest32 × ChunkFault)) (kind : ℕ) (reply : Option Reply) : Type 0 where
-  pub named : (digest : Digest32) (found : ChunkFault) → reply ≡ Some (Refused (Damaged digest found)) → may_name digest
-  pub cause : (digest : Digest32) (found : ChunkFault) → reply ≡ Some (Refused (Damaged digest found)) → d.honest disk → damage (d.content disk) ≡ Some (digest, found)
-  pub damaged : (digest : Digest32) (found : ChunkFault) → kind ≡ COMMAND_KIND → d.honest disk → damage (d.content disk) ≡ Some (digest, found) → reply ≡ Some (Refused (Damaged digest found))
-
--- the same of an act, by how its command ended
+-- a chunk that it needs is told to be damaged so, by how its command ended
 abbrev pub ActDamaged : {D : Type 0} → Ghosts D → Parts D → Place → Act → Result Reply Stop → Type 0
 ActDamaged d old at act result =
-    TellsDamaged d old.disk (MayName (row_at old at.lane) act (session_at old at.lane) old.catalogue.listed) (damage_by (row_at old at.lane) act (session_at old at.lane) old.catalogue.listed) (kind_by (told result)) (Some (reply_by (told result)))
-
--- and by the core's answer
-abbrev pub CoreDamaged : {D E C : Type 0} → Ghosts D → Core D E C → ℕ → Act → Answer → Type 0
-CoreDamaged d old lane act answer =
-    TellsDamaged d (old.parts).disk (MayName (row_at old.parts lane) act (session_at old.parts lane) (old.parts).catalogue.listed) (damage_by (row_at old.parts lane) act (session_at old.parts lane) (old.parts).catalogue.listed) (answer.entry).kind answer.reply
+    TellsDamaged d old.disk (MayName act (kept_at old at.lane)) (damage_by act (kept_at old at.lane)) (kind_by (told result)) (Some (reply_by (told result)))

@@ -7,7 +7,6 @@ pub mod Asked
 pub mod NotesEntry
 pub mod NotesRange
 pub mod NotesIndex
-pub mod Notes
-pub mod Unread
 pub mod AnsweredBy
 pub mod Damages
+pub mod ReaderWords

@@ -5,10 +5,10 @@ use Rattle.store_types.specs.declared.refusal.Refusal.TheVariants.{Damaged}
 use Rattle.wire_commands.specs.declared.reply.Reply.{Reply}
 use Rattle.store_stops.specs.declared.stop.Stop.{Stop}
 use Rattle.store_stops.specs.declared.stop.Stop.TheVariants.{Refused}
+use Rattle.core_state.specs.Kept.{kept_at}
 use Rattle.core_state.specs.declared.indexes.Indexes.{Indexes}
 use Rattle.core_state.specs.declared.parts.Parts.{Parts}
 use Rattle.core_state.specs.Indexed.{row_at}
-use Rattle.core_state.specs.Wanted.{session_at}
 use Rattle.core_reader.specs.declared.entries.Turn.{Turn}
 use Rattle.core_reader.specs.Asked.{index_of}
 use Rattle.core_reader.specs.Entries.{IsTurn, ReadsTurn, turned}
@@ -32,4 +32,4 @@ pub record Turns {D : Type 0} (d : Ghosts D) (disk : D) (path name : List ℕ) (
 -- Where its chunk was found the lane keeps the index and the page; after any other refusal, what it kept before.
 pub record NotesEntry {D : Type 0} (d : Ghosts D) (old new : Parts D) (lane : ℕ) (name : List ℕ) (place : ℕ) (result : Result Reply Stop) : Type 0 where
   pub stays : is_found result ≡ false → row_at new lane ≡ row_at old lane
-  pub turns : is_found result ≡ true → (path : List ℕ) × (index_of name (session_at old lane) old.catalogue.listed ≡ Ok path) × Turns d old.disk path name place (row_at old lane) (row_at new lane)
+  pub turns : is_found result ≡ true → (path : List ℕ) × (index_of name (kept_at old lane) ≡ Ok path) × Turns d old.disk path name place (row_at old lane) (row_at new lane)

@@ -7,6 +7,7 @@ use Rattle.paged_indexes.specs.declared.kinds.IndexKind.{IndexKind}
 use Rattle.restore_reader.specs.declared.index.Table.{Table}
 use Rattle.wire_commands.specs.declared.reply.Reply.{Reply}
 use Rattle.store_stops.specs.declared.stop.Stop.{Stop}
+use Rattle.core_state.specs.Kept.{kept_at}
 use Rattle.core_state.specs.declared.kept.Session.{Session}
 use Rattle.core_state.specs.declared.parts.Parts.{Parts}
 use Rattle.core_state.specs.Unreadables.{Asked, from_offset}
@@ -29,8 +30,8 @@ NotesSome file old new = (table : Table) × (pages : IndexPages) × (new ≡ not
 -- Once it is done, a file of which a part was read leaves the session as it was, and an index that was read whole is noted: of an honest
 -- disk's, what was read.
 pub record NotesIndex {D : Type 0} (d : Ghosts D) (old new : Parts D) (lane : ℕ) (file : List ℕ) (offset : ℕ) (result : Result Reply Stop) : Type 0 where
-  pub part : IfOk result (λ reply. (path : List ℕ) → file_asked file offset (session_at old lane) old.catalogue.listed ≡ Ok (part_of path None offset) → session_at new lane ≡ session_at old lane)
-  pub index : IfOk result (λ reply. (path : List ℕ) (of_kind : IndexKind) → file_asked file offset (session_at old lane) old.catalogue.listed ≡ Ok (part_of path (Some of_kind) offset) → d.honest old.disk
+  pub part : IfOk result (λ reply. (path : List ℕ) → file_asked file offset (kept_at old lane) ≡ Ok (part_of path None offset) → session_at new lane ≡ session_at old lane)
+  pub index : IfOk result (λ reply. (path : List ℕ) (of_kind : IndexKind) → file_asked file offset (kept_at old lane) ≡ Ok (part_of path (Some of_kind) offset) → d.honest old.disk
       → NotesGiven (d.content old.disk) path of_kind offset file (session_at old lane) (session_at new lane))
-  pub some : IfOk result (λ reply. (path : List ℕ) (of_kind : IndexKind) → file_asked file offset (session_at old lane) old.catalogue.listed ≡ Ok (part_of path (Some of_kind) offset)
+  pub some : IfOk result (λ reply. (path : List ℕ) (of_kind : IndexKind) → file_asked file offset (kept_at old lane) ≡ Ok (part_of path (Some of_kind) offset)
       → NotesSome file (session_at old lane) (session_at new lane))

@@ -2,11 +2,11 @@
 use Rattle.std.specs.Prelude.{◌≡◌, ℕ, ◌+◌, List, Option, Result, Ok, IfErr, IfOk}
 use Rattle.disk_trait.specs.declared.disk.Disk.{Ghosts}
 use Rattle.store_stops.specs.declared.stop.Stop.{Stop}
+use Rattle.core_state.specs.Kept.{kept_at}
 use Rattle.core_state.specs.declared.indexes.Indexes.{Indexes}
 use Rattle.core_state.specs.declared.pages.ReadPage.{ReadPage}
 use Rattle.core_state.specs.declared.parts.Parts.{Parts}
 use Rattle.core_state.specs.Indexed.{ranged_to, row_at}
-use Rattle.core_state.specs.Wanted.{session_at}
 use Rattle.core_reader.specs.Ranges.{LastRead, RangeAsked, range_asked}
 
 -- the page that was read last, where one was; beside indexes that are open none
@@ -17,7 +17,7 @@ pub record KeepsLast {D : Type 0} (d : Ghosts D) (disk : D) (q : RangeAsked) (fi
 
 abbrev pub Keeps : {D : Type 0} → Ghosts D → Parts D → Parts D → ℕ → List ℕ → ℕ → ℕ → Type 0
 Keeps d old new lane file offset len =
-    (q : RangeAsked) × (range_asked (row_at old lane) file offset len (session_at old lane) old.catalogue.listed ≡ Ok q)
+    (q : RangeAsked) × (range_asked file offset len (kept_at old lane) ≡ Ok q)
     × KeepsLast d old.disk q file offset (offset + len) (row_at old lane) (row_at new lane)
 
 -- Once it is done the lane keeps the page that was read last; where it stopped, what it kept before.

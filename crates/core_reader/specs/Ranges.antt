@@ -20,14 +20,12 @@ use Rattle.snapshot_files.specs.Indexes.{page_entries}
 use Rattle.restore_reader.specs.declared.ranges.Part.{Part}
 use Rattle.restore_reader.specs.Plan.{ends_of, parts_in}
 use Rattle.restore_reader.specs.Steps as steps
-use Rattle.core_state.specs.declared.indexes.Indexes.{Indexes}
+use Rattle.core_state.specs.Kept.{KeptAt, kept_at}
 use Rattle.core_state.specs.declared.pages.ReadPage.{ReadPage}
-use Rattle.core_state.specs.declared.kept.Listed.{Listed}
-use Rattle.core_state.specs.declared.kept.Session.{Session}
 use Rattle.core_state.specs.Found.{path_in}
-use Rattle.core_state.specs.Indexed.{ranged_of, row_at}
+use Rattle.core_state.specs.Indexed.{ranged_of}
 use Rattle.core_state.specs.declared.parts.Parts.{Parts}
-use Rattle.core_state.specs.Wanted.{reader_in, session_at}
+use Rattle.core_state.specs.Wanted.{reader_in}
 use Rattle.store_stops.specs.declared.stop.Stop.{Stop}
 use Rattle.store_stops.specs.Stops.{Gives}
 use Rattle.core_reader.specs.declared.paging.RangeRead.{RangeRead}
@@ -38,11 +36,11 @@ use Rattle.core_reader.specs.Chunks.{HoldsParts, IsUnrefused, behind, digests_of
 -- ---- what is asked for
 
 -- where the index stands of which the lane's reader asks a range, or the refusal before that
-unfoldable pub range_place : List ℕ → Session → List Listed → Result (List ℕ) Refusal
-range_place file session catalogue = do
-  r ← reader_in session
+unfoldable pub range_place : List ℕ → KeptAt → Result (List ℕ) Refusal
+range_place file k = do
+  r ← reader_in k.session
   _ ← unless BadName (is_index_name file)
-  or_else NoFile (path_in r.key file catalogue)
+  or_else NoFile (path_in r.key file k.catalogue)
 
 -- an index that is read: where it stands, and what is kept of it
 pub record Ranged : Type 0 where
@@ -60,13 +58,13 @@ ranged path pages = record { path = path; pages = pages }
 abbrev pub asking : List ℕ → IndexPages → Option ReadPage → RangeAsked
 asking path pages page = record { index = ranged path pages; at_hand = page }
 
--- what a range asks for, beside what the lane keeps of indexes, or the refusal before a page is read
-unfoldable pub range_asked : Indexes → List ℕ → ℕ → ℕ → Session → List Listed → Result RangeAsked Refusal
-range_asked row file offset len session catalogue = do
-  path ← range_place file session catalogue
-  r ← reader_in session
+-- what a range asks for, or the refusal before a page is read
+unfoldable pub range_asked : List ℕ → ℕ → ℕ → KeptAt → Result RangeAsked Refusal
+range_asked file offset len k = do
+  path ← range_place file k
+  r ← reader_in k.session
   pages ← steps.range_plan r file offset len
-  Ok (asking path pages (ranged_of file row))
+  Ok (asking path pages (ranged_of file k.row))
 
 -- ---- what is read
 
@@ -104,9 +102,9 @@ rest_at m a from to front = behind front (range_at m a (from + length front) to)
 unfoldable pub range_with : Files → RangeAsked → ℕ → ℕ → Result (List ℕ) Refusal
 range_with m q from to = front_at m q.at_hand from to >>= rest_at m q.index from to
 
--- the bytes that a RANGE gives, beside what the lane keeps of indexes, or its refusal
-abbrev pub range_told : Indexes → List ℕ → ℕ → ℕ → Files → Session → List Listed → Result (List ℕ) Refusal
-range_told row file offset len m session catalogue = range_asked row file offset len session catalogue >>= λ q. range_with m q offset (offset + len)
+-- the bytes that a RANGE gives, or its refusal
+abbrev pub range_told : List ℕ → ℕ → ℕ → Files → KeptAt → Result (List ℕ) Refusal
+range_told file offset len m k = range_asked file offset len k >>= λ q. range_with m q offset (offset + len)
 
 -- ---- an index of pieces that stand there
 
@@ -237,7 +235,7 @@ pub record LastRead {D : Type 0} (d : Ghosts D) (disk : D) (q : RangeAsked) (fro
 
 -- where the index stands, or the refusal
 abbrev pub FindsIndex : {D : Type 0} → Parts D → ℕ → List ℕ → Result AskedIndex Stop → Type 0
-FindsIndex parts lane file result = Gives (λ (a : AskedIndex). string_bytes a.path) result (range_place file (session_at parts lane) parts.catalogue.listed)
+FindsIndex parts lane file result = Gives (λ (a : AskedIndex). string_bytes a.path) result (range_place file (kept_at parts lane))
 
 -- of an honest disk: the entries of a page
 abbrev pub GivesEntries : {D : Type 0} → Ghosts D → D → List ℕ → IndexPages → ℕ → Result (Vec IndexEntry Global) Stop → Type 0
@@ -266,7 +264,7 @@ GivesAsked d disk q from to result = d.honest disk → Gives (λ (r : RangeRead)
 -- of the archive that is asked for
 abbrev pub GivesRange : {D : Type 0} → Ghosts D → Parts D → ℕ → List ℕ → ℕ → ℕ → Result (Vec ℕ Global) Stop → Type 0
 GivesRange d parts lane file offset len result =
-    d.honest parts.disk → Gives (λ (bytes : Vec ℕ Global). bytes.items) result (range_told (row_at parts lane) file offset len (d.content parts.disk) (session_at parts lane) parts.catalogue.listed)
+    d.honest parts.disk → Gives (λ (bytes : Vec ℕ Global). bytes.items) result (range_told file offset len (d.content parts.disk) (kept_at parts lane))
 
 -- what the range has of page i is no more than what both have
 pub record Grows (p : IndexPages) (i from to : ℕ) (old new : List ℕ) : Type 0 where
@@ -281,4 +279,4 @@ pub record FitsRange (len : ℕ) (bytes : Vec ℕ Global) : Type 0 where
 -- and nothing is refused where the index that is asked for stands there, and its pieces do
 abbrev pub ReadsRange : {D : Type 0} → Ghosts D → Parts D → ℕ → List ℕ → ℕ → ℕ → Result (Vec ℕ Global) Stop → Type 0
 ReadsRange d parts lane file offset len result =
-    (q : RangeAsked) → range_asked (row_at parts lane) file offset len (session_at parts lane) parts.catalogue.listed ≡ Ok q → ReadsAsked d parts.disk q result
+    (q : RangeAsked) → range_asked file offset len (kept_at parts lane) ≡ Ok q → ReadsAsked d parts.disk q result

@@ -1,4 +1,4 @@
--- What an OPEN_READER leaves, and the two of a RANGE.
+-- The two records of a RANGE.
 use Rattle.std.specs.Prelude.{◌≡◌, ℕ, true, List, Some, Result}
 use Rattle.disk_trait.specs.declared.disk.Disk.{Ghosts}
 use Rattle.wire_commands.specs.declared.command.Command.TheVariants.{OpenReader, Range}
@@ -14,15 +14,6 @@ use Rattle.core_state.specs.declared.parts.Parts.{Parts}
 use Rattle.core_state.specs.declared.state.Core.{Core}
 use Rattle.store_stops.specs.declared.stop.Stop.{Stop}
 use Rattle.core_state.specs.Commands.{PlainDoes, PlainLeaves}
-
--- ---- the session that an OPEN_READER leaves
-
--- once it is done the lane has a reader
-abbrev pub CoreOpens : {D E C : Type 0} → Core D E C → ℕ → Act → Answer → Type 0
-CoreOpens new lane (Plain (OpenReader snapshot)) answer = answer.reply ≡ Some Done → is_reader (session_at new.parts lane) ≡ true
-CoreOpens new lane act answer = Unit {0}
-
--- ---- the two of a RANGE
 
 abbrev pub RangeDoes : {D : Type 0} → Ghosts D → Parts D → Parts D → Place → List ℕ → ℕ → ℕ → Result Reply Stop → Type 0
 RangeDoes d old new at file offset len result = PlainDoes d old new at (Range file offset len) result

@@ -5,11 +5,8 @@ ghost use Rattle.store_history.specs.Acts.{family_of};
 ghost use Rattle.core_state.specs.Applies.{ActApplies, ActKeeps};
 ghost use Rattle.core_state.specs.Commands.{ActDoes, ActLeaves};
 ghost use Rattle.core_state.specs.Reserved.{HasRoom};
-ghost use Rattle.core_state.specs.Stops.{ended_by};
-ghost use Rattle.core_reader.specs.AnsweredBy.{ActAnswersBy, CoreAnswersBy};
-ghost use Rattle.core_reader.specs.Damages.{ActDamaged, CoreDamaged};
-ghost use Rattle.core_reader.specs.Notes.{Notes};
-ghost use Rattle.core_reader.specs.Unread.{ActTellsUnread, CoreTellsUnread};
+ghost use Rattle.core_state.specs.Tells.{ActTells, CoreTells};
+ghost use Rattle.core_reader.specs.ReaderWords.{reader_words};
 
 use crate::chunks::get_chunk;
 use crate::closing::close_reader;
@@ -24,15 +21,13 @@ use std::alloc::Global;
 use store_stops::Stop;
 use wire_commands::{Command, Reply};
 
+#[tactic(auto, using(core_state::proofs::Telling::calls_asked))]
 fn perform<D: Disk>(parts: &mut Parts<D>, alloc: Global, at: Place, act: Act) -> Result<Reply, Stop>
     requires lane { at.lane < 64 }
     requires kind { family_of act ≡ Family.Reads }
     ensures does { ActDoes D.Disk parts.old parts.new at act result }
     ensures leaves { ActLeaves D.Disk parts.old parts.new at act result }
-    ensures from_state { ActAnswersBy D.Disk parts.old parts.new at act result }
-    ensures unreadable { ActTellsUnread D.Disk parts.old at act result }
-    ensures damaged { ActDamaged D.Disk parts.old at act result }
-    ensures notes { Notes D.Disk parts.old parts.new at.lane act result }
+    ensures tells { ActTells (reader_words act) D.Disk parts.old parts.new at result }
 {
     match act {
         Act::Plain(Command::OpenReader { snapshot }) => {
@@ -68,13 +63,9 @@ pub fn reader_act<D: Disk, E, C: Clock>(
     requires kind { family_of act ≡ Family.Reads }
     ensures applies { ActApplies D.Disk C.Clock core.old core.new lane act result }
     ensures keeps { ActKeeps D.Disk core.old core.new lane act result }
-    // on any disk OPEN_READER answers what the core keeps, and once it is done the lane has a reader; RANGE and a
-    // VERIFY's reads answer, on an honest one, what stands there
-    ensures from_state { CoreAnswersBy D.Disk core.old core.new lane act result }
-    ensures unreadable { CoreTellsUnread D.Disk core.old lane act result }
-    ensures damaged { CoreDamaged D.Disk core.old lane act result }
-    // what the lane keeps of indexes then, and its session of one that was downloaded
-    ensures notes { Notes D.Disk core.old.parts core.new.parts lane act (ended_by result.reply) }
+    // on any disk OPEN_READER answers what the core keeps, and what GET_CHUNK gives has the digest that was asked for;
+    // RANGE and a VERIFY's reads answer, on an honest one, what stands there
+    ensures tells { CoreTells (reader_words act) D.Disk core.old core.new lane result }
 {
     match begin(core, alloc, lane, &act) {
         Admitted::Answered(answer) => {

@@ -1,10 +1,11 @@
 //! GET_CHUNK.
 
-ghost use Rattle.std.specs.Prelude.{◌<◌};
+ghost use Rattle.std.specs.Prelude.{◌<◌, IfOk};
 ghost use Rattle.wire_commands.specs.declared.command.Command.TheVariants.{GetChunk};
 ghost use Rattle.store_history.specs.declared.act.Act.TheVariants.{Plain};
 ghost use Rattle.core_state.specs.Commands.{PlainDoes, PlainLeaves};
 ghost use Rattle.core_reader.specs.Damages.{ActDamaged};
+ghost use Rattle.core_reader.specs.ReaderWords.{IsGiven};
 
 use crate::loading::read_chunk;
 use core_state::{Parts, Place};
@@ -27,6 +28,8 @@ pub fn get_chunk<D: Disk>(
     requires { at.lane < 64 }
     ensures does { PlainDoes D.Disk parts.old parts.new at (GetChunk digest.now) result }
     ensures leaves { PlainLeaves D.Disk parts.old parts.new at (GetChunk digest.now) result }
+    // on any disk, what is given is the blob of a piece with the digest
+    ensures given { IfOk result (IsGiven digest.now) }
     // it is damaged exactly where there is no piece with the digest, as far as the disk tells
     ensures damaged { ActDamaged D.Disk parts.old at (Plain (GetChunk digest.now)) result }
 {

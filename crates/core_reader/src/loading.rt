@@ -2,7 +2,9 @@
 
 ghost use Rattle.std.specs.Prelude.{◌≡◌, ◌+◌, ◌≤◌, OnOk, IfOk, IfErr, IsErrOf, length};
 ghost use Rattle.disk_trait.specs.Effects.{OnlyReads};
+ghost use Rattle.sha2.specs.Sha256.{sha256};
 ghost use Rattle.blob_codec.specs.Blob.{blob_limit};
+ghost use Rattle.store_files.specs.Folder.{IsPiece};
 ghost use Rattle.restore_reader.specs.Cutting.{cut, total_of};
 ghost use Rattle.store_stops.specs.declared.stop.Stop.TheVariants.{DiskFailed};
 ghost use Rattle.snapshot_files.specs.Reads.{StopHasText};
@@ -53,6 +55,7 @@ pub fn read_chunk<D: Disk>(disk: &mut D, alloc: Global, digest: &Digest32) -> Re
     // a piece that stands there is given
     ensures held { D.honest disk.old → GivesHeld (D.content disk.old) digest.now result }
     // on any disk
+    ensures checked { IfOk result (λ chunk. IsPiece chunk × (sha256 chunk ≡ digest.now.0)) }
     ensures size { IfOk result (λ chunk. length chunk ≤ 16_777_216) }
     ensures damage { IfErr result (StopsAt digest.now) }
 {

@@ -3,9 +3,10 @@
 ghost use Rattle.std.specs.Prelude.{◌<◌};
 ghost use Rattle.wire_commands.specs.declared.command.Command.TheVariants.{OpenReader};
 ghost use Rattle.core_state.specs.Commands.{PlainDoes, PlainLeaves};
+ghost use Rattle.core_state.specs.Decides.{Decides};
 ghost use Rattle.core_state.specs.Unreadables.{ActUnreadable};
 ghost use Rattle.core_reader.specs.AnsweredBy.{ActOpens};
-ghost use Rattle.core_reader.specs.Asked.{asked_open};
+ghost use Rattle.core_reader.specs.Asked.{asked_open, to_open as key_to_open};
 
 use core_state::{Parts, Place, Session};
 use disk_trait::Disk;
@@ -14,6 +15,26 @@ use std::alloc::Global;
 use store_stops::Stop;
 use store_types::{Refusal, SnapshotKey};
 use wire_commands::Reply;
+
+/// What OPEN_READER tests: the key of the snapshot that the lane is to read.
+#[tactic(auto, unfolding(crate::specs::Asked::to_open), using(core_state::proofs::Texts::no_snapshot_has_text))]
+fn to_open<D>(
+    parts: &Parts<D>,
+    alloc: Global,
+    lane: u32,
+    snapshot: &[u8],
+) -> Result<SnapshotKey, Stop>
+    requires { lane < 64 }
+    ensures { Decides (λ key. key) (key_to_open snapshot.now) parts.now lane result }
+{
+    let key = parts.idle_key(alloc, lane, snapshot)?;
+    let kept = parts.catalogue.named(&key).ok_or(Refusal::NoSnapshot)?;
+    if let Some(name) = &kept.unreadable {
+        let name = name.clone()?;
+        return Err(Stop::Refused(Refusal::Unreadable { name }));
+    }
+    Ok(key)
+}
 
 /// The lane gets a reader of the snapshot, and holds the snapshot. It makes no disk call.
 ///
@@ -33,17 +54,7 @@ pub fn open_reader<D: Disk>(
     // it is told as damaged exactly where it is, on an honest disk
     ensures unreadable { ActUnreadable D.Disk (asked_open snapshot.now) parts.old at result }
 {
-    parts.idle(at.lane)?;
-    let Ok(key) = SnapshotKey::parse(alloc, snapshot)? else {
-        return Err(Stop::Refused(Refusal::BadName));
-    };
-    let Some(kept) = parts.catalogue.named(&key) else {
-        return Err(Stop::Refused(Refusal::NoSnapshot));
-    };
-    if let Some(name) = &kept.unreadable {
-        let name = name.clone()?;
-        return Err(Stop::Refused(Refusal::Unreadable { name }));
-    }
+    let key = to_open(parts, alloc, at.lane, snapshot)?;
     parts.locks.shared_take(at.lane, &key)?;
     parts.sessions[at.lane as usize] = Session::Reader(reader_of(alloc, key));
     Ok(Reply::Done)

@@ -8,11 +8,10 @@ ghost use Rattle.store_history.specs.declared.act.Act.TheVariants.{Plain};
 ghost use Rattle.store_stops.specs.Stops.{IfRefused};
 ghost use Rattle.store_stops.specs.declared.stop.Stop.TheVariants.{DiskFailed};
 ghost use Rattle.snapshot_files.specs.Reads.{StopHasText};
+ghost use Rattle.core_state.specs.Kept.{kept_at};
 ghost use Rattle.core_state.specs.Commands.{LeavesRows};
-ghost use Rattle.core_state.specs.Indexed.{row_at};
 ghost use Rattle.core_state.specs.Unchanged.{SamePlain, is_uncalled};
 ghost use Rattle.core_state.specs.Unreadables.{ActUnreadable};
-ghost use Rattle.core_state.specs.Wanted.{session_at};
 ghost use Rattle.core_reader.specs.AnsweredBy.{ActReads, bytes_told};
 ghost use Rattle.core_reader.specs.Asked.{asked_range};
 ghost use Rattle.core_reader.specs.Damages.{ActDamaged};
@@ -97,9 +96,7 @@ fn range_bytes<D: Disk>(
         lane (Plain (Range file.now offset length))) }
     ensures fits { IfOk result (FitsRange length) }
     ensures refusal { IfErr result (IfRefused (RangeRefuses
-        (asked_for (row_at parts.old lane) file.now
-        offset length (session_at parts.old lane) parts.old.catalogue.listed)
-        offset (offset + length))) }
+        (asked_for file.now offset length (kept_at parts.old lane)) offset (offset + length))) }
     ensures uncalled { IfErr result (IfRefused
         (λ refusal. is_uncalled refusal ≡ true → parts.new.disk ≡ parts.old.disk)) }
     ensures text { IfErr result StopHasText }
@@ -146,11 +143,9 @@ pub fn range<D: Disk>(
     ensures does { RangeDoes D.Disk parts.old parts.new at file.now offset length result }
     ensures leaves { RangeLeaves D.Disk parts.old parts.new at file.now offset length result }
     // on an honest disk, whatever it holds, it is the bytes by the index as it was opened, or the refusal
-    ensures by_disk { ActReads D.Disk (bytes_told (row_at parts.old at.lane) file.now offset length)
-        parts.old at result }
+    ensures by_disk { ActReads D.Disk (bytes_told file.now offset length) parts.old at result }
     // the index is unreadable exactly where a page that is read is not as it was opened
-    ensures unreadable { ActUnreadable D.Disk
-        (asked_range (row_at parts.old at.lane) file.now offset length) parts.old at result }
+    ensures unreadable { ActUnreadable D.Disk (asked_range file.now offset length) parts.old at result }
     // a chunk is damaged exactly where one of the range's has no piece with its digest and its length by the index
     ensures damaged { ActDamaged D.Disk parts.old at (Plain (Range file.now offset length)) result }
     // what the lane keeps of indexes then

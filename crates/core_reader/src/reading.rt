@@ -5,7 +5,6 @@ ghost use Rattle.store_types.specs.FileNames.{is_file_name};
 ghost use Rattle.store_history.specs.declared.act.Act.TheVariants.{ReadChunk, ReadFile};
 ghost use Rattle.core_state.specs.Calls.{ActCalls};
 ghost use Rattle.core_state.specs.Commands.{ActDoes, ActLeaves};
-ghost use Rattle.core_state.specs.Indexed.{row_at};
 ghost use Rattle.core_state.specs.Unreadables.{ActUnreadable};
 ghost use Rattle.store_stops.specs.declared.stop.Stop.TheVariants.{DiskFailed};
 ghost use Rattle.core_reader.specs.AnsweredBy.{ActReads, chunk_told, part_told};
@@ -106,11 +105,9 @@ pub fn read_chunk<D: Disk>(
     ensures does { ActDoes D.Disk parts.old parts.new at (ReadChunk name.now entry) result }
     ensures leaves { ActLeaves D.Disk parts.old parts.new at (ReadChunk name.now entry) result }
     // on an honest disk, whatever it holds, it is the bytes that stand there, or the refusal
-    ensures by_disk { ActReads D.Disk (chunk_told (row_at parts.old at.lane) name.now entry)
-        parts.old at result }
+    ensures by_disk { ActReads D.Disk (chunk_told name.now entry) parts.old at result }
     // it is unreadable exactly where the file is no index as it is opened, or a page is not as it was opened
-    ensures unreadable { ActUnreadable D.Disk
-        (asked_entry (row_at parts.old at.lane) name.now entry) parts.old at result }
+    ensures unreadable { ActUnreadable D.Disk (asked_entry name.now entry) parts.old at result }
     ensures damaged { ActDamaged D.Disk parts.old at (ReadChunk name.now entry) result }
     // what the lane keeps of indexes then
     ensures notes { NotesEntry D.Disk parts.old parts.new at.lane name.now entry result }

@@ -37,8 +37,8 @@ use Rattle.store_history.specs.declared.act.Act.{Act}
 use Rattle.store_history.specs.declared.act.Family.TheVariants.{Reaches}
 use Rattle.store_history.specs.Acts.{IsWellFormed, family_of}
 use Rattle.store_history.specs.Remote.{Reads, ReadsIn, part_told, piece_in, snapshot_in, text_in, text_named}
-use Rattle.core_state.specs.Remotes.{ShowsRemote}
-use Rattle.core_state.specs.Replies.{reply_told}
+use Rattle.store_history.specs.RemoteDisk.{ShowsRemote}
+use Rattle.store_history.specs.Replies.{reply_told}
 use Rattle.core_remote.specs.RemoteActs.{GivesFrom, GivesRemote, blob_told, texts_of}
 use Rattle.core_remote.proofs.RemoteLemmas.{by_read}
 

@@ -7,19 +7,18 @@ use Rattle.store_types.specs.declared.names.Digest32.{Digest32}
 use Rattle.store_types.specs.declared.names.FileName.{FileName}
 use Rattle.store_types.specs.declared.names.GroupKey.{GroupKey}
 use Rattle.store_types.specs.declared.refusal.Refusal.{Refusal}
-use Rattle.store_types.specs.declared.refusal.Refusal.TheVariants as refusals
-use Rattle.store_types.specs.declared.refusal.Refusal.TheVariants.{BadName, NoRemote}
-use Rattle.store_types.specs.declared.refusal.SessionState.TheVariants as states
+use Rattle.store_types.specs.declared.refusal.Refusal.TheVariants.{NoRemote}
 use Rattle.store_files.specs.Archive.{Snapshot}
 use Rattle.wire_commands.specs.declared.command.Command.{Command}
 use Rattle.wire_commands.specs.declared.command.Command.TheVariants.{Sync}
 use Rattle.wire_commands.specs.declared.reply.Reply.{Reply}
 use Rattle.wire_commands.specs.declared.reply.Reply.TheVariants as replies
 use Rattle.wire_commands.specs.HasText.{ReplyHasText}
-use Rattle.store_model.specs.Store as model
+use Rattle.store_model.specs.Heads as model
 use Rattle.store_model.specs.Jobs.{IsSync}
 use Rattle.store_model.specs.Stands.{group_limit}
-use Rattle.store_model.specs.Store.{Store, session, in_group, keys_in}
+use Rattle.store_model.specs.Store.{Store, in_group, keys_in}
+use Rattle.store_model.proofs.Done.{passed}
 use Rattle.store_model.specs.SyncJob.{is_later, to_pull}
 use Rattle.store_history.specs.declared.act.Act.{Act}
 use Rattle.store_history.specs.declared.act.Act.TheVariants.{RemoteChunk, RemoteFile, RemoteList}
@@ -27,16 +26,14 @@ use Rattle.store_history.specs.declared.act.Family.TheVariants.{Reaches}
 use Rattle.store_history.specs.Acts.{IsWellFormed, family_of}
 use Rattle.store_history.specs.Remote as rules
 use Rattle.store_history.proofs.Families.{by_remote}
-use Rattle.core_state.specs.declared.kept.Session.{Session}
-use Rattle.core_state.specs.declared.kept.Session.TheVariants.{Idle, Reader, Writer}
 use Rattle.core_state.specs.declared.parts.Parts.{Parts}
 use Rattle.store_stops.specs.declared.stop.Stop.{Stop}
 use Rattle.store_stops.specs.declared.stop.Stop.TheVariants as stops
+use Rattle.core_state.specs.Heads.{idle_group}
 use Rattle.core_state.specs.Holds.{Shows}
-use Rattle.core_state.specs.Replies.{may_answer, may_give, refuses_sync}
-use Rattle.core_state.specs.Shown.{shown_session}
-use Rattle.core_state.specs.Wanted.{session_at, want_idle}
-use Rattle.core_state.proofs.Commanding.{session_shown}
+use Rattle.core_state.specs.Kept.{KeptAt, kept_at}
+use Rattle.store_history.specs.Replies.{may_answer, may_give, refuses_sync}
+use Rattle.core_state.proofs.HeadLemmas.{idle_group_is, idle_group_named, idle_group_refuses, refuses_then, refuses_unless}
 use Rattle.core_state.proofs.RemoteReads.{GivesFit}
 use Rattle.snapshot_files.specs.Reads.{StopHasText}
 use Rattle.core_remote.specs.RemoteActs.{EndsBy, HasName, read_told}
@@ -55,20 +52,13 @@ done = Ok tt
 
 -- ---- the same tests
 
-idle_same : (snapshots : List Snapshot) (x : model.Session) → want_idle (shown_session snapshots x) ≡ model.want_idle x
-idle_same snapshots model.none = refl
-idle_same snapshots (model.writer w) = refl
-idle_same snapshots (model.reader r) = refl
-
 module _ (from : GroupKey → List Snapshot → List Snapshot) where
   -- in the same order
-  pulled_same : (idle : Result (Unit {0}) Refusal) (group : Option GroupKey) (R : Option (List Snapshot))
-      → ((idle >>= λ _. or_else BadName group >>= λ g. or_else NoRemote R >>= λ snapshots. Ok (from g snapshots)) >>= λ _. done)
-      ≡ ((idle >>= λ _. or_else BadName group >>= λ _. done) >>= λ _. unless NoRemote (is_some R))
-  pulled_same (Err e) group R = refl
-  pulled_same (Ok u) None R = refl
-  pulled_same (Ok u) (Some g) None = refl
-  pulled_same (Ok u) (Some g) (Some snapshots) = refl
+  pulled_same : (head : Result GroupKey Refusal) (R : Option (List Snapshot))
+      → ((head >>= λ g. or_else NoRemote R >>= λ snapshots. Ok (from g snapshots)) >>= λ _. done) ≡ (head >>= λ _. unless NoRemote (is_some R))
+  pulled_same (Err e) R = refl
+  pulled_same (Ok g) None = refl
+  pulled_same (Ok g) (Some snapshots) = refl
 
 -- the remote's snapshots of the group that are later than the newest here
 abbrev later_in : Store → GroupKey → List Snapshot → List Snapshot
@@ -80,13 +70,11 @@ there_same (Some snapshots) = refl
 
 -- a core that shows the store, and has a remote where it is given one, tells what the plain store tells
 pub told_same : {D : Type 0} (parts : Parts D) (s : Store) (k : ℕ) (R : Option (List Snapshot)) → Shows parts s → k < 64
-    → (act : Act) → family_of act ≡ Reaches → IsWellFormed act → rules.may_read R s k act ≡ read_told act (is_some R) (session_at parts k)
+    → (act : Act) → family_of act ≡ Reaches → IsWellFormed act → rules.may_read R s k act ≡ read_told act (is_some R) (kept_at parts k)
 unfolding to_pull
 told_same parts s k R shows lt =
-    let idle : want_idle (session_at parts k) ≡ model.want_idle (session s k) = ap want_idle (session_shown parts s k shows lt) ∙ idle_same s.snapshots (session s k) in
-    by_read (λ act. rules.may_read R s k act ≡ read_told act (is_some R) (session_at parts k))
-    (λ group. pulled_same (later_in s) (model.want_idle (session s k)) (group_of group) R
-    ∙ ap (λ i. (i >>= λ _. or_else BadName (group_of group) >>= λ _. done) >>= λ _. unless NoRemote (is_some R)) (sym idle))
+    by_read (λ act. rules.may_read R s k act ≡ read_told act (is_some R) (kept_at parts k))
+    (λ group. pulled_same (later_in s) (model.idle_group s k group) R ∙ ap (λ head. head >>= λ _. unless NoRemote (is_some R)) (sym (idle_group_is parts s k shows lt group)))
     (λ snapshot name offset formed. there_same R) (λ digest. there_same R)
 
 -- ---- it is one of the act's refusals
@@ -102,58 +90,39 @@ module _ (act : Act) (r : Refusal) where
   unread true may e = absurd (ok_error tt r e)
   unread false may e = ap (λ x. may_answer act (replies.Refused x)) (sym (error_same NoRemote r e)) ∙ may
 
-begun_refuses : (group : List ℕ) (has : Bool) (x : Session) (r : Refusal) → read_told (RemoteList (Sync group)) has x ≡ Err r → may_answer (RemoteList (Sync group)) (replies.Refused r) ≡ true
-begun_refuses group has x r is = by_session x is
-  where
-    by_group : (o : Option GroupKey) → ((or_else BadName o >>= λ _. done) >>= λ _. unless NoRemote has) ≡ Err r → refuses_sync r ≡ true
-    by_group None e = ap refuses_sync (sym (error_same BadName r e))
-    by_group (Some g) e = unread (RemoteList (Sync group)) r has refl e
-
-    by_session : (y : Session) → ((want_idle y >>= λ _. or_else BadName (group_of group) >>= λ _. done) >>= λ _. unless NoRemote has) ≡ Err r → refuses_sync r ≡ true
-    by_session Idle e = by_group (group_of group) e
-    by_session (Writer w) e = ap refuses_sync (sym (error_same (refusals.WrongState states.Writer) r e))
-    by_session (Reader w) e = ap refuses_sync (sym (error_same (refusals.WrongState states.Reader) r e))
-
-refuses_by : (has : Bool) (x : Session) (r : Refusal) (act : Act) → family_of act ≡ Reaches → IsWellFormed act → read_told act has x ≡ Err r → may_answer act (replies.Refused r) ≡ true
+refuses_by : (has : Bool) (x : KeptAt) (r : Refusal) (act : Act) → family_of act ≡ Reaches → IsWellFormed act → read_told act has x ≡ Err r → may_answer act (replies.Refused r) ≡ true
 refuses_by has x r =
-    by_read (λ act. read_told act has x ≡ Err r → may_answer act (replies.Refused r) ≡ true) (λ group. begun_refuses group has x r)
+    by_read (λ act. read_told act has x ≡ Err r → may_answer act (replies.Refused r) ≡ true) (λ group. begun group)
     (λ snapshot name offset formed. unread (RemoteFile snapshot name offset) r has refl) (λ digest. unread (RemoteChunk digest) r has refl)
+  where
+    begun : (group : List ℕ) → read_told (RemoteList (Sync group)) has x ≡ Err r → may_answer (RemoteList (Sync group)) (replies.Refused r) ≡ true
+    begun group e =
+        refuses_then (λ r. refuses_sync r ≡ true) (idle_group group x) (λ g. unless NoRemote has) (idle_group_refuses (λ r. refuses_sync r ≡ true) x group (λ state. refl) refl)
+        (λ g. refuses_unless (λ r. refuses_sync r ≡ true) NoRemote has refl) r e
 
 -- ---- whether it is read
-
--- where it is, what it names is there to be named
-pub has_name : (has : Bool) (x : Session) (act : Act) → family_of act ≡ Reaches → IsWellFormed act → read_told act has x ≡ done → HasName act
-has_name has x =
-    by_read (λ act. read_told act has x ≡ done → HasName act) (λ group. by_session group x) (λ snapshot name offset named told. named) (λ digest told. tt)
-  where
-    by_group : (o : Option GroupKey) → ((or_else BadName o >>= λ _. done) >>= λ _. unless NoRemote has) ≡ done → IsSome o
-    by_group None e = cc
-    by_group (Some g) e = refl
-
-    by_session : (group : List ℕ) (y : Session) → ((want_idle y >>= λ _. or_else BadName (group_of group) >>= λ _. done) >>= λ _. unless NoRemote has) ≡ done → IsSome (group_of group)
-    by_session group Idle e = by_group (group_of group) e
-    by_session group (Writer w) e = cc
-    by_session group (Reader w) e = cc
 
 unless_there : (has : Bool) → unless NoRemote has ≡ done → has ≡ true
 unless_there true e = refl
 unless_there false e = cc
 
--- and there is a remote
-pub has_remote : (has : Bool) (x : Session) (act : Act) → family_of act ≡ Reaches → IsWellFormed act → read_told act has x ≡ done → has ≡ true
-has_remote has x =
-    by_read (λ act. read_told act has x ≡ done → has ≡ true) (λ group. by_session group x) (λ snapshot name offset named. unless_there has) (λ digest. unless_there has)
+-- where it is, what it names is there to be named
+pub has_name : (has : Bool) (x : KeptAt) (act : Act) → family_of act ≡ Reaches → IsWellFormed act → read_told act has x ≡ done → HasName act
+has_name has x =
+    by_read (λ act. read_told act has x ≡ done → HasName act) (λ group. begun group) (λ snapshot name offset named told. named) (λ digest told. tt)
   where
-    by_group : (o : Option GroupKey) → ((or_else BadName o >>= λ _. done) >>= λ _. unless NoRemote has) ≡ done → has ≡ true
-    by_group None e = cc
-    by_group (Some g) e = unless_there has e
+    begun : (group : List ℕ) → read_told (RemoteList (Sync group)) has x ≡ done → IsSome (group_of group)
+    begun group e = let (g, head, there) = passed (idle_group group x) (λ _. unless NoRemote has) tt e in ap is_some (idle_group_named x group g head)
 
-    by_session : (group : List ℕ) (y : Session) → ((want_idle y >>= λ _. or_else BadName (group_of group) >>= λ _. done) >>= λ _. unless NoRemote has) ≡ done → has ≡ true
-    by_session group Idle e = by_group (group_of group) e
-    by_session group (Writer w) e = cc
-    by_session group (Reader w) e = cc
+-- and there is a remote
+pub has_remote : (has : Bool) (x : KeptAt) (act : Act) → family_of act ≡ Reaches → IsWellFormed act → read_told act has x ≡ done → has ≡ true
+has_remote has x =
+    by_read (λ act. read_told act has x ≡ done → has ≡ true) (λ group. begun group) (λ snapshot name offset named. unless_there has) (λ digest. unless_there has)
+  where
+    begun : (group : List ℕ) → read_told (RemoteList (Sync group)) has x ≡ done → has ≡ true
+    begun group e = let (g, head, there) = passed (idle_group group x) (λ _. unless NoRemote has) tt e in unless_there has there
 
-pub ends_fit : (act : Act) (has : Bool) (x : Session) (ended : Result Reply Stop) → family_of act ≡ Reaches → IsWellFormed act → EndsBy (read_told act has x) ended → IfOk ended (λ reply. IsTrue (may_give act reply)) → MatchResult ended ReplyHasText StopHasText
+pub ends_fit : (act : Act) (has : Bool) (x : KeptAt) (ended : Result Reply Stop) → family_of act ≡ Reaches → IsWellFormed act → EndsBy (read_told act has x) ended → IfOk ended (λ reply. IsTrue (may_give act reply)) → MatchResult ended ReplyHasText StopHasText
     → GivesFit act ended
 ends_fit act has x (Ok reply) is formed told kind text = (kind, text)
 ends_fit act has x (Err (stops.Refused r)) is formed told kind text = (refuses_by has x r act is formed told, text)

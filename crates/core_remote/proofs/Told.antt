@@ -19,9 +19,10 @@ use Rattle.store_stops.specs.declared.stop.Stop.TheVariants as stops
 use Rattle.core_state.specs.Applies.{ActApplies, ActKeeps, CoreApplies}
 use Rattle.core_state.specs.Begins.{AdmittedHasText, FillsUp, IsAdmitted, Refuses, halted, short}
 use Rattle.core_state.specs.History.{History, StandsFor, world}
-use Rattle.core_state.specs.Remotes.{RemoteStays, SettlesRead, ShowsRemote, kind_by, reads_remote, reply_by}
-use Rattle.core_state.specs.Replies.{may_give}
-use Rattle.core_state.specs.Wanted.{session_at}
+use Rattle.core_state.specs.Remotes.{SettlesRead, kind_by, reply_by}
+use Rattle.store_history.specs.RemoteDisk.{RemoteStays, ShowsRemote, reads_remote}
+use Rattle.store_history.specs.Replies.{may_give}
+use Rattle.core_state.specs.Kept.{kept_at}
 use Rattle.core_state.proofs.Applying.{refused_remote}
 use Rattle.core_state.proofs.RemoteLemmas.{stays_there}
 use Rattle.core_state.proofs.RemoteReads.{FailsWhere, GivesRight, read_alone, read_applies, read_keeps, refused, unread_alone, unread_applies, unread_keeps}
@@ -84,15 +85,15 @@ module _ {D E C : Type 0} (d : Ghosts D) (e : Ghosts E) (clock : clocks.Ghosts C
       (unread : UnreadWhere mid.parts mid.remote remote k act) (tested : IfOk ended (IsTested act)) (gives : GivesRemote e mid.remote act ended) (kind : IfOk ended (λ reply. IsTrue (may_give act reply))) (text : MatchResult ended ReplyHasText StopHasText)
       (settled : SettlesRead d (record mid { remote = remote }) new at.lane at.moment ended answer) where
     -- its tests, by the core as it was before
-    before : read_told act (is_some mid.remote) (session_at mid.parts k) ≡ read_told act (is_some old.remote) (session_at old.parts k)
+    before : read_told act (is_some mid.remote) (kept_at mid.parts k) ≡ read_told act (is_some old.remote) (kept_at old.parts k)
     before =
         let b = (admitted.ready).begun in
-        ap (λ t. read_told act t (session_at mid.parts k)) (ap is_some b.remote) ∙ ap (λ (p : Parts D). read_told act (is_some old.remote) (session_at p k)) b.parts
+        ap (λ t. read_told act t (kept_at mid.parts k)) (ap is_some b.remote) ∙ ap (λ (p : Parts D). read_told act (is_some old.remote) (kept_at p k)) b.parts
 
     -- and of a history
-    of_history : (h : History) → StandsFor d clock.readings old h → rules.may_read h.remote (world h).store k act ≡ read_told act (is_some mid.remote) (session_at mid.parts k)
+    of_history : (h : History) → StandsFor d clock.readings old h → rules.may_read h.remote (world h).store k act ≡ read_told act (is_some mid.remote) (kept_at mid.parts k)
     of_history h s =
-        told_same old.parts (world h).store k h.remote s.shows lt act is formed ∙ ap (λ t. read_told act t (session_at old.parts k)) (sym s.remote) ∙ sym before
+        told_same old.parts (world h).store k h.remote s.shows lt act is formed ∙ ap (λ t. read_told act t (kept_at old.parts k)) (sym s.remote) ∙ sym before
 
     settles : SettlesRead d (record mid { remote = remote }) new k at.moment ended answer
     settles = subst (λ n. SettlesRead d (record mid { remote = remote }) new n at.moment ended answer) admitted.lane_is settled
@@ -129,7 +130,7 @@ module _ {D E C : Type 0} (d : Ghosts D) (e : Ghosts E) (clock : clocks.Ghosts C
     pub done_applies : CoreApplies d e clock old new k act answer
     done_applies =
         read_applies d e clock old mid new k at.moment act is remote ended answer lt formed admitted.ready filled settles (handed ended tells)
-        (ends_fit act (is_some mid.remote) (session_at mid.parts k) ended is formed tells kind text) stays (stays_there e mid.remote remote stays) (fails_by ended failed) (right_by ended tells gives)
+        (ends_fit act (is_some mid.remote) (kept_at mid.parts k) ended is formed tells kind text) stays (stays_there e mid.remote remote stays) (fails_by ended failed) (right_by ended tells gives)
 
     -- a refusal by its tests is that of each history, whatever the remote is
     refused_right : (r : Result Reply Stop) → TellsEnd mid.parts mid.remote k act r → kind_by r ≡ 0 → (h : History) → StandsFor d clock.readings old h → GivesRight h k act r

@@ -7,8 +7,8 @@ use Rattle.store_types.specs.declared.names.Digest32.{Digest32}
 use Rattle.store_types.specs.declared.names.SnapshotKey.{SnapshotKey}
 use Rattle.store_types.specs.declared.refusal.ChunkFault.{ChunkFault}
 use Rattle.store_types.specs.declared.refusal.Refusal.{Refusal}
-use Rattle.store_types.specs.declared.refusal.Refusal.TheVariants.{BadName, Damaged, NoRemote}
-use Rattle.store_types.specs.Chain.Refusing.{◌>>=◌, or_else, unless}
+use Rattle.store_types.specs.declared.refusal.Refusal.TheVariants.{Damaged, NoRemote}
+use Rattle.store_types.specs.Chain.Refusing.{◌>>=◌, unless}
 use Rattle.store_types.specs.Names.{group_of, key_of, key_text}
 use Rattle.store_types.specs.declared.order.TheConstants.{COMMAND_KIND, PART_KIND, REMOTE_FAULT_KIND}
 use Rattle.blob_codec.specs.Blob.{blob}
@@ -23,40 +23,21 @@ use Rattle.snapshot_files.specs.Parts.{part_at}
 use Rattle.store_history.specs.declared.act.Act.{Act}
 use Rattle.store_history.specs.declared.act.Act.TheVariants.{RemoteChunk, RemoteFile, RemoteList}
 use Rattle.store_history.specs.declared.act.Answer.{Answer}
-use Rattle.core_state.specs.declared.kept.Session.{Session}
 use Rattle.core_state.specs.declared.parts.Parts.{Parts}
 use Rattle.core_state.specs.declared.state.Core.{Core}
 use Rattle.store_stops.specs.declared.stop.Stop.{Stop}
 use Rattle.store_stops.specs.declared.stop.Stop.TheVariants as stops
-use Rattle.core_state.specs.Remotes.{faults_of}
-use Rattle.core_state.specs.Replies.{reply_told}
-use Rattle.core_state.specs.Wanted.{session_at, want_idle}
+use Rattle.core_state.specs.Heads.{idle_group}
+use Rattle.core_state.specs.Kept.{KeptAt, kept_at}
+use Rattle.store_history.specs.RemoteDisk.{faults_of}
+use Rattle.store_history.specs.Replies.{reply_told}
 
 -- ---- what refuses it
 
--- a SYNC of the group may be begun on a lane with this session
-abbrev pub begin_told : List ℕ → Session → Result (Unit {0}) Refusal
-begin_told group session = do
-  _ ← want_idle session
-  _ ← or_else BadName (group_of group)
-  Ok tt
-
-abbrev pub read_told : Act → Bool → Session → Result (Unit {0}) Refusal
-read_told (RemoteList (Sync group)) has_remote session = begin_told group session >>= λ _. unless NoRemote has_remote
-read_told act has_remote session = unless NoRemote has_remote
-
--- nothing refuses it, or it is refused so; or memory is wanting
-abbrev pub TellsBy : Result (Unit {0}) Refusal → Result (Unit {0}) Stop → Type 0
-TellsBy told (Ok done) = told ≡ Ok tt
-TellsBy told (Err (stops.Refused refusal)) = told ≡ Err refusal
-TellsBy told (Err stops.NoMemory) = Unit {0}
-TellsBy told (Err stops.DiskFailed) = ⊥
-
-abbrev pub TellsBegin : {D : Type 0} → Parts D → ℕ → List ℕ → Result (Unit {0}) Stop → Type 0
-TellsBegin parts lane group result = TellsBy (begin_told group (session_at parts lane)) result
-
-abbrev pub TellsRead : {D : Type 0} → Parts D → ℕ → Bool → Act → Result (Unit {0}) Stop → Type 0
-TellsRead parts lane has_remote act result = TellsBy (read_told act has_remote (session_at parts lane)) result
+-- of a SYNC's first read also what its head refuses
+abbrev pub read_told : Act → Bool → KeptAt → Result (Unit {0}) Refusal
+read_told (RemoteList (Sync group)) has_remote k = idle_group group k >>= λ _. unless NoRemote has_remote
+read_told act has_remote k = unless NoRemote has_remote
 
 -- it is read exactly where nothing refuses it, or memory is wanting
 abbrev pub EndsBy : Result (Unit {0}) Refusal → Result Reply Stop → Type 0
@@ -66,12 +47,12 @@ EndsBy told (Err stops.NoMemory) = Unit {0}
 EndsBy told (Err stops.DiskFailed) = told ≡ Ok tt
 
 abbrev pub TellsEnd : {D E : Type 0} → Parts D → Option E → ℕ → Act → Result Reply Stop → Type 0
-TellsEnd parts remote lane act result = EndsBy (read_told act (is_some remote) (session_at parts lane)) result
+TellsEnd parts remote lane act result = EndsBy (read_told act (is_some remote) (kept_at parts lane)) result
 
 -- the remote is not called where something refuses the read
 abbrev pub UnreadWhere : {D E : Type 0} → Parts D → Option E → Option E → ℕ → Act → Type 0
 UnreadWhere parts old new lane act =
-    (refusal : Refusal) → read_told act (is_some old) (session_at parts lane) ≡ Err refusal → new ≡ old
+    (refusal : Refusal) → read_told act (is_some old) (kept_at parts lane) ≡ Err refusal → new ≡ old
 
 -- the group, or the snapshot, that it names
 abbrev pub HasName : Act → Type 0
@@ -88,8 +69,8 @@ IsTested act reply = Unit {0}
 -- something refuses the read, nor after the disk failed. What is given of a chunk is the blob of a piece with its digest.
 pub record RemoteTells {D E C : Type 0} (old new : Core D E C) (lane : ℕ) (act : Act) (answer : Answer) : Type 0 where
   pub refused : (answer.entry).kind ≡ COMMAND_KIND
-      → (refusal : Refusal) × (answer.reply ≡ Some (Refused refusal)) × (read_told act (is_some old.remote) (session_at old.parts lane) ≡ Err refusal)
-  pub reads : ((answer.entry).kind ≡ PART_KIND) ⊎ ((answer.entry).kind ≡ REMOTE_FAULT_KIND) → read_told act (is_some old.remote) (session_at old.parts lane) ≡ Ok tt
+      → (refusal : Refusal) × (answer.reply ≡ Some (Refused refusal)) × (read_told act (is_some old.remote) (kept_at old.parts lane) ≡ Err refusal)
+  pub reads : ((answer.entry).kind ≡ PART_KIND) ⊎ ((answer.entry).kind ≡ REMOTE_FAULT_KIND) → read_told act (is_some old.remote) (kept_at old.parts lane) ≡ Ok tt
   pub unread : UnreadWhere old.parts old.remote new.remote lane act
   pub halted : IfSome old.fault (λ _. new.remote ≡ old.remote)
   pub tested : (answer.entry).kind ≡ PART_KIND → IfSome answer.reply (IsTested act)

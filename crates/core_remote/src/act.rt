@@ -4,8 +4,8 @@ ghost use Rattle.std.specs.Prelude.{◌≡◌, ◌<◌, false, IfOk, IsTrue, Mat
 ghost use Rattle.wire_commands.specs.HasText.{ReplyHasText};
 ghost use Rattle.store_history.specs.Acts.{IsWellFormed, family_of};
 ghost use Rattle.core_state.specs.Applies.{ActApplies, ActKeeps, CoreApplies};
-ghost use Rattle.core_state.specs.Remotes.{RemoteStays, reads_remote};
-ghost use Rattle.core_state.specs.Replies.{may_give};
+ghost use Rattle.store_history.specs.RemoteDisk.{RemoteStays, reads_remote};
+ghost use Rattle.store_history.specs.Replies.{may_give};
 ghost use Rattle.core_state.specs.Reserved.{HasRoom};
 ghost use Rattle.snapshot_files.specs.Reads.{StopHasText};
 ghost use Rattle.core_remote.specs.RemoteActs.{FailsBy, GivesRemote, IsTested, RemoteGives, RemoteTells, TellsEnd, UnreadWhere};

@@ -8,8 +8,8 @@ ghost use Rattle.store_history.specs.declared.act.Act.TheVariants.{RemoteChunk, 
 ghost use Rattle.store_history.specs.Acts.{IsWellFormed, family_of};
 ghost use Rattle.wire_commands.specs.HasText.{ReplyHasText};
 ghost use Rattle.wire_commands.specs.declared.command.Command.TheVariants.{Sync};
-ghost use Rattle.core_state.specs.Remotes.{RemoteStays};
-ghost use Rattle.core_state.specs.Replies.{gives_blob, gives_file, gives_keys, may_give};
+ghost use Rattle.store_history.specs.RemoteDisk.{RemoteStays};
+ghost use Rattle.store_history.specs.Replies.{gives_blob, gives_file, gives_keys, may_give};
 ghost use Rattle.core_remote.specs.RemoteActs.{FailsBy, Gives, GivesRemote, HasName, IsShort, IsTested, IsUnread, texts_of as texts_by};
 
 use chunk_store::{LoadFault, load};

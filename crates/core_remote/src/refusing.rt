@@ -1,29 +1,15 @@
 //! What refuses a read of the remote.
 
-ghost use Rattle.std.specs.Prelude.{◌≡◌, ◌<◌, IfErr};
+ghost use Rattle.std.specs.Prelude.{◌≡◌, ◌<◌};
 ghost use Rattle.store_history.specs.Acts.{family_of};
-ghost use Rattle.snapshot_files.specs.Reads.{StopHasText};
-ghost use Rattle.core_remote.specs.RemoteActs.{TellsBegin, TellsRead};
+ghost use Rattle.core_state.specs.Decides.{Decides};
+ghost use Rattle.core_remote.specs.RemoteActs.{read_told};
 
 use core_state::{Act, Family, Parts};
 use std::alloc::Global;
 use store_stops::Stop;
-use store_types::{GroupKey, Refusal};
+use store_types::Refusal;
 use wire_commands::Command;
-
-/// What refuses a SYNC on its lane: it has a session; the text names no group.
-#[tactic(auto, using(core_state::proofs::Texts::bad_name_has_text))]
-fn may_begin<D>(parts: &Parts<D>, alloc: Global, lane: u32, group: &[u8]) -> Result<(), Stop>
-    requires lane { lane < 64 }
-    ensures tells { TellsBegin parts.now lane group.now result }
-    ensures text { IfErr result StopHasText }
-{
-    parts.idle(lane)?;
-    match GroupKey::parse(alloc, group)? {
-        Ok(_) => Ok(()),
-        Err(_) => Err(Stop::Refused(Refusal::BadName)),
-    }
-}
 
 /// What refuses a read of the remote, which is not read for it.
 ///
@@ -39,11 +25,10 @@ pub fn may_read<D>(
 ) -> Result<(), Stop>
     requires lane { lane < 64 }
     requires kind { family_of act.now ≡ Family.Reaches }
-    ensures tells { TellsRead parts.now lane has_remote act.now result }
-    ensures text { IfErr result StopHasText }
+    ensures { Decides (λ done. done) (read_told act.now has_remote) parts.now lane result }
 {
     if let Act::RemoteList(Command::Sync { group }) = act {
-        may_begin(parts, alloc, lane, group.as_slice())?;
+        parts.idle_group(alloc, lane, group.as_slice())?;
     }
     if has_remote {
         Ok(())

@@ -20,7 +20,8 @@ use Rattle.store_history.specs.History.{moved, act_outcome, entry, step_kind, sh
 use Rattle.store_history.specs.Legal.{IsClosing, Right, collecting_on}
 use Rattle.core_state.specs.declared.state.Core.{Core}
 use Rattle.core_state.specs.Holds.{Shows, IsOnDisk, Holds, Does, Acts}
-use Rattle.core_state.specs.Chunks.{IsSafe, HoldsOnly, AddsUnless, Adds}
+use Rattle.core_state.specs.Chunks.{IsSafe, AddsUnless, Adds}
+use Rattle.store_history.specs.ChunkFiles.{HoldsOnly}
 use Rattle.core_state.specs.History.{History, world, then_event, pieces_of, event_of, StandsFor}
 use Rattle.core_state.specs.Closing.{HasClosed, closes, closes_by, is_closing}
 use Rattle.core_state.specs.Collectors.{collector_by, is_cut, open_in, shown_collecting}

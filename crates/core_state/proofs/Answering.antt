@@ -1,6 +1,6 @@
 -- What an act's answer is on any disk.
 use Rattle.disk_trait.specs.declared.disk.Disk.{Ghosts}
-use Rattle.std.proofs.Common.{◌≡◌, ◌≤◌, ℕ, Bool, true, false, ◌&&◌, ◌==◌, [], ◌∷◌, ◌++◌, length, Option, Some, None, Result, Ok, Err, IfSome, IsSome, is_some, IfOk, IsErrOf, inl, inr, refl, sym, ap, subst, ◌∙◌, arith}
+use Rattle.std.proofs.Common.{◌≡◌, ◌↔◌, ◌≤◌, ℕ, Bool, true, false, ◌&&◌, ◌==◌, [], ◌∷◌, ◌++◌, length, Option, Some, None, Result, Ok, Err, IfSome, IsSome, is_some, IfOk, IsErrOf, inl, inr, refl, sym, ap, subst, ◌∙◌, arith}
 use Rattle.store_types.specs.declared.order.TheConstants.{FAULT_KIND}
 use Rattle.port_traits.specs.Readings.{Readings}
 use Rattle.disk_trait.specs.Disk.{Rose, Serves}
@@ -14,7 +14,8 @@ use Rattle.core_state.specs.declared.state.Core.{Core}
 use Rattle.core_state.specs.declared.entering.Admitted.TheVariants.{Answered}
 use Rattle.core_state.specs.Settles.{IsEntered, Settles}
 use Rattle.core_state.specs.Begins.{IsBegun, IsShort, Refuses, short, halted, IsReady, AdmittedHasText}
-use Rattle.core_state.specs.Answers.{IsAnswered, EndIsTold, fault_after}
+use Rattle.core_state.specs.Answers.{IsAnswered, EndIsTold}
+use Rattle.store_history.specs.Answered.{fault_after}
 use Rattle.core_state.proofs.Texts.{no_memory_has_text, disk_fault_has_text}
 
 pub and_second : (a : Bool) (n : ℕ) → a && (n == 2) ≡ true → n ≡ 2
@@ -30,10 +31,10 @@ pub entered_answered : {D E C : Type 0} (d : Ghosts D) (old mid new : Core D E C
     → (mid.journal).entries.items ≡ (old.journal).entries.items → (mid.journal).calls.items ≡ (old.journal).calls.items
     → IfSome reply ReplyHasText
     → mid.fault ≡ fault_after (length (old.journal).entries.items) kind old.fault
-    → d.faults (old.parts).disk ≤ d.faults (mid.parts).disk
+    → d.faults (old.parts).disk ≤ d.faults (mid.parts).disk → (d.honest (old.parts).disk ↔ d.honest (mid.parts).disk)
     → (kind ≡ FAULT_KIND → old.fault ≡ None → Rose (d.faults (old.parts).disk) (d.faults (mid.parts).disk))
     → IsAnswered d old new lane answer
-entered_answered d old mid new lane moment kind reply answer e entries calls text fault count cause =
+entered_answered d old mid new lane moment kind reply answer e entries calls text fault count kept cause =
     let kind_is : (answer.entry).kind ≡ kind = ap (λ x. x.kind) e.entry in record {
       lane_is = ap (λ x. x.lane) e.entry;
       place = e.place ∙ ap length entries;
@@ -43,17 +44,21 @@ entered_answered d old mid new lane moment kind reply answer e entries calls tex
       last = λ is. kind_is ∙ and_second e.is_held kind (sym e.last_held ∙ is);
       fault = e.fault ∙ fault ∙ ap (λ k. fault_after (length (old.journal).entries.items) k old.fault) (sym kind_is);
       count = subst (λ p. d.faults (old.parts).disk ≤ d.faults p.disk) (sym e.parts) count;
+      kept = subst (λ p. d.honest (old.parts).disk ↔ d.honest p.disk) (sym e.parts) kept;
       cause = λ is before. subst (λ p. Rose (d.faults (old.parts).disk) (d.faults p.disk)) (sym e.parts) (cause (sym kind_is ∙ is) before);
     }
 
 same_count : {D : Type 0} (d : Ghosts D) (old mid : D) → mid ≡ old → d.faults old ≤ d.faults mid
 same_count d old mid same = let e = ap d.faults same in omega (arith, e)
 
+pub same_honest : {D : Type 0} (d : Ghosts D) (old mid : D) → mid ≡ old → d.honest old ↔ d.honest mid
+same_honest d old mid same = (λ h. subst d.honest (sym same) h, λ h. subst d.honest same h)
+
 pub short_answered : {D E C : Type 0} (d : Ghosts D) (readings : C → Option Readings) (old new : Core D E C) (lane : ℕ) (answer : Answer)
     → IsShort d readings old new lane answer → IsAnswered d old new lane answer
 short_answered d readings old new lane answer is = let b = is.begun in
     entered_answered d old is.between new lane is.moment 2 _ answer is.entered (b.entries).entries (b.entries).calls
-    no_memory_has_text b.fault (same_count d _ _ (ap (λ p. p.disk) b.parts)) (λ is. absurd (omega (arith, is)))
+    no_memory_has_text b.fault (same_count d _ _ (ap (λ p. p.disk) b.parts)) (same_honest d _ _ (ap (λ p. p.disk) b.parts)) (λ is. absurd (omega (arith, is)))
 
 pub refused_answered : {D E C : Type 0} (d : Ghosts D) (readings : C → Option Readings) (old new : Core D E C) (lane : ℕ) (answer : Answer)
     → Refuses d readings old new lane answer → AdmittedHasText (Answered answer) → IsAnswered d old new lane answer
@@ -62,7 +67,7 @@ refused_answered d readings old new lane answer (halted is) text = let b = is.be
     entered_answered d old is.between new lane is.moment 5 _ answer is.entered (b.entries).entries (b.entries).calls
     (subst (λ r. IfSome r ReplyHasText) (is.entered).reply_is text)
     (b.fault ∙ is.fault ∙ ap (first_fault (length (old.journal).entries.items)) (sym is.fault))
-    (same_count d _ _ (ap (λ p. p.disk) b.parts)) (λ _ before. absurd (some_none is.first (sym is.fault ∙ before)))
+    (same_count d _ _ (ap (λ p. p.disk) b.parts)) (same_honest d _ _ (ap (λ p. p.disk) b.parts)) (λ _ before. absurd (some_none is.first (sym is.fault ∙ before)))
   where
     some_none : (n : ℕ) → Some n ≡ None → ⊥
     some_none n e = cc
@@ -92,16 +97,19 @@ done_answered d readings old mid acted new lane moment result answer ready journ
     risen : (failed : Type 0) → Serves d.honest d.faults (mid.parts).disk (acted.parts).disk failed → d.faults (old.parts).disk ≤ d.faults (acted.parts).disk
     risen failed s = subst (λ p. d.faults p.disk ≤ d.faults (acted.parts).disk) b.parts s.count
 
+    honest : (failed : Type 0) → Serves d.honest d.faults (mid.parts).disk (acted.parts).disk failed → d.honest (old.parts).disk ↔ d.honest (acted.parts).disk
+    honest failed s = subst (λ p. d.honest p.disk ↔ d.honest (acted.parts).disk) b.parts s.kept
+
     by_result : (r : Result Reply DiskError) → Serves d.honest d.faults (mid.parts).disk (acted.parts).disk (IsErrOf r DiskFailed) → IfOk r ReplyHasText
         → Settles d acted new lane moment r answer → IsAnswered d old new lane answer
     by_result (Ok reply) s t e =
-        entered_answered d old (record acted { fault = acted.fault }) new lane moment 0 (Some reply) answer e entries calls t before (risen _ s) (λ is. absurd (omega (arith, is)))
+        entered_answered d old (record acted { fault = acted.fault }) new lane moment 0 (Some reply) answer e entries calls t before (risen _ s) (honest _ s) (λ is. absurd (omega (arith, is)))
     by_result (Err DiskMemory) s t e =
-        entered_answered d old (record acted { fault = acted.fault }) new lane moment 2 _ answer e entries calls no_memory_has_text before (risen _ s) (λ is. absurd (omega (arith, is)))
+        entered_answered d old (record acted { fault = acted.fault }) new lane moment 2 _ answer e entries calls no_memory_has_text before (risen _ s) (honest _ s) (λ is. absurd (omega (arith, is)))
     by_result (Err DiskFailed) s t e =
         entered_answered d old (record acted { fault = Some (length (acted.journal).entries.items) }) new lane moment 5 _ answer e entries calls disk_fault_has_text
         (ap (λ n. Some n) (ap length entries) ∙ sym (ap (first_fault place) ready.no_fault))
-        (risen _ s) (λ _ _. subst (λ p. Rose (d.faults p.disk) (d.faults (acted.parts).disk)) b.parts (s.cause refl))
+        (risen _ s) (honest _ s) (λ _ _. subst (λ p. Rose (d.faults p.disk) (d.faults (acted.parts).disk)) b.parts (s.cause refl))
 
 -- ---- each has a reply
 
@@ -122,7 +130,7 @@ refused_told d readings old new lane answer (halted is) = some_told answer.reply
 -- no disk call was made
 pub untouched : {D : Type 0} (d : Ghosts D) (old new : D) → new ≡ old → Serves d.honest d.faults old new ⊥
 untouched d old new same = record {
-  kept = (λ h. subst d.honest (sym same) h, λ h. subst d.honest same h);
+  kept = same_honest d old new same;
   count = same_count d old new same;
   cause = λ f. absurd f;
 }
@@ -135,7 +143,7 @@ pub ended_answered : {D E C : Type 0} (d : Ghosts D) (readings : C → Option Re
 ended_answered d readings failed old mid acted new lane moment answer b journal fault serves e =
     entered_answered d old acted new lane moment 6 None answer e
     (ap (λ j. j.entries.items) journal ∙ (b.entries).entries) (ap (λ j. j.calls.items) journal ∙ (b.entries).calls) tt (fault ∙ b.fault)
-    (subst (λ p. d.faults p.disk ≤ d.faults (acted.parts).disk) b.parts serves.count) (λ is. absurd (omega (arith, is)))
+    (subst (λ p. d.faults p.disk ≤ d.faults (acted.parts).disk) b.parts serves.count) (subst (λ p. d.honest p.disk ↔ d.honest (acted.parts).disk) b.parts serves.kept) (λ is. absurd (omega (arith, is)))
 
 -- the disk failed in it
 pub end_failed_answered : {D E C : Type 0} (d : Ghosts D) (readings : C → Option Readings) (failed : Type 0) (old mid acted new : Core D E C) (lane moment : ℕ) (answer : Answer)
@@ -147,6 +155,7 @@ end_failed_answered d readings failed old mid acted new lane moment answer b bef
     entries (ap (λ j. j.calls.items) journal ∙ (b.entries).calls) disk_fault_has_text
     (ap (λ n. Some n) (ap length entries) ∙ sym (ap (first_fault (length (old.journal).entries.items)) before))
     (subst (λ p. d.faults p.disk ≤ d.faults (acted.parts).disk) b.parts serves.count)
+    (subst (λ p. d.honest p.disk ↔ d.honest (acted.parts).disk) b.parts serves.kept)
     (λ _ _. subst (λ p. Rose (d.faults p.disk) (d.faults (acted.parts).disk)) b.parts (serves.cause has_failed))
   where
     entries : (acted.journal).entries.items ≡ (old.journal).entries.items

@@ -1,7 +1,8 @@
 -- The two records of a command, lifted once over the beginning and the entry of an act.
-use Rattle.std.proofs.Common.{◌≡◌, ◌<◌, ◌≤◌, ◌||◌, ℕ, Bool, true, false, length, is_some, Option, Some, None, Result, Ok, Err, IfOk, IfSome, IsSome, IsTrue, IsErrOf, inl, refl, sym, ap, subst, ◌∙◌, arith}
+use Rattle.std.proofs.Common.{◌≡◌, ◌<◌, ◌≤◌, ℕ, true, false, length, is_some, Option, Some, None, Result, Ok, Err, IfOk, IfSome, IsSome, IsTrue, IsErrOf, inl, refl, sym, ap, subst, ◌∙◌, arith}
 use Rattle.store_files.specs.Folder.{HasWholeChunks}
-use Rattle.core_state.specs.Chunks.{HoldsOnly, IsSafe}
+use Rattle.core_state.specs.Chunks.{IsSafe}
+use Rattle.store_history.specs.ChunkFiles.{HoldsOnly}
 use Rattle.disk_trait.specs.Disk.{Serves}
 use Rattle.disk_trait.specs.Files.{Files}
 use Rattle.disk_trait.specs.declared.disk.Disk.{Ghosts}
@@ -34,13 +35,14 @@ use Rattle.core_state.specs.Changes.{Change, IsFirm, LeavesChange, after, by_rep
 use Rattle.core_state.specs.Catalogue.{listed_by}
 use Rattle.core_state.specs.Closing.{HasClosed, HasEnded, closes, closes_by, is_closing, is_writer}
 use Rattle.core_state.specs.Collectors.{collector_by}
-use Rattle.core_state.specs.Commands.{ActDoes, ActLeaves, IsNoRefusal, change_at, is_still, is_collectors, is_step, keeps_row, row_stays, row_stays_by}
+use Rattle.core_state.specs.Commands.{ActDoes, ActLeaves, IsNoRefusal, change_at, is_collectors, is_step, keeps_row, row_stays, row_stays_by}
 use Rattle.core_state.specs.Entering.{held_by}
 use Rattle.core_state.specs.History.{History, event_of, pieces_of, then_event, world}
 use Rattle.core_state.specs.Holds.{Holds}
 use Rattle.core_state.specs.Indexed.{row_at}
+use Rattle.core_state.specs.Kept.{kept_at}
 use Rattle.core_state.specs.Records.{IsTimely}
-use Rattle.core_state.specs.Replies.{may_answer}
+use Rattle.store_history.specs.Replies.{may_answer}
 use Rattle.core_state.specs.Settles.{Settles, fault_by, kind_by, reply_by, with_fault}
 use Rattle.core_state.specs.Stops.{told}
 use Rattle.core_state.specs.Upkeeps.{touches_kept}
@@ -175,14 +177,6 @@ step_plain End step = cc
 step_plain (Plain command) step = no_collector command
 step_plain act step = refl
 
--- it leaves sessions and locks, where it does or is a collector's
-step_still : (act : Act) → class_of act ≡ stepping → (is_still act || is_collectors act) ≡ true → is_still act ≡ true
-step_still act step is = first_holds (is_still act) (is_collectors act) (step_plain act step) is
-  where
-    first_holds : (a b : Bool) → b ≡ false → (a || b) ≡ true → a ≡ true
-    first_holds true b off is = refl
-    first_holds false b off is = absurd (true_false (sym is ∙ off))
-
 step_asked : (act : Act) → class_of act ≡ stepping → IsAsked (class_of act)
 step_asked act step = subst IsAsked (sym step) tt
 
@@ -293,9 +287,10 @@ module _ {D E C : Type 0} (d : Ghosts D) (clock : clocks.Ghosts C) where
         crash = λ _. inl same;
         passed_its_tests = λ _ told. absurd (fine (refusal_is refusal DiskFault (sym is ∙ told)));
         firm = λ _. undone answer refusal is;
-        listed = ap (λ p. p.catalogue.listed) parts ∙ sym (ap (λ r. listed_by act r answer.place (session_at old.parts lane) (old.parts).catalogue.listed) is
-            ∙ unlisted act refusal answer.place (session_at old.parts lane) (old.parts).catalogue.listed);
+        listed = ap (λ p. p.catalogue.listed) parts ∙ sym (ap (λ r. listed_by act r answer.place (kept_at old.parts lane)) is
+            ∙ unlisted act refusal answer.place (kept_at old.parts lane));
         admin = λ _. (ap (λ p. p.sessions.items) parts, ap (λ p. p.locks) parts);
+        others = λ i _. ap (λ p. session_at p i) parts;
         ended = λ _. undone answer refusal is;
         rows = λ i _. ap (λ p. row_at p i) parts;
         halted = where_some _ _ (refused_same d clock.readings old new lane answer refuses);
@@ -390,12 +385,12 @@ module _ {D E C : Type 0} (d : Ghosts D) (clock : clocks.Ghosts C) where
 
   -- ---- done on these parts, and entered
 
-  kept_at : (old mid acted new : Core D E C) (at : Place) (act : Act) (result : Result Reply Stop) (answer : Answer) → class_of act ≡ stepping
+  keeps_done : (old mid acted new : Core D E C) (at : Place) (act : Act) (result : Result Reply Stop) (answer : Answer) → class_of act ≡ stepping
       → IsReady clock.readings old mid at.lane at.moment → at.number ≡ length (mid.journal).entries.items
       → (is_closing old at.lane act ≡ false → (3 ≤ held_by mid.journal at.lane) × (0 < (mid.journal).spare)) → SameRest mid acted at.moment act (Some (reply_by (told result)))
       → ActDoes d mid.parts acted.parts at act result → ActLeaves d mid.parts acted.parts at act result
       → Settles d acted new at.lane at.moment (told result) answer → ActKeeps d old new at.lane act answer
-  kept_at old mid acted new at act result answer step ready number filled rest does leaves settles =
+  keeps_done old mid acted new at act result answer step ready number filled rest does leaves settles =
       let other = step_other act step in
       let before = (ready.begun).parts in
       let reply = settles.reply_is in
@@ -413,10 +408,11 @@ module _ {D E C : Type 0} (d : Ghosts D) (clock : clocks.Ghosts C) where
             (subst (λ p. IsFirm d p.disk (acted.parts).disk (change_at p at.lane act)) before
             (done_told _ result leaves.firm (if_plain answer.reply _ reply done)));
         listed = ap (λ p. p.catalogue.listed) settles.parts ∙ leaves.listed
-            ∙ ap (λ p. listed_by act (Some (reply_by (told result))) at.number (session_at p at.lane) p.catalogue.listed) before
-            ∙ ap (λ n. listed_by act (Some (reply_by (told result))) n (session_at old.parts at.lane) (old.parts).catalogue.listed) (number ∙ sym (settles.place ∙ ap (λ j. length j.entries.items) rest.journal))
-            ∙ ap (λ r. listed_by act r answer.place (session_at old.parts at.lane) (old.parts).catalogue.listed) (sym reply);
-        admin = λ is. (ap (λ p. p.sessions.items) settles.parts ∙ (leaves.admin (step_still act step is)).0 ∙ ap (λ p. p.sessions.items) before, ap (λ p. p.locks) settles.parts ∙ (leaves.admin (step_still act step is)).1 ∙ ap (λ p. p.locks) before);
+            ∙ ap (λ p. listed_by act (Some (reply_by (told result))) at.number (kept_at p at.lane)) before
+            ∙ ap (λ n. listed_by act (Some (reply_by (told result))) n (kept_at old.parts at.lane)) (number ∙ sym (settles.place ∙ ap (λ j. length j.entries.items) rest.journal))
+            ∙ ap (λ r. listed_by act r answer.place (kept_at old.parts at.lane)) (sym reply);
+        admin = λ is. (ap (λ p. p.sessions.items) settles.parts ∙ (leaves.admin is).0 ∙ ap (λ p. p.sessions.items) before, ap (λ p. p.locks) settles.parts ∙ (leaves.admin is).1 ∙ ap (λ p. p.locks) before);
+        others = λ i other. ap (λ p. session_at p i) settles.parts ∙ leaves.others i other ∙ ap (λ p. session_at p i) before;
         ended = λ ends done. subst (λ p. HasEnded p at.lane) (sym settles.parts) (done_told _ result (leaves.ended ends) (if_plain answer.reply _ reply done));
         rows = λ i keeps. ap (λ p. row_at p i) settles.parts ∙ leaves.rows i (λ is. row_told act result does.plain (sym (ap (λ r. row_stays_by r act) reply) ∙ keeps is)) ∙ ap (λ p. row_at p i) before;
         halted = where_none _ _ ready.no_fault;
@@ -448,7 +444,7 @@ module _ {D E C : Type 0} (d : Ghosts D) (clock : clocks.Ghosts C) where
       let timely = settled_timely d clock.readings old acted new at.lane at.moment (told result) answer
       (subst (λ k. ReadsClock clock.readings old.clock k old.last at.moment) (sym rest.clock) (ready.begun).clock) settles in
       let cause = done_caused d clock.readings old mid acted new at.lane at.moment act (told result) answer ready (serves_told d (mid.parts).disk (acted.parts).disk result does.serves) does.answers settles in
-      let keeps = kept_at old mid acted new at act result answer step ready number filled rest does leaves settles in record {
+      let keeps = keeps_done old mid acted new at act result answer step ready number filled rest does leaves settles in record {
         history = λ h s kept clear. more h s clear;
         records = λ h. records_more d clock.readings old new at.lane act answer h answers timely (step_kind d old new act answer step cause) (tells_reply d old new act answer cause answers.text) keeps.listed (early_by old new at.lane act answer (step_other act step).no timely keeps);
         recovers = λ told start h s clear kept. recovers_more d clock old new at.lane act answer lt more answers (step_caused d old new act answer step cause) keeps (step_other act step).no told start h s clear;
@@ -482,5 +478,5 @@ module _ {D E C : Type 0} (d : Ghosts D) (clock : clocks.Ghosts C) where
       → Settles d acted new at.lane at.moment (told result) answer → ActKeeps d old new lane act answer
   done_keeps_all old mid acted new lane at act result answer step admitted filled rest does leaves settles =
       subst (λ l. ActKeeps d old new l act answer) admitted.lane_is
-      (kept_at old mid acted new at act result answer step (ready_at old mid lane at admitted) admitted.number_is
+      (keeps_done old mid acted new at act result answer step (ready_at old mid lane at admitted) admitted.number_is
       (subst (λ l. is_closing old l act ≡ false → (3 ≤ held_by mid.journal l) × (0 < (mid.journal).spare)) (sym admitted.lane_is) filled) rest does leaves settles)

@@ -15,7 +15,7 @@ use Rattle.store_history.specs.Acts.{class_of, stepping, wanting}
 use Rattle.core_state.specs.declared.state.Core.{Core}
 use Rattle.core_state.specs.Settles.{IsEntered, Settles}
 use Rattle.core_state.specs.Begins.{IsBegun, IsShort, Refuses, short as is_out_of_memory, halted as is_halted, IsReady}
-use Rattle.core_state.specs.Replies.{may_answer}
+use Rattle.store_history.specs.Replies.{may_answer}
 use Rattle.core_state.specs.Answers.{HasCause, done, short, failed, halted, EndHasCause, ended, end_failed, IsCaused}
 
 pub short_caused : {D E C : Type 0} (d : Ghosts D) (readings : C → Option Readings) (old new : Core D E C) (lane : ℕ) (act : Act) (answer : Answer)

@@ -28,7 +28,8 @@ use Rattle.store_history.specs.History.{data_in, sent_by, sent}
 use Rattle.store_history.proofs.Checking.{checked_digest}
 use Rattle.store_history.proofs.Longer.{sent_more}
 use Rattle.core_state.specs.declared.parts.Parts.{Parts}
-use Rattle.core_state.specs.Chunks.{HasChunk, MayStand, IsSafe, HoldsOnly, AddsChunks, Adds}
+use Rattle.core_state.specs.Chunks.{MayStand, IsSafe, AddsChunks, Adds}
+use Rattle.store_history.specs.ChunkFiles.{HasChunk, HoldsOnly}
 use Rattle.core_state.specs.History.{History, then_event, pieces_of, IsClear}
 
 -- ---- digests

@@ -1,6 +1,6 @@
 -- What a command's exits need to prove its two records.
 use Rattle.std.proofs.Common.{◌≡◌, ◌<◌, ◌↔◌, ℕ, Bool, ◌&&◌, not, List, true, false, length, get_or, get_or-set_same, set, Option, Some, Result, Ok, Err, IfOk, IsErrOf, IsErrAnd, IsTrue, inl, inr, ⊎_elim, refl, sym, ap, subst, ◌∙◌, arith}
-use Rattle.std.proofs.lemmas.List.{get_or_default}
+use Rattle.std.proofs.lemmas.List.{get_or-set_other, get_or_default}
 use Rattle.std.proofs.lemmas.Bool.{and_parts}
 use Rattle.std.specs.FinMap.{get}
 use Rattle.disk_trait.specs.Files.{Files}
@@ -16,7 +16,6 @@ use Rattle.store_types.specs.declared.refusal.SessionState.{SessionState}
 use Rattle.store_files.specs.Archive.{Snapshot}
 use Rattle.wire_commands.specs.declared.reply.Reply.{Reply}
 use Rattle.wire_commands.specs.declared.reply.Reply.TheVariants as replies
-use Rattle.wire_commands.specs.declared.command.Command.TheVariants.{Abort, CloseIndex, CloseReader, Finish, Forget}
 use Rattle.wire_commands.specs.HasText.{ReplyHasText}
 use Rattle.store_model.specs.Store as model
 use Rattle.store_model.specs.Store.{Store, Outcome, session, want_reader, ended}
@@ -27,24 +26,25 @@ use Rattle.store_model.specs.Steps.{outcome, answered}
 use Rattle.store_history.specs.declared.act.Act.{Act}
 use Rattle.store_history.specs.declared.act.Act.TheVariants as acts
 use Rattle.store_history.specs.History.{World, act_outcome, data_in}
+use Rattle.store_history.specs.Profile.{OnDisk, no_call, only_reads, disk_change, OnList, same_list, lists, takes_out, OnSessions, ends_reader, ends_writer, are_ended, is_called, is_changed, profile}
 use Rattle.restore_reader.specs.Session.{Reading}
 use Rattle.store_stops.specs.declared.stop.Stop.{Stop}
 use Rattle.core_state.specs.declared.entering.Place.{Place}
-use Rattle.core_state.specs.declared.kept.Listed.{Listed}
 use Rattle.core_state.specs.declared.kept.Session.{Session}
 use Rattle.core_state.specs.declared.kept.Session.TheVariants.{Idle, Writer, Reader}
 use Rattle.core_state.specs.declared.kept.Writing.{Writing}
 use Rattle.core_state.specs.declared.parts.Parts.{Parts}
 use Rattle.store_stops.specs.declared.stop.Stop.TheVariants.{Refused, NoMemory, DiskFailed}
-use Rattle.core_state.specs.Catalogue.{listed_by}
-use Rattle.core_state.specs.Changes.{Change, IsFirm, LeavesChange, MayLeave, after, by_stop, change_of, stays, undone, installs, stores, drops, finishes, forgets}
+use Rattle.core_state.specs.Catalogue.{listed_by, listed_on}
+use Rattle.core_state.specs.Changes.{Change, IsFirm, LeavesChange, MayLeave, after, by_stop, change_of, change_on, stays, undone, installs, stores, drops, finishes, forgets}
 use Rattle.core_state.specs.Chunks.{Adds, IsSafe}
-use Rattle.core_state.specs.Closing.{HasClosed, HasEnded, closes, is_reader, is_writer}
-use Rattle.core_state.specs.Commands.{ActDoes, ActLeaves, IsNoRefusal, LeavesRows, RowsStay, change_at, ends_session, calls_no_disk, is_still, leaves_writer, reads_only, row_stays}
-use Rattle.core_state.specs.PassedTests.{PassesItsTests}
+use Rattle.core_state.specs.Closing.{HasClosed, HasEnded, closes, is_ended, is_reader, is_writer}
+use Rattle.core_state.specs.Commands.{ActDoes, ActLeaves, IsNoRefusal, LeavesRows, OthersStay, RowsStay, change_at, ends_session, calls_no_disk, is_still, leaves_writer, reads_only, row_stays}
+use Rattle.core_state.specs.Kept.{KeptAt, kept_at}
+use Rattle.core_state.specs.PassedTests.{PassesFor, PassesItsTests}
 use Rattle.core_state.specs.Indexed.{FitsRows, row_in}
 use Rattle.core_state.specs.Holds.{Holds, IsOnDisk, Shows, Does, Acts}
-use Rattle.core_state.specs.Replies.{may_answer}
+use Rattle.store_history.specs.Replies.{may_answer}
 use Rattle.core_state.specs.Settles.{reply_by}
 use Rattle.core_state.specs.Shown.{shown_session, shown_reader, shown_writer}
 use Rattle.core_state.specs.States.{state_of}
@@ -71,6 +71,13 @@ pub writes_set : {D : Type 0} (old new : Parts D) (lane : ℕ) (left : Session) 
 writes_set old new lane left lt sets writes =
     let within : lane < length old.sessions.items = omega (arith, old.lanes, old.sessions.ok.0, lt) in
     ap (λ (xs : List Session). is_writer (get_or xs lane Idle)) sets ∙ ap is_writer (get_or-set_same old.sessions.items lane left Idle within) ∙ writes
+
+-- no other lane's session has changed
+pub others_same : {D : Type 0} (old new : Parts D) (lane : ℕ) → new.sessions.items ≡ old.sessions.items → OthersStay old new lane
+others_same old new lane same i other = ap (λ (xs : List Session). get_or xs i Idle) same
+
+pub others_set : {D : Type 0} (old new : Parts D) (lane : ℕ) (left : Session) → new.sessions.items ≡ set old.sessions.items lane left → OthersStay old new lane
+others_set old new lane left sets i other = ap (λ (xs : List Session). get_or xs i Idle) sets ∙ get_or-set_other old.sessions.items lane i left Idle other
 
 refusals_same : {A : Type 0} (a b : Refusal) → ◌≡◌ {A = Result A Refusal} (Err a) (Err b) → a ≡ b
 refusals_same a b e = cc
@@ -256,43 +263,48 @@ does_is remote w s lane moment acts.Short = refl
 does_is remote w s lane moment acts.End = refl
 
 -- a refused act leaves the catalogue
-pub unlisted : (act : Act) (refusal : Refusal) (number : ℕ) (x : Session) (catalogue : List Listed) → listed_by act (Some (replies.Refused refusal)) number x catalogue ≡ catalogue
-unlisted (acts.Plain Finish) refusal number x catalogue = refl
-unlisted (acts.Plain (Forget snapshot)) refusal number x catalogue = refl
-unlisted act refusal number x catalogue = refl
+pub unlisted : (act : Act) (refusal : Refusal) (number : ℕ) (k : KeptAt) → listed_by act (Some (replies.Refused refusal)) number k ≡ k.catalogue
+unlisted act refusal number k = by_list (profile act).list
+  where
+    by_list : (list : OnList) → listed_on list (Some (replies.Refused refusal)) number k ≡ k.catalogue
+    by_list same_list = refl
+    by_list lists = refl
+    by_list (takes_out snapshot) = refl
 
-unlisted_by : (act : Act) (stop : Stop) (number : ℕ) (x : Session) (catalogue : List Listed) → listed_by act (Some (reply_by (told (Err stop)))) number x catalogue ≡ catalogue
-unlisted_by act (Refused refusal) number x catalogue = unlisted act refusal number x catalogue
-unlisted_by act NoMemory number x catalogue = unlisted act _ number x catalogue
-unlisted_by act DiskFailed number x catalogue = unlisted act _ number x catalogue
+unlisted_by : (act : Act) (stop : Stop) (number : ℕ) (k : KeptAt) → listed_by act (Some (reply_by (told (Err stop)))) number k ≡ k.catalogue
+unlisted_by act (Refused refusal) number k = unlisted act refusal number k
+unlisted_by act NoMemory number k = unlisted act _ number k
+unlisted_by act DiskFailed number k = unlisted act _ number k
 
 -- an act that closes a session is done with none
 closes_ends : (act : Act) (x : Session) → closes act x ≡ true → ends_session act ≡ true
-closes_ends (acts.Plain Abort) x e = refl
-closes_ends (acts.Plain CloseReader) x e = refl
-closes_ends act x e = cc
+closes_ends act x e = by_sessions (profile act).sessions e
+  where
+    by_sessions : (sessions : OnSessions) → is_ended sessions x ≡ true → are_ended sessions ≡ true
+    by_sessions ends_writer e = refl
+    by_sessions ends_reader e = refl
+    by_sessions sessions e = cc
 
 false_true : false ≡ true → ⊥
 false_true e = cc
 
 -- an act that only reads changes nothing
-reads_stay : (act : Act) (session : Session) (catalogue : List Listed) → reads_only act ≡ true → change_of act session catalogue ≡ stays
-reads_stay (acts.Blob name checked) session catalogue only = cc
-reads_stay (acts.Chunk digest checked) session catalogue only = cc
-reads_stay (acts.Plain (CloseIndex number count size csum)) session catalogue only = cc
-reads_stay (acts.Plain Finish) session catalogue only = cc
-reads_stay (acts.Plain Abort) session catalogue only = cc
-reads_stay (acts.Plain (Forget snapshot)) session catalogue only = cc
-reads_stay acts.End session catalogue only = cc
-reads_stay act session catalogue only = refl
+reads_stay : (act : Act) (k : KeptAt) → reads_only act ≡ true → change_of act k ≡ stays
+reads_stay act k only = by_disk (profile act).disk only
+  where
+    by_disk : (disk : OnDisk) → not (is_changed disk) ≡ true → change_on disk k ≡ stays
+    by_disk no_call only = refl
+    by_disk only_reads only = refl
+    by_disk (disk_change change) only = cc
 
 -- of an act that only reads it says nothing
 reads_pass : (act : Act) (s : Store) (lane : ℕ) → reads_only act ≡ true → PassesItsTests act s lane
-reads_pass (acts.Blob name checked) s lane only = cc
-reads_pass (acts.Chunk digest checked) s lane only = cc
-reads_pass (acts.Plain Finish) s lane only = cc
-reads_pass (acts.Plain (Forget snapshot)) s lane only = cc
-reads_pass act s lane only = tt
+reads_pass act s lane only = by_disk (profile act).disk only
+  where
+    by_disk : (disk : OnDisk) → not (is_changed disk) ≡ true → PassesFor disk s lane
+    by_disk no_call only = tt
+    by_disk only_reads only = tt
+    by_disk (disk_change change) only = cc
 
 -- the acts that read the disk, and change nothing there
 abbrev pub reads_disk : Act → Bool
@@ -307,15 +319,12 @@ disk_called act reads no_disk_call = apart (calls_no_disk act) (and_parts (reads
 
 -- an act that makes no call of the disk changes nothing there
 no_disk_reads : (act : Act) → calls_no_disk act ≡ true → reads_only act ≡ true
-no_disk_reads (acts.Blob name checked) no_disk_call = cc
-no_disk_reads (acts.Chunk digest checked) no_disk_call = cc
-no_disk_reads (acts.Plain (CloseIndex number count size csum)) no_disk_call = cc
-no_disk_reads (acts.Plain Finish) no_disk_call = cc
-no_disk_reads (acts.Plain Abort) no_disk_call = cc
-no_disk_reads (acts.Plain (Forget snapshot)) no_disk_call = cc
-no_disk_reads acts.Step no_disk_call = cc
-no_disk_reads acts.End no_disk_call = cc
-no_disk_reads act no_disk_call = refl
+no_disk_reads act no_disk_call = by_disk (profile act).disk no_disk_call
+  where
+    by_disk : (disk : OnDisk) → not (is_called disk) ≡ true → not (is_changed disk) ≡ true
+    by_disk no_call no_disk_call = refl
+    by_disk only_reads no_disk_call = refl
+    by_disk (disk_change change) no_disk_call = cc
 
 pub not_still : {P : Type 0} (act : Act) → is_still act ≡ false → is_still act ≡ true → P
 not_still act other is = absurd (false_true (sym other ∙ is))
@@ -443,16 +452,16 @@ module _ {D : Type 0} (d : Ghosts D) where
   ok_firm old new change (Err stop) is = tt
 
   listed_so : (old new : Parts D) (at : Place) (act : Act) (result : Result Reply Stop) → new.catalogue.listed ≡ old.catalogue.listed
-      → IfOk result (λ reply. listed_by act (Some reply) at.number (session_at old at.lane) old.catalogue.listed ≡ old.catalogue.listed)
-      → new.catalogue.listed ≡ listed_by act (Some (reply_by (told result))) at.number (session_at old at.lane) old.catalogue.listed
+      → IfOk result (λ reply. listed_by act (Some reply) at.number (kept_at old at.lane) ≡ old.catalogue.listed)
+      → new.catalogue.listed ≡ listed_by act (Some (reply_by (told result))) at.number (kept_at old at.lane)
   listed_so old new at act (Ok reply) same is = same ∙ sym is
-  listed_so old new at act (Err stop) same is = same ∙ sym (unlisted_by act stop at.number (session_at old at.lane) old.catalogue.listed)
+  listed_so old new at act (Err stop) same is = same ∙ sym (unlisted_by act stop at.number (kept_at old at.lane))
 
   -- What an act that changed nothing must show beside that, where it was done: it is one that changes nothing.
   pub record DoneIdly (old : Parts D) (at : Place) (act : Act) (reply : Reply) : Type 0 where
     pub plain : IsNoRefusal reply
     pub change : change_at old at.lane act ≡ stays
-    pub listed : listed_by act (Some reply) at.number (session_at old at.lane) old.catalogue.listed ≡ old.catalogue.listed
+    pub listed : listed_by act (Some reply) at.number (kept_at old at.lane) ≡ old.catalogue.listed
     pub goes_on : ends_session act ≡ false
     pub writes : leaves_writer act ≡ true → is_writer (session_at old at.lane) ≡ true
 
@@ -465,7 +474,7 @@ module _ {D : Type 0} (d : Ghosts D) where
   changes_none old at act (Err stop) idly = tt
 
   lists_none : (old : Parts D) (at : Place) (act : Act) (result : Result Reply Stop) → IfOk result (DoneIdly old at act)
-      → IfOk result (λ reply. listed_by act (Some reply) at.number (session_at old at.lane) old.catalogue.listed ≡ old.catalogue.listed)
+      → IfOk result (λ reply. listed_by act (Some reply) at.number (kept_at old at.lane) ≡ old.catalogue.listed)
   lists_none old at act (Ok reply) idly = idly.listed
   lists_none old at act (Err stop) idly = tt
 
@@ -508,6 +517,7 @@ module _ {D : Type 0} (d : Ghosts D) where
     closed = closed_so old new at act result idly closed;
     ended = ends_none old new at act result idly;
     writes = still_writes old new at act result idly kept;
+    others = others_same old new at.lane kept.sessions;
     rows = rows;
   }
 
@@ -707,10 +717,10 @@ module _ {D : Type 0} (d : Ghosts D) where
   }
 
   pub changed_leaves : (old new : Parts D) (at : Place) (act : Act) (reply : Reply) → new.disk ≡ old.disk → IsNoRefusal reply → change_at old at.lane act ≡ stays
-      → new.catalogue.listed ≡ listed_by act (Some reply) at.number (session_at old at.lane) old.catalogue.listed
+      → new.catalogue.listed ≡ listed_by act (Some reply) at.number (kept_at old at.lane)
       → is_still act ≡ false → (ends_session act ≡ true → HasEnded new at.lane) → (leaves_writer act ≡ true → is_writer (session_at new at.lane) ≡ true) → LeavesRows old new at.lane act
-      → ActLeaves d old new at act (Ok reply)
-  changed_leaves old new at act reply same plain change listed other ended writes rows =
+      → OthersStay old new at.lane → ActLeaves d old new at act (Ok reply)
+  changed_leaves old new at act reply same plain change listed other ended writes rows others =
       let none = reads_none old.disk new.disk ⊥ same (λ f. f) in record {
         unchanged = done_unchanged old new reply plain;
         no_disk_call = λ _. same;
@@ -725,6 +735,7 @@ module _ {D : Type 0} (d : Ghosts D) where
         closed = λ closing. (ended (closes_ends act (session_at old at.lane) closing)).session;
         ended = ended;
         writes = writes;
+        others = others;
         rows = rows;
       }
 
@@ -748,14 +759,14 @@ module _ {D : Type 0} (d : Ghosts D) where
   pub writes_leaves : (old new : Parts D) (at : Place) (act : Act) (reply : Reply) → IsNoRefusal reply → calls_no_disk act ≡ false
       → (d.honest old.disk → d.content new.disk ≡ after (change_at old at.lane act) (d.content old.disk))
       → LeavesChange d old.disk new.disk (change_at old at.lane act) → IsFirm d old.disk new.disk (change_at old at.lane act)
-      → new.catalogue.listed ≡ listed_by act (Some reply) at.number (session_at old at.lane) old.catalogue.listed
+      → new.catalogue.listed ≡ listed_by act (Some reply) at.number (kept_at old at.lane)
       → (is_still act ≡ true → (new.sessions.items ≡ old.sessions.items) × (new.locks ≡ old.locks))
       → Adds d old new act (Ok reply) → (ends_session act ≡ true → HasEnded new at.lane) → (leaves_writer act ≡ true → is_writer (session_at new at.lane) ≡ true) → LeavesRows old new at.lane act
-      → ActLeaves d old new at act (Ok reply)
-  writes_leaves old new at act reply plain called content crash firm listed admin adds ended writes rows = record {
+      → OthersStay old new at.lane → ActLeaves d old new at act (Ok reply)
+  writes_leaves old new at act reply plain called content crash firm listed admin adds ended writes rows others = record {
     unchanged = done_unchanged old new reply plain;
     no_disk_call = λ no_disk_call. absurd (false_true (sym called ∙ no_disk_call));
-    reads = λ only h. content h ∙ ap (λ change. after change (d.content old.disk)) (reads_stay act (session_at old at.lane) old.catalogue.listed only);
+    reads = λ only h. content h ∙ ap (λ change. after change (d.content old.disk)) (reads_stay act (kept_at old at.lane) only);
     content = λ _. content;
     crash = crash;
     firm = firm;
@@ -766,6 +777,7 @@ module _ {D : Type 0} (d : Ghosts D) where
     closed = λ closing. (ended (closes_ends act (session_at old at.lane) closing)).session;
     ended = ended;
     writes = writes;
+    others = others;
     rows = rows;
   }
 
@@ -819,13 +831,14 @@ module _ {D : Type 0} (d : Ghosts D) where
         content = λ _. same was;
         crash = unmoved was;
         firm = tt;
-        listed = kept.catalogue ∙ sym (unlisted_by act NoMemory at.number (session_at old at.lane) old.catalogue.listed);
+        listed = kept.catalogue ∙ sym (unlisted_by act NoMemory at.number (kept_at old at.lane));
         admin = λ _. (kept.sessions, kept.locks);
         adds = adds_same d old new act (told (Err NoMemory)) (same was);
         passed_its_tests = λ f. absurd (not_memory f);
         closed = λ closing. absurd (going was closing);
         ended = λ _. tt;
         writes = λ _. tt;
+        others = others_same old new at.lane kept.sessions;
         rows = rows_kept old new at.lane true kept.indexes;
       }
       by_error disks.Failed was = record {
@@ -835,12 +848,13 @@ module _ {D : Type 0} (d : Ghosts D) where
         content = λ fine. absurd (fine refl);
         crash = crash;
         firm = tt;
-        listed = kept.catalogue ∙ sym (unlisted_by act DiskFailed at.number (session_at old at.lane) old.catalogue.listed);
+        listed = kept.catalogue ∙ sym (unlisted_by act DiskFailed at.number (kept_at old at.lane));
         admin = λ _. (kept.sessions, kept.locks);
         adds = λ s h. tt;
         passed_its_tests = λ _. passed_its_tests;
         closed = λ closing. tt;
         ended = λ _. tt;
         writes = λ _. tt;
+        others = others_same old new at.lane kept.sessions;
         rows = rows_kept old new at.lane true kept.indexes;
       }

@@ -14,7 +14,8 @@ use Rattle.store_history.specs.History.{moved, entry, sent_by}
 use Rattle.core_state.specs.declared.state.Core.{Core}
 use Rattle.core_state.specs.Collectors.{collector_by, open_in, shown_collecting}
 use Rattle.core_state.specs.Holds.{Shows, IsOnDisk, Holds}
-use Rattle.core_state.specs.Chunks.{HoldsOnly, AddsChunks}
+use Rattle.core_state.specs.Chunks.{AddsChunks}
+use Rattle.store_history.specs.ChunkFiles.{HoldsOnly}
 use Rattle.core_state.specs.History.{History, world, then_event, pieces_of, event_of, StandsFor}
 use Rattle.core_state.specs.Settles.{IsEntered, with_fault}
 use Rattle.core_state.specs.Begins.{ReadsClock, IsBegun}

@@ -22,7 +22,7 @@ use Rattle.core_state.specs.Begins.{IsNext, ReadsClock}
 use Rattle.core_state.specs.Changes.{IsFirm, LeavesChange, after, by_reply}
 use Rattle.core_state.specs.Collectors.{collector_by}
 use Rattle.core_state.specs.Closing.{HasEnded}
-use Rattle.core_state.specs.Commands.{ActDoes, ActLeaves, LeavesRows, change_at, row_stays_by}
+use Rattle.core_state.specs.Commands.{ActDoes, ActLeaves, LeavesRows, OthersStay, change_at, row_stays_by}
 use Rattle.core_state.specs.History.{History, StandsFor, world}
 use Rattle.core_state.specs.Holds.{Holds, Shows, Does}
 use Rattle.core_state.specs.Indexed.{row_at}
@@ -92,6 +92,7 @@ module _ {D E C : Type 0} (d : Ghosts D) (clock : clocks.Ghosts C) where
         (subst (λ p. IsFirm d p.disk (acted.parts).disk (change_at p at.lane End)) next.parts leaves.firm);
     listed = ap (λ p. p.catalogue.listed) entered.parts ∙ leaves.listed ∙ ap (λ p. p.catalogue.listed) next.parts;
     admin = λ is. absurd (false_true is);
+    others = λ i other. ap (λ p. session_at p i) entered.parts ∙ leaves.others i other ∙ ap (λ p. session_at p i) next.parts;
     ended = λ _ _. subst (λ p. HasEnded p at.lane) (sym entered.parts) (leaves.ended refl);
     rows = λ i keeps. ap (λ p. row_at p i) entered.parts ∙ leaves.rows i (λ is. sym (ap (λ r. row_stays_by r End) entered.reply_is) ∙ keeps is) ∙ ap (λ p. row_at p i) next.parts;
     halted = where_none _ _ none;
@@ -163,6 +164,7 @@ module _ {D E C : Type 0} (d : Ghosts D) (clock : clocks.Ghosts C) where
     firm = λ _. undone answer DiskFault settles.reply_is;
     listed = ap (λ p. p.catalogue.listed) settles.parts ∙ leaves.listed ∙ ap (λ p. p.catalogue.listed) next.parts;
     admin = λ is. absurd (false_true is);
+    others = λ i other. ap (λ p. session_at p i) settles.parts ∙ leaves.others i other ∙ ap (λ p. session_at p i) next.parts;
     ended = λ _. undone answer DiskFault settles.reply_is;
     rows = λ i _. ap (λ p. row_at p i) settles.parts ∙ leaves.rows i (λ _. refl) ∙ ap (λ p. row_at p i) next.parts;
     halted = where_none _ _ none;
@@ -220,9 +222,9 @@ module _ {D E C : Type 0} (d : Ghosts D) (clock : clocks.Ghosts C) where
   -- after a fault its session ends without a call of the disk
 
   end_halted_kept_at : (old mid acted new : Core D E C) (at : Place) (first : ℕ) (answer : Answer) → old.fault ≡ Some first → IsNext clock.readings old mid at.lane at → SameRest mid acted at.moment End None
-      → (acted.parts).disk ≡ (mid.parts).disk → (acted.parts).catalogue.listed ≡ (mid.parts).catalogue.listed → HasEnded acted.parts at.lane → LeavesRows mid.parts acted.parts at.lane End
+      → (acted.parts).disk ≡ (mid.parts).disk → (acted.parts).catalogue.listed ≡ (mid.parts).catalogue.listed → HasEnded acted.parts at.lane → OthersStay mid.parts acted.parts at.lane → LeavesRows mid.parts acted.parts at.lane End
       → IsEntered d acted new at.lane at.moment 6 None answer → ActKeeps d old new at.lane End answer
-  end_halted_kept_at old mid acted new at first answer some next rest same catalogue idle others entered =
+  end_halted_kept_at old mid acted new at first answer some next rest same catalogue idle apart others entered =
       let still = ap (λ p. p.disk) entered.parts ∙ same ∙ ap (λ p. p.disk) next.parts in record {
         unchanged = untold_unchanged d old.parts new.parts answer.reply entered.reply_is;
         no_disk_call = λ no_disk_call. absurd (false_true no_disk_call);
@@ -233,6 +235,7 @@ module _ {D E C : Type 0} (d : Ghosts D) (clock : clocks.Ghosts C) where
         firm = λ none. absurd (none_some first (sym some ∙ none));
         listed = ap (λ p. p.catalogue.listed) entered.parts ∙ catalogue ∙ ap (λ p. p.catalogue.listed) next.parts;
         admin = λ is. absurd (false_true is);
+        others = λ i other. ap (λ p. session_at p i) entered.parts ∙ apart i other ∙ ap (λ p. session_at p i) next.parts;
         ended = λ _ _. subst (λ p. HasEnded p at.lane) (sym entered.parts) idle;
         rows = λ i keeps. ap (λ p. row_at p i) entered.parts ∙ others i (λ is. sym (ap (λ r. row_stays_by r End) entered.reply_is) ∙ keeps is) ∙ ap (λ p. row_at p i) next.parts;
         halted = where_some _ _ still;
@@ -246,14 +249,14 @@ module _ {D E C : Type 0} (d : Ghosts D) (clock : clocks.Ghosts C) where
       }
 
   end_halted_at : (old mid acted new : Core D E C) (at : Place) (first : ℕ) (answer : Answer) → at.lane < 64 → old.fault ≡ Some first → IsNext clock.readings old mid at.lane at → SameRest mid acted at.moment End None
-      → (acted.parts).disk ≡ (mid.parts).disk → (acted.parts).catalogue.listed ≡ (mid.parts).catalogue.listed → HasEnded acted.parts at.lane → LeavesRows mid.parts acted.parts at.lane End → ((s : Store) → Shows mid.parts s → Shows acted.parts (ended_store s at.lane))
+      → (acted.parts).disk ≡ (mid.parts).disk → (acted.parts).catalogue.listed ≡ (mid.parts).catalogue.listed → HasEnded acted.parts at.lane → OthersStay mid.parts acted.parts at.lane → LeavesRows mid.parts acted.parts at.lane End → ((s : Store) → Shows mid.parts s → Shows acted.parts (ended_store s at.lane))
       → IsEntered d acted new at.lane at.moment 6 None answer → ActApplies d clock old new at.lane End answer
-  end_halted_at old mid acted new at first answer lt some next rest same catalogue idle others shows entered =
+  end_halted_at old mid acted new at first answer lt some next rest same catalogue idle apart others shows entered =
       let begun = next_begun clock.readings old mid at.lane at next in
       let answers = ended_answered d clock.readings ⊥ old mid acted new at.lane at.moment answer begun rest.journal rest.fault (untouched d (mid.parts).disk (acted.parts).disk same) entered in
       let timely = entered_timely d clock.readings old acted new at.lane at.moment 6 None answer (acted_clock old mid acted at next rest) entered in
       let cause = ended_caused d old acted new at.lane at.moment answer entered in
-      let keeps = end_halted_kept_at old mid acted new at first answer some next rest same catalogue idle others entered in record {
+      let keeps = end_halted_kept_at old mid acted new at first answer some next rest same catalogue idle apart others entered in record {
         history = λ h s kept clear. more h s clear;
         records = λ h. records_more d clock.readings old new at.lane End answer h answers timely (end_kind d old new End answer refl cause) (end_tells_reply d old new End answer cause) keeps.listed (early_by d clock old new at.lane End answer refl timely keeps);
         recovers = λ told start h s clear kept. recovers_more d clock old new at.lane End answer lt more answers cause keeps refl told start h s clear;
@@ -271,15 +274,15 @@ module _ {D E C : Type 0} (d : Ghosts D) (clock : clocks.Ghosts C) where
           (subst d.honest (sym (same ∙ ap (λ p. p.disk) next.parts)) s.honest) (shows (world h).store (subst (λ p. Shows p (world h).store) (sym next.parts) s.shows)) entered
 
   pub end_halted_applies : (old mid acted new : Core D E C) (lane : ℕ) (at : Place) (first : ℕ) (answer : Answer) → lane < 64 → old.fault ≡ Some first → IsNext clock.readings old mid lane at → SameRest mid acted at.moment End None
-      → (acted.parts).disk ≡ (mid.parts).disk → (acted.parts).catalogue.listed ≡ (mid.parts).catalogue.listed → HasEnded acted.parts at.lane → LeavesRows mid.parts acted.parts at.lane End → ((s : Store) → Shows mid.parts s → Shows acted.parts (ended_store s at.lane))
+      → (acted.parts).disk ≡ (mid.parts).disk → (acted.parts).catalogue.listed ≡ (mid.parts).catalogue.listed → HasEnded acted.parts at.lane → OthersStay mid.parts acted.parts at.lane → LeavesRows mid.parts acted.parts at.lane End → ((s : Store) → Shows mid.parts s → Shows acted.parts (ended_store s at.lane))
       → IsEntered d acted new at.lane at.moment 6 None answer → ActApplies d clock old new lane End answer
-  end_halted_applies old mid acted new lane at first answer lt some next rest same catalogue idle others shows entered =
+  end_halted_applies old mid acted new lane at first answer lt some next rest same catalogue idle apart others shows entered =
       subst (λ l. ActApplies d clock old new l End answer) next.lane_is
-      (end_halted_at old mid acted new at first answer (subst (λ l. l < 64) (sym next.lane_is) lt) some (next_at old mid lane at next) rest same catalogue idle others shows entered)
+      (end_halted_at old mid acted new at first answer (subst (λ l. l < 64) (sym next.lane_is) lt) some (next_at old mid lane at next) rest same catalogue idle apart others shows entered)
 
   pub end_halted_keeps_all : (old mid acted new : Core D E C) (lane : ℕ) (at : Place) (first : ℕ) (answer : Answer) → old.fault ≡ Some first → IsNext clock.readings old mid lane at → SameRest mid acted at.moment End None
-      → (acted.parts).disk ≡ (mid.parts).disk → (acted.parts).catalogue.listed ≡ (mid.parts).catalogue.listed → HasEnded acted.parts at.lane → LeavesRows mid.parts acted.parts at.lane End
+      → (acted.parts).disk ≡ (mid.parts).disk → (acted.parts).catalogue.listed ≡ (mid.parts).catalogue.listed → HasEnded acted.parts at.lane → OthersStay mid.parts acted.parts at.lane → LeavesRows mid.parts acted.parts at.lane End
       → IsEntered d acted new at.lane at.moment 6 None answer → ActKeeps d old new lane End answer
-  end_halted_keeps_all old mid acted new lane at first answer some next rest same catalogue idle others entered =
+  end_halted_keeps_all old mid acted new lane at first answer some next rest same catalogue idle apart others entered =
       subst (λ l. ActKeeps d old new l End answer) next.lane_is
-      (end_halted_kept_at old mid acted new at first answer some (next_at old mid lane at next) rest same catalogue idle others entered)
+      (end_halted_kept_at old mid acted new at first answer some (next_at old mid lane at next) rest same catalogue idle apart others entered)

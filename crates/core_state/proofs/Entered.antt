@@ -18,7 +18,7 @@ use Rattle.core_state.specs.Holds.{Shows, IsOnDisk}
 use Rattle.core_state.specs.History.{History, world, then_event, pieces_of, event_of, KeepsTime, StandsFor}
 use Rattle.core_state.specs.Settles.{IsEntered}
 use Rattle.core_state.specs.Begins.{ReadsClock}
-use Rattle.core_state.specs.Chunks.{HoldsOnly}
+use Rattle.store_history.specs.ChunkFiles.{HoldsOnly}
 use Rattle.core_state.proofs.Chunks.{pieces_more}
 
 -- the world after one more event

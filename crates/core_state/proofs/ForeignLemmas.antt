@@ -27,24 +27,26 @@ use Rattle.store_model.specs.Weave.{first_fault}
 use Rattle.store_history.specs.declared.act.Act.{Act}
 use Rattle.store_history.specs.declared.act.Act.TheVariants as acts
 use Rattle.store_history.specs.declared.act.Answer.{Answer}
+use Rattle.store_history.specs.Acts.{sent_chunk}
 use Rattle.store_history.specs.Saved.{book_name}
 use Rattle.backup_session.specs.Session.{Open}
 use Rattle.backup_session.specs.Steps.{begun_at}
 use Rattle.core_state.specs.declared.kept.Kept.{Kept}
-use Rattle.core_state.specs.declared.kept.Listed.{Listed}
 use Rattle.core_state.specs.declared.kept.Session.{Session}
 use Rattle.core_state.specs.declared.kept.Session.TheVariants.{Idle, Writer, Reader}
 use Rattle.core_state.specs.declared.kept.StoredFile.{StoredFile}
 use Rattle.core_state.specs.declared.kept.Writing.{Writing}
 use Rattle.core_state.specs.declared.state.Core.{Core}
-use Rattle.core_state.specs.Answers.{HasCause, EndHasCause, ReachHasCause, StartHasCause, StepHasCause, IsCaused, done, short, failed, halted, ended, end_failed, reach_reads, reach_failed, reach_as_any, start_opens, start_as_any, step_passes, step_ends, step_as_any, fault_after}
+use Rattle.core_state.specs.Answers.{HasCause, EndHasCause, ReachHasCause, StartHasCause, StepHasCause, IsCaused, done, short, failed, halted, ended, end_failed, reach_reads, reach_failed, reach_as_any, start_opens, start_as_any, step_passes, step_ends, step_as_any}
+use Rattle.store_history.specs.Answered.{fault_after}
 use Rattle.core_state.specs.Applies.{ActKeeps}
 use Rattle.core_state.specs.Changes.{Change, stays, undone, installs, stores, drops, finishes, forgets, after, by_reply, by_writer, change_of, chunk_put, blob_put, index_put, finish_by, finish_put, manifest_by, put_paths, names_beside, forgotten}
 use Rattle.core_state.specs.Commands.{change_at, is_step}
-use Rattle.core_state.specs.Foreign.{IsForeign, KeepsForeign}
+use Rattle.store_history.specs.Foreign.{IsForeign, KeepsForeign}
 use Rattle.core_state.specs.Holds.{Shows}
+use Rattle.core_state.specs.Kept.{KeptAt, kept_at}
 use Rattle.core_state.specs.Passes.{MayChange, StepLeaves}
-use Rattle.core_state.specs.Replies.{command_answers, may_answer, may_end, may_give}
+use Rattle.store_history.specs.Replies.{command_answers, may_answer, may_end, may_give}
 use Rattle.core_state.specs.Shown.{shown_file, shown_files, shown_session}
 use Rattle.core_state.specs.Wanted.{session_at}
 use Rattle.core_state.proofs.AnyPaths.{temporary_in}
@@ -66,8 +68,7 @@ misses_file q none key name = (none key name, λ e. none key (name ++ codes ".tm
 
 -- nor the name under which the act puts a chunk
 abbrev pub MissesChunk : List ℕ → Act → Type 0
-MissesChunk q (acts.Chunk digest checked) = Misses q (chunk_name digest.0)
-MissesChunk q act = Unit {0}
+MissesChunk q act = IfSome (sent_chunk act) (λ c. Misses q (chunk_name (c.0).0))
 
 -- each path of a change is another
 abbrev MissesAll : List ℕ → Change → Type 0
@@ -177,19 +178,19 @@ module _ (q : List ℕ) (none : IsNoFile q) where
   missed_forgotten (Some k) =
       (misses_file q none k.key manifest_name, All-map (Misses q) (file_path k.key) (names_beside k.files) (λ n name lt. misses_file q none k.key (get_or (names_beside k.files) n name)))
 
-  missed_change : (act : Act) (session : Session) (catalogue : List Listed) → MissesChunk q act → MissesFiles q session → MissesAll q (change_of act session catalogue)
-  missed_change (acts.Blob name checked) session catalogue chunk has = missed_writer q session _ has (λ w all. missed_blob name checked w)
-  missed_change (acts.Chunk digest checked) session catalogue chunk has = missed_writer q session _ has (λ w all. missed_stored q digest checked chunk)
-  missed_change acts.End session catalogue chunk has = missed_writer q session _ has (λ w all. missed_paths q w.files all)
-  missed_change (acts.Plain c) session catalogue chunk has = missed_command c
+  missed_change : (act : Act) (k : KeptAt) → MissesChunk q act → MissesFiles q k.session → MissesAll q (change_of act k)
+  missed_change (acts.Blob name checked) k chunk has = missed_writer q k.session _ has (λ w all. missed_blob name checked w)
+  missed_change (acts.Chunk digest checked) k chunk has = missed_writer q k.session _ has (λ w all. missed_stored q digest checked chunk)
+  missed_change acts.End k chunk has = missed_writer q k.session _ has (λ w all. missed_paths q w.files all)
+  missed_change (acts.Plain c) k chunk has = missed_command c
     where
-      missed_command : (c : Command) → MissesAll q (change_of (acts.Plain c) session catalogue)
-      missed_command (commands.CloseIndex number count size csum) = missed_writer q session _ has (λ w all. missed_index (begun_at number (w.session).writer) w)
-      missed_command commands.Finish = missed_finished q session has
-      missed_command commands.Abort = missed_writer q session _ has (λ w all. missed_paths q w.files all)
+      missed_command : (c : Command) → MissesAll q (change_of (acts.Plain c) k)
+      missed_command (commands.CloseIndex number count size csum) = missed_writer q k.session _ has (λ w all. missed_index (begun_at number (w.session).writer) w)
+      missed_command commands.Finish = missed_finished q k.session has
+      missed_command commands.Abort = missed_writer q k.session _ has (λ w all. missed_paths q w.files all)
       missed_command (commands.Forget snapshot) = missed_forgotten _
       missed_command c = tt
-  missed_change act session catalogue chunk has = tt
+  missed_change act k chunk has = tt
 
   missed_shown : (x : model.Session) (snapshots : List Rattle.store_files.specs.Archive.Snapshot) → MissesFiles q (shown_session snapshots x)
   missed_shown model.none snapshots = tt
@@ -301,7 +302,7 @@ pub others_kept : {D E C : Type 0} (d : Ghosts D) (old new : Core D E C) (s : St
 others_kept d old new s lane place act answer lt shows honest fault cause keeps no_step none q no_file chunk =
     let before = no_fault_before place (answer.entry).kind old.fault (sym fault ∙ none) in
     let has : MissesFiles q (session_at old.parts lane) = subst (MissesFiles q) (sym (session_shown old.parts s lane shows lt)) (missed_shown q no_file (session s lane) s.snapshots) in
-    let miss = missed_reply q (change_at old.parts lane act) answer.reply (missed_change q no_file act (session_at old.parts lane) (old.parts).catalogue.listed chunk has) in
+    let miss = missed_reply q (change_at old.parts lane act) answer.reply (missed_change q no_file act (kept_at old.parts lane) chunk has) in
     ap (λ m. get m q) (keeps.content no_step before (not_faulted d old new act answer cause none) honest)
     ∙ missed_after (by_reply (change_at old.parts lane act) answer.reply) (d.content (old.parts).disk) q miss
 

@@ -18,7 +18,7 @@ use Rattle.store_stops.specs.declared.stop.Stop.TheVariants.{Refused, NoMemory, 
 use Rattle.core_state.specs.Begins.{IsAdmitted, Refuses, short as is_out_of_memory, halted as is_halted}
 use Rattle.core_state.specs.Commands.{IsNoRefusal}
 use Rattle.core_state.specs.FromState.{ActTells, FromState, CoreTells, kept_reply}
-use Rattle.core_state.specs.Replies.{reply_told}
+use Rattle.store_history.specs.Replies.{reply_told}
 use Rattle.core_state.specs.Settles.{Settles, kind_by, reply_by}
 use Rattle.core_state.specs.Stops.{ended_by, told}
 

@@ -43,7 +43,8 @@ use Rattle.store_history.proofs.Checking.{checked_digest}
 use Rattle.store_history.specs.Sweeping.{Swept, swept_after, swept_at}
 use Rattle.store_history.proofs.SweptLonger.{is_swept_longer, swept_longer}
 use Rattle.core_state.specs.declared.state.Core.{Core}
-use Rattle.core_state.specs.Answers.{HasCause, IsAnswered, IsCaused, done, short, failed, halted, fault_after}
+use Rattle.core_state.specs.Answers.{HasCause, IsAnswered, IsCaused, done, short, failed, halted}
+use Rattle.store_history.specs.Answered.{fault_after}
 use Rattle.core_state.specs.Applies.{ActKeeps, IsClearFor}
 use Rattle.core_state.specs.Changes.{Change, after, by_reply}
 use Rattle.core_state.specs.Collectors.{collector_by}
@@ -51,7 +52,7 @@ use Rattle.core_state.specs.Commands.{change_at, is_step}
 use Rattle.core_state.specs.History.{History, StandsFor, event_of, then_event, world}
 use Rattle.core_state.specs.Holds.{IsOnDisk}
 use Rattle.core_state.specs.KeepsTouches.{KeepsTouches, swept_of, touches_of_history}
-use Rattle.core_state.specs.Replies.{may_answer}
+use Rattle.store_history.specs.Replies.{may_answer}
 use Rattle.core_state.specs.Upkeeps.{touches_kept}
 use Rattle.core_state.proofs.Chunks.{is_digest}
 use Rattle.core_state.proofs.Entered.{world_more}

@@ -47,9 +47,10 @@ use Rattle.core_state.specs.Commands.{is_step}
 use Rattle.core_state.specs.History.{History, StandsFor, event_of, then_event, world}
 use Rattle.core_state.specs.Holds.{Shows}
 use Rattle.core_state.specs.KeepsTouches.{KeepsTouches, swept_of}
+use Rattle.core_state.specs.Kept.{kept_at}
 use Rattle.core_state.specs.Numbers.{AreNumbered, DifferInNumber, first_number}
 use Rattle.core_state.specs.Shown.{shown_session, shown_snapshot, shown_writer}
-use Rattle.core_state.specs.Sweeps.{ArePages, HasNumber, HasPages, ShowsOpen, ShowsSweep, kept_at, unmarked_by}
+use Rattle.core_state.specs.Sweeps.{ArePages, HasNumber, HasPages, ShowsOpen, ShowsSweep, by_number, unmarked_by}
 use Rattle.core_state.specs.Wanted.{session_at}
 use Rattle.core_state.proofs.Commanding.{session_shown}
 use Rattle.core_state.proofs.Completing.{FinishIs, fails as finish_fails, finish_is, gives as finish_gives}
@@ -146,7 +147,7 @@ stays_open x (Some v) sweep is = refl
 -- What is left of each index is sifted by the test, and pages at hand stay its.
 record Sifts (acts : ℕ) (c c2 : List Listed) (s s2 : List Snapshot) (p : Unmarked → Bool) : Type 0 where
   pub unmarked : (is : List IndexAt) → All (HasNumber acts) is → (stage : Stage) → unmarked_by c2 s2 is stage ≡ filter p (unmarked_by c s is stage)
-  pub pages : (q : MarkedPages) (i : IndexAt) → HasNumber acts i → ArePages s i.name q (kept_at i.snapshot c) → ArePages s2 i.name q (kept_at i.snapshot c2)
+  pub pages : (q : MarkedPages) (i : IndexAt) → HasNumber acts i → ArePages s i.name q (by_number i.snapshot c) → ArePages s2 i.name q (by_number i.snapshot c2)
 
 filter_all : {A : Type 0} (p : A → Bool) → ((x : A) → p x ≡ true) → (xs : List A) → filter p xs ≡ xs
 filter_all p all [] = refl
@@ -183,7 +184,7 @@ module _ (acts : ℕ) (c c2 : List Listed) (s s2 : List Snapshot) (p : Unmarked 
   sifts_all listed snapshots all = record {
     unmarked = λ is numbers stage.
         ap (λ l. unmarked_by l s2 is stage) listed ∙ ap (λ l. unmarked_by c l is stage) snapshots ∙ sym (filter_all p all (unmarked_by c s is stage));
-    pages = λ q i number has. subst (λ l. ArePages l i.name q (kept_at i.snapshot c2)) (sym snapshots) (subst (λ l. ArePages s i.name q (kept_at i.snapshot l)) (sym listed) has);
+    pages = λ q i number has. subst (λ l. ArePages l i.name q (by_number i.snapshot c2)) (sym snapshots) (subst (λ l. ArePages s i.name q (by_number i.snapshot l)) (sym listed) has);
   }
 
 -- one is forgotten
@@ -199,7 +200,7 @@ sifts_forgotten : (acts : ℕ) (c : List Listed) (s : List Snapshot) (key : Snap
 sifts_forgotten acts c s key once = record {
   unmarked = λ is numbers stage. forgotten_unmarked c s key once is stage;
   pages = λ q i number has.
-      subst (ArePages (without_snapshot key s) i.name q) (sym (kept_forgotten i.snapshot key c once)) (forgotten_as s key i.name q (kept_at i.snapshot c) has);
+      subst (ArePages (without_snapshot key s) i.name q) (sym (kept_forgotten i.snapshot key c once)) (forgotten_as s key i.name q (by_number i.snapshot c) has);
 }
 
 -- one is finished
@@ -215,7 +216,7 @@ sifts_finished acts c s new x p few at key all = record {
       finished_unmarked acts c s new x key is (All-weaker (HasNumber acts) (λ (i : IndexAt). new.number ≢ i.snapshot) unused is numbers) stage ∙ sym (filter_all p all (unmarked_by c s is stage));
   pages = λ q i number has.
       subst (ArePages (insert_snapshot x s) i.name q) (sym (kept_inserted i.snapshot new c (unused i number)))
-      (finished_as s x i.name q (kept_at i.snapshot c) (λ k is. key i.snapshot k is) has);
+      (finished_as s x i.name q (by_number i.snapshot c) (λ k is. key i.snapshot k is) has);
 }
   where
     unused : (i : IndexAt) → HasNumber acts i → new.number ≢ i.snapshot
@@ -223,11 +224,11 @@ sifts_finished acts c s new x p few at key all = record {
         ⊎_elim {C = ⊥} (λ (lt : i.snapshot < acts). omega (arith, lt, e, at)) (λ (found : first_number ≤ i.snapshot). omega (arith, found, e, at, few)) has
 
 -- its key is that of none in the catalogue
-kept_passes : (P : Kept → Type 0) (c : List Listed) (number : ℕ) (k : Kept) → All P (map (λ x. x.kept) c) → kept_at number c ≡ Some k → P k
+kept_passes : (P : Kept → Type 0) (c : List Listed) (number : ℕ) (k : Kept) → All P (map (λ x. x.kept) c) → by_number number c ≡ Some k → P k
 kept_passes P [] number k all at = absurd (none_some k at)
 kept_passes P (x ∷ xs) number k all at = by_test (x.number == number) (kept_passes P xs number k (All-tail P x.kept (map (λ y. y.kept) xs) all)) at
   where
-    by_test : (b : Bool) → (kept_at number xs ≡ Some k → P k) → option_map (λ y. y.kept) (cond b (Some x) (find (λ y. y.number == number) xs)) ≡ Some k → P k
+    by_test : (b : Bool) → (by_number number xs ≡ Some k → P k) → option_map (λ y. y.kept) (cond b (Some x) (find (λ y. y.number == number) xs)) ≡ Some k → P k
     by_test true later e = subst P (some_same x.kept k e) (All-head P x.kept (map (λ y. y.kept) xs) all)
     by_test false later e = later e
 
@@ -286,7 +287,7 @@ module _ {D E C : Type 0} (d : Ghosts D) (clock : clocks.Ghosts C) (old new : Co
   record IsKnown (act : Act) : Type 0 where
     pub inside : (answer.entry).lane < 64
     pub formed : IsWellFormed act
-    pub listed : (new.parts).catalogue.listed ≡ listed_by act answer.reply acts (session_at old.parts k) c
+    pub listed : (new.parts).catalogue.listed ≡ listed_by act answer.reply acts (kept_at old.parts k)
     pub shows : Shows old.parts w.store
     pub right : Right h.remote w k m act answer.reply (class_of act) (kind_of n)
     pub numbers : AreNumbered acts c
@@ -303,7 +304,7 @@ module _ {D E C : Type 0} (d : Ghosts D) (clock : clocks.Ghosts C) (old new : Co
 
   -- ---- neither a FINISH nor a FORGET
 
-  others : (act : Act) → IsKnown act → moves_manifest act ≡ false → listed_by act answer.reply acts (session_at old.parts k) c ≡ c
+  others : (act : Act) → IsKnown act → moves_manifest act ≡ false → listed_by act answer.reply acts (kept_at old.parts k) ≡ c
       → ((u : Unmarked) → spares act answer.reply u ≡ true) → Sifted act
   others act f off none all =
       sifts_all acts c (new.parts).catalogue.listed snapshots (next act) (spares act answer.reply) (f.listed ∙ none) (next_is act ∙ moved_keeps h.remote w k m act (kind_of n) f.formed off) all
@@ -419,9 +420,9 @@ plans_more d clock old new lane act answer h lt formed answers keeps unstepped c
     later = ap (λ (v : Swept). v.sweep) (swept_longer h.remote h.opening h.events e) ∙ sweep_after h.remote (world h) (swept_of h) e (no_sweep act unstepped) opens_none
         ∙ sym (ap (λ (v : World). while_open v.collecting (option_map (spared act answer.reply) (swept_of h).sweep)) (world_more h e))
 
-    listed : c2 ≡ listed_by act answer.reply was (session_at old.parts (answer.entry).lane) c
-    listed = keeps.listed ∙ ap (λ n. listed_by act answer.reply n (session_at old.parts lane) c) answers.place
-        ∙ sym (ap (λ l. listed_by act answer.reply was (session_at old.parts l) c) answers.lane_is)
+    listed : c2 ≡ listed_by act answer.reply was (kept_at old.parts (answer.entry).lane)
+    listed = keeps.listed ∙ ap (λ n. listed_by act answer.reply n (kept_at old.parts lane)) answers.place
+        ∙ sym (ap (λ l. listed_by act answer.reply was (kept_at old.parts l)) answers.lane_is)
 
     its : Sifts was c c2 first then_has (spares act answer.reply)
     its = sifts d clock old new answer h act (record {

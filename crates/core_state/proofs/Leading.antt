@@ -34,14 +34,14 @@ use Rattle.store_history.specs.Legal.{Right}
 use Rattle.snapshot_files.specs.Standing.{Completes}
 use Rattle.snapshot_files.proofs.StandingLemmas.{stands_completed, stands_completing, stands_forgetting, stands_forgotten}
 use Rattle.chunk_store.specs.Pieces.{with_chunk}
-use Rattle.core_state.specs.declared.kept.Listed.{Listed}
 use Rattle.core_state.specs.declared.kept.Session.{Session}
 use Rattle.core_state.specs.declared.kept.Session.TheVariants.{Idle, Writer, Reader}
 use Rattle.core_state.specs.declared.state.Core.{Core}
 use Rattle.core_state.specs.Applies.{ActKeeps}
-use Rattle.core_state.specs.Changes.{Change, IsFirm, LeavesChange, MayLeave, after, by_reply, change_of, chunk_put, drops, finishes, forgets, installs, stays, stores, undone}
+use Rattle.core_state.specs.Changes.{Change, IsFirm, LeavesChange, MayLeave, after, by_reply, by_writer, change_of, chunk_put, drops, finishes, forgets, installs, stays, stores, undone}
 use Rattle.core_state.specs.Commands.{IsNoRefusal, change_at, is_step}
 use Rattle.core_state.specs.Holds.{Holds}
+use Rattle.core_state.specs.Kept.{KeptAt, kept_at}
 use Rattle.core_state.specs.PassedTests.{PassesItsTests}
 use Rattle.core_state.specs.Recovers.{TellsMoments}
 use Rattle.core_state.specs.Wanted.{session_at}
@@ -161,9 +161,9 @@ err_ok (Err x) e is ok = cc
 abbrev Puts : Digest32 → Result (List ℕ) Refusal → Change → Type 0
 Puts digest checked change = (change ≡ stays) ⊎ ((bytes : List ℕ) × (checked ≡ Ok bytes) × (change ≡ stores (chunk_name digest.0) bytes))
 
-chunk_change : (digest : Digest32) (checked : Result (List ℕ) Refusal) (x : Session) (catalogue : List Listed) (reply : Option Reply)
-    → Puts digest checked (by_reply (change_of (Chunk digest checked) x catalogue) reply)
-chunk_change digest checked x catalogue reply = by_session x
+chunk_change : (digest : Digest32) (checked : Result (List ℕ) Refusal) (k : KeptAt) (reply : Option Reply)
+    → Puts digest checked (by_reply (change_of (Chunk digest checked) k) reply)
+chunk_change digest checked k reply = by_session k.session
   where
     stays_by : (r : Option Reply) → by_reply stays r ≡ stays
     stays_by None = refl
@@ -182,7 +182,7 @@ chunk_change digest checked x catalogue reply = by_session x
         ⊎_elim {C = Puts digest checked (by_reply (stores (chunk_name digest.0) bytes) reply)} (λ none. inl none) (λ all. inr (bytes, was, all)) (kept_by (stores (chunk_name digest.0) bytes) reply)
     by_check (Err refusal) was = inl (stays_by reply)
 
-    by_session : (x : Session) → Puts digest checked (by_reply (change_of (Chunk digest checked) x catalogue) reply)
+    by_session : (x : Session) → Puts digest checked (by_reply (by_writer x (λ w. chunk_put digest checked)) reply)
     by_session Idle = inl (stays_by reply)
     by_session (Writer w) = by_check checked refl
     by_session (Reader r) = inl (stays_by reply)
@@ -235,8 +235,7 @@ module _ {D E C : Type 0} (d : Ghosts D) (told : TellsMoments d) (old new : Core
     leads_other : moves_manifest act ≡ false → spares_all act ≡ true → LeadsTo (next act)
     leads_other off is =
         let spares : Spares now (change_at old.parts k act) =
-        subst (λ x. Spares now (change_of act x (old.parts).catalogue.listed)) (sym (session_shown old.parts w.store k (f.holds).shows f.inside))
-        (spares_change w.store k ((f.holds).shows).sound act (old.parts).catalogue.listed is) in
+        spares_change w.store k ((f.holds).shows).sound (kept_at old.parts k) (session_shown old.parts w.store k (f.holds).shows f.inside) act is in
         let change = by_reply (change_at old.parts k act) answer.reply in
         leads_same d told (old.parts).disk (new.parts).disk ((n == 5) ≡ false) now (next act) change ((f.keeps).crash f.no) (moves_none off)
         (λ b c may s. stands_spared now change (d.content (old.parts).disk) b c (spares_reply now (change_at old.parts k act) answer.reply spares) may s)
@@ -286,7 +285,7 @@ module _ {D E C : Type 0} (d : Ghosts D) (told : TellsMoments d) (old new : Core
         → next_store R w k (answer.entry).moment gone n ≡ forgot w.store key → LeadsTo (next gone)
     forget_given key x named there all reply store =
         let whole = found_whole now key x (((f.holds).shows).sound).each there in
-        let is = forget_changes text (old.parts).catalogue.listed now key x ((f.holds).shows).catalogue named there in
+        let is = forget_changes text (kept_at old.parts k) now key x ((f.holds).shows).catalogue named there in
         subst LeadsTo (sym (ap (λ (s : Store). s.snapshots) store ∙ ap (λ q. without_snapshot q now) (sym (found_key now key x there))))
         (leads_forget d told (old.parts).disk (new.parts).disk ((n == 5) ≡ false) now x whole (crash_as gone f _ all is) (firm_as gone f _ is reply))
 
@@ -330,6 +329,6 @@ module _ {D E C : Type 0} (d : Ghosts D) (told : TellsMoments d) (old new : Core
   leads (Plain Finish) f = by_finish f (finish_is w.store k) (came_to R w k (answer.entry).moment fin answer.reply n f.none_there f.right)
   leads (Plain (Forget text)) f = by_forget text f (forget_is w.store k text) (came_to R w k (answer.entry).moment (Plain (Forget text)) answer.reply n f.none_there f.right)
   leads (Chunk digest checked) f =
-      by_change digest checked f (chunk_change digest checked (session_at old.parts k) (old.parts).catalogue.listed answer.reply)
+      by_change digest checked f (chunk_change digest checked (kept_at old.parts k) answer.reply)
       (came_to R w k (answer.entry).moment (Chunk digest checked) answer.reply n f.none_there f.right)
   leads act f = leads_other act f refl refl

@@ -29,12 +29,17 @@ pub mod Found
 pub mod KeptPages
 pub mod Naming
 pub mod Unreadables
+pub mod DamageLemmas
 pub mod Asking
 pub mod Readers
 pub mod Commanding
 pub mod Calls
 pub mod Touching
 pub mod FromState
+pub mod Telling
+pub mod Untold
+pub mod Decided
+pub mod HeadLemmas
 pub mod Applying
 pub mod Starts
 pub mod Ending

@@ -148,6 +148,25 @@ filtered lane xs i h = (
   λ e. not_both (not_of lane i) (All-contains (λ j. not_of lane j ≡ true) (filter (not_of lane) xs) i (filter_passes (not_of lane) xs) h) (ap not (eq-eqb i lane e)),
 )
 
+-- a lane that has let all go holds nothing
+module _ (old new : Locks) (lane : ℕ) (releases : Releases old new lane) where
+  pub holds_no_group : (group : GroupKey) → book.group_holder new group ≡ Some lane → ⊥
+  holds_no_group group held = by_holder (book.group_holder old group) (sym (releases.groups group) ∙ held)
+    where
+      by_holder : (o : Option ℕ) → other_than lane o ≡ Some lane → ⊥
+      by_holder None e = cc
+      by_holder (Some holder) e = by_test (eqb holder lane) refl e
+        where
+          by_test : (b : Bool) → eqb holder lane ≡ b → cond b None (Some holder) ≡ Some lane → ⊥
+          by_test true is e = cc
+          by_test false is e = not_both (eqb holder lane) (eq-eqb holder lane (one holder lane e)) is
+            where
+              one : (a b : ℕ) → Some a ≡ Some b → a ≡ b
+              one a b e = cc
+
+  pub shares_none : (key : SnapshotKey) → Contains (sharers new key) lane → ⊥
+  shares_none key there = (filtered lane (sharers old key) lane (subst (λ xs. Contains xs lane) (releases.shared key) there)).1 refl
+
 still_there : (lane : ℕ) (xs : List ℕ) (i : ℕ) → Contains xs i → i ≢ lane → Contains (filter (not_of lane) xs) i
 still_there lane xs i h ne = in_filter (not_of lane) xs i h.0 h.1 h.2 (ap not (ne_eqb i lane ne))
 

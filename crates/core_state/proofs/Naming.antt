@@ -13,7 +13,9 @@ use Rattle.store_files.specs.Archive.{Snapshot}
 use Rattle.store_model.specs.Store.{snapshot_named}
 use Rattle.core_state.specs.declared.kept.Kept.{Kept}
 use Rattle.core_state.specs.declared.kept.Listed.{Listed}
-use Rattle.core_state.specs.Found.{kept_named, named_kept}
+use Rattle.core_state.specs.Found.{kept_named}
+use Rattle.core_state.specs.Heads.{key_in, named_kept}
+use Rattle.core_state.specs.Kept.{KeptAt}
 use Rattle.core_state.specs.Named.{has_text, is_named_snapshot, is_short_name}
 use Rattle.core_state.specs.Shown.{shown_snapshot}
 use Rattle.core_state.proofs.Finding.{found_in, found_passes, mapped}
@@ -22,19 +24,19 @@ use Rattle.core_state.proofs.Found.{kept_is}
 abbrev pub kept_by : List Listed → Option SnapshotKey → Result Kept Refusal
 kept_by catalogue o = or_else BadName o >>= λ key. or_else NoSnapshot (kept_named key catalogue)
 
-pub named_by : (text : List ℕ) (catalogue : List Listed) → named_kept text catalogue ≡ kept_by catalogue (key_of text)
-unfolding named_kept
-named_by text catalogue = refl
+module _ (text : List ℕ) (at : KeptAt) where
+  pub named_by : named_kept text at ≡ kept_by at.catalogue (key_of text)
+  unfolding named_kept key_in
+  named_by = refl
 
-module _ (text : List ℕ) (catalogue : List Listed) where
-  pub none_named : key_of text ≡ None → named_kept text catalogue ≡ Err BadName
-  none_named none = named_by text catalogue ∙ ap (kept_by catalogue) none
+  pub none_named : key_of text ≡ None → named_kept text at ≡ Err BadName
+  none_named none = named_by ∙ ap (kept_by at.catalogue) none
 
-  pub none_kept : (key : SnapshotKey) → key_of text ≡ Some key → kept_named key catalogue ≡ None → named_kept text catalogue ≡ Err NoSnapshot
-  none_kept key some none = named_by text catalogue ∙ ap (kept_by catalogue) some ∙ ap (or_else NoSnapshot) none
+  pub none_kept : (key : SnapshotKey) → key_of text ≡ Some key → kept_named key at.catalogue ≡ None → named_kept text at ≡ Err NoSnapshot
+  none_kept key some none = named_by ∙ ap (kept_by at.catalogue) some ∙ ap (or_else NoSnapshot) none
 
-  pub named_is : (key : SnapshotKey) (k : Kept) → key_of text ≡ Some key → kept_named key catalogue ≡ Some k → named_kept text catalogue ≡ Ok k
-  named_is key k some there = named_by text catalogue ∙ ap (kept_by catalogue) some ∙ ap (or_else NoSnapshot) there
+  pub named_is : (key : SnapshotKey) (k : Kept) → key_of text ≡ Some key → kept_named key at.catalogue ≡ Some k → named_kept text at ≡ Ok k
+  named_is key k some there = named_by ∙ ap (kept_by at.catalogue) some ∙ ap (or_else NoSnapshot) there
 
 -- ---- what was found
 

@@ -6,15 +6,15 @@ use Rattle.std.specs.List.{All}
 use Rattle.std.specs.Prelude.{AllPairs, not}
 use Rattle.store_types.specs.declared.names.SnapshotKey.{SnapshotKey}
 use Rattle.store_types.specs.Names.{key_lt, key_of, same_key}
-use Rattle.wire_commands.specs.declared.command.Command.TheVariants.{Finish, Forget}
 use Rattle.wire_commands.specs.declared.reply.Reply.{Reply}
 use Rattle.wire_commands.specs.declared.reply.Reply.TheVariants.{Done}
 use Rattle.store_history.specs.declared.act.Act.{Act}
-use Rattle.store_history.specs.declared.act.Act.TheVariants.{Plain}
+use Rattle.store_history.specs.Profile.{OnList, same_list, lists, takes_out, profile}
 use Rattle.core_state.specs.declared.kept.Listed.{Listed}
 use Rattle.core_state.specs.declared.kept.Session.{Session}
 use Rattle.core_state.specs.declared.kept.Session.TheVariants.{Idle, Writer, Reader}
-use Rattle.core_state.specs.Catalogue.{closed, closed_by, forgotten_by, insert_listed, listed_by, listed_of, without_listed, without_named}
+use Rattle.core_state.specs.Catalogue.{closed, closed_by, forgotten_by, insert_listed, listed_by, listed_of, listed_on, without_listed, without_named}
+use Rattle.core_state.specs.Kept.{KeptAt}
 use Rattle.core_state.specs.Numbers.{AreNumbered, DifferInNumber, IsGiven, first_number}
 
 -- ---- one snapshot more
@@ -90,8 +90,11 @@ module _ (acts : ℕ) (few : acts < first_number) (xs : List Listed) (h : AreNum
   by_forget text (Some Done) = by_key (key_of text)
   by_forget text (Some reply) = later
 
-  -- a FINISH gives the number of its entry's place
-  pub numbered_by : (act : Act) (reply : Option Reply) (session : Session) → AreNumbered (acts + 1) (listed_by act reply acts session xs)
-  numbered_by (Plain Finish) reply session = by_finish session reply
-  numbered_by (Plain (Forget text)) reply session = by_forget text reply
-  numbered_by act reply session = later
+-- a FINISH gives the number of its entry's place
+pub numbered_by : (acts : ℕ) → acts < first_number → (k : KeptAt) → AreNumbered acts k.catalogue → (act : Act) (reply : Option Reply) → AreNumbered (acts + 1) (listed_by act reply acts k)
+numbered_by acts few k h act reply = by_list (profile act).list
+  where
+    by_list : (list : OnList) → AreNumbered (acts + 1) (listed_on list reply acts k)
+    by_list same_list = later acts few k.catalogue h
+    by_list lists = by_finish acts few k.catalogue h k.session reply
+    by_list (takes_out text) = by_forget acts few k.catalogue h text reply

@@ -18,7 +18,7 @@ use Rattle.core_state.specs.declared.kept.Listed.{Listed}
 use Rattle.core_state.specs.declared.marked.MarkedPages.{MarkedPages}
 use Rattle.core_state.specs.Catalogue.{insert_listed, without_listed}
 use Rattle.core_state.specs.Numbers.{DifferInNumber}
-use Rattle.core_state.specs.Sweeps.{AreOfText, ArePages, digests_in, digests_named, kept_at, left_at, left_in, left_of_kept}
+use Rattle.core_state.specs.Sweeps.{AreOfText, ArePages, by_number, digests_in, digests_named, left_at, left_in, left_of_kept}
 use Rattle.core_state.proofs.Numbering.{head_differs, tail_differs}
 use Rattle.core_state.proofs.Readers.{named_still}
 
@@ -44,7 +44,7 @@ inserted_at number new (x ∷ xs) off = by_order (key_lt (new.kept).key (x.kept)
     by_order false ih = ap (cond (x.number == number) (Some x)) ih
 
 -- one more, with another number
-pub kept_inserted : (number : ℕ) (new : Listed) (xs : List Listed) → new.number ≢ number → kept_at number (insert_listed new xs) ≡ kept_at number xs
+pub kept_inserted : (number : ℕ) (new : Listed) (xs : List Listed) → new.number ≢ number → by_number number (insert_listed new xs) ≡ by_number number xs
 kept_inserted number new xs other = ap (option_map (λ x. x.kept)) (inserted_at number new xs (not_equal new.number number other))
 
 none_numbered : (number : ℕ) (key : SnapshotKey) (xs : List Listed) → All (λ (y : Listed). y.number ≢ number) xs → numbered number (without_listed key xs) ≡ None
@@ -64,7 +64,7 @@ keep_unless key None = None
 keep_unless key (Some k) = cond (same_key k.key key) None (Some k)
 
 -- one less
-pub kept_forgotten : (number : ℕ) (key : SnapshotKey) (xs : List Listed) → AllPairs DifferInNumber xs → kept_at number (without_listed key xs) ≡ keep_unless key (kept_at number xs)
+pub kept_forgotten : (number : ℕ) (key : SnapshotKey) (xs : List Listed) → AllPairs DifferInNumber xs → by_number number (without_listed key xs) ≡ keep_unless key (by_number number xs)
 kept_forgotten number key [] once = refl
 kept_forgotten number key (x ∷ xs) once =
     by_test (x.number == number) refl (same_key (x.kept).key key) refl (kept_forgotten number key xs (tail_differs x xs once))
@@ -72,11 +72,11 @@ kept_forgotten number key (x ∷ xs) once =
     others : (x.number == number) ≡ true → All (λ (y : Listed). y.number ≢ number) xs
     others at = All-weaker (DifferInNumber x) (λ (y : Listed). y.number ≢ number) (λ y differs same. differs (eqb-true x.number number at ∙ sym same)) xs (head_differs x xs once)
 
-    right : (b : Bool) → (x.number == number) ≡ b → keep_unless key (option_map (λ y. y.kept) (cond b (Some x) (numbered number xs))) ≡ keep_unless key (kept_at number (x ∷ xs))
+    right : (b : Bool) → (x.number == number) ≡ b → keep_unless key (option_map (λ y. y.kept) (cond b (Some x) (numbered number xs))) ≡ keep_unless key (by_number number (x ∷ xs))
     right b at = sym (ap (λ t. keep_unless key (option_map (λ y. y.kept) (cond t (Some x) (numbered number xs)))) at)
 
-    by_test : (b : Bool) → (x.number == number) ≡ b → (g : Bool) → same_key (x.kept).key key ≡ g → kept_at number (without_listed key xs) ≡ keep_unless key (kept_at number xs)
-        → option_map (λ y. y.kept) (numbered number (cond (not g) (x ∷ without_listed key xs) (without_listed key xs))) ≡ keep_unless key (kept_at number (x ∷ xs))
+    by_test : (b : Bool) → (x.number == number) ≡ b → (g : Bool) → same_key (x.kept).key key ≡ g → by_number number (without_listed key xs) ≡ keep_unless key (by_number number xs)
+        → option_map (λ y. y.kept) (numbered number (cond (not g) (x ∷ without_listed key xs) (without_listed key xs))) ≡ keep_unless key (by_number number (x ∷ xs))
     by_test true at true gone ih =
         ap (option_map (λ y. y.kept)) (none_numbered number key xs (others at)) ∙ sym (ap (λ t. cond t None (Some (x.kept))) gone) ∙ right true at
     by_test true at false gone ih =
@@ -102,9 +102,9 @@ module _ (catalogue : List Listed) (snapshots : List Snapshot) where
   module _ (new : Listed) (x : Snapshot) where
     -- the key is none's that is kept
     abbrev pub IsNewKey : Type 0
-    IsNewKey = (number : ℕ) (k : Kept) → kept_at number catalogue ≡ Some k → same_key x.key k.key ≡ false
+    IsNewKey = (number : ℕ) (k : Kept) → by_number number catalogue ≡ Some k → same_key x.key k.key ≡ false
 
-    finished_kept : IsNewKey → (number : ℕ) (name : List ℕ) (first : ℕ) (o : Option Kept) → kept_at number catalogue ≡ o
+    finished_kept : IsNewKey → (number : ℕ) (name : List ℕ) (first : ℕ) (o : Option Kept) → by_number number catalogue ≡ o
         → left_of_kept (insert_snapshot x snapshots) name first o ≡ left_of_kept snapshots name first o
     finished_kept fresh number name first None at = refl
     finished_kept fresh number name first (Some k) at =
@@ -114,7 +114,7 @@ module _ (catalogue : List Listed) (snapshots : List Snapshot) where
         → left_at (insert_listed new catalogue) (insert_snapshot x snapshots) first i ≡ left_at catalogue snapshots first i
     finished_left fresh i other first =
         ap (left_of_kept (insert_snapshot x snapshots) i.name first) (kept_inserted i.snapshot new catalogue other)
-        ∙ finished_kept fresh i.snapshot i.name first (kept_at i.snapshot catalogue) refl
+        ∙ finished_kept fresh i.snapshot i.name first (by_number i.snapshot catalogue) refl
 
   -- the snapshot with this key is forgotten
   module _ (key : SnapshotKey) where
@@ -147,7 +147,7 @@ module _ (catalogue : List Listed) (snapshots : List Snapshot) where
         → left_at (without_listed key catalogue) (without_snapshot key snapshots) first i ≡ filter spares (left_at catalogue snapshots first i)
     forgotten_left once i first =
         ap (left_of_kept (without_snapshot key snapshots) i.name first) (kept_forgotten i.snapshot key catalogue once)
-        ∙ forgotten_kept i.name first (kept_at i.snapshot catalogue)
+        ∙ forgotten_kept i.name first (by_number i.snapshot catalogue)
 
 -- ---- over the list of indexes
 

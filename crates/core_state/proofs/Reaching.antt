@@ -15,7 +15,7 @@ use Rattle.core_state.specs.History.{History, IsClear, StandsFor, event_of, then
 use Rattle.core_state.specs.KeepsTouches.{KeepsTouches}
 use Rattle.core_state.specs.Records.{Reaches, Records, Starts, opened_with}
 use Rattle.core_state.specs.Recovers.{Recovers, TellsMoments}
-use Rattle.core_state.specs.Remotes.{ReadNoRemote, ShowsRead, ShowsRemote, reads_remote}
+use Rattle.store_history.specs.RemoteDisk.{ReadNoRemote, ShowsRead, ShowsRemote, reads_remote}
 use Rattle.core_state.proofs.Chunks.{clear_before}
 use Rattle.core_state.proofs.ForeignLemmas.{foreign_kept, no_fault_before}
 use Rattle.core_state.proofs.Recovering.{clear_for, kept_for}

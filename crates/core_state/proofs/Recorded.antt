@@ -21,13 +21,14 @@ use Rattle.atime_book.specs.Touches.{NoneAfter}
 use Rattle.store_history.proofs.Longer.{moment_more, entries_more}
 use Rattle.core_state.specs.declared.state.Core.{Core}
 use Rattle.core_state.specs.History.{History, then_event, event_of}
+use Rattle.core_state.specs.Kept.{kept_at}
 use Rattle.core_state.specs.Settles.{IsEntered, Settles, with_fault, fault_by, kind_by}
 use Rattle.core_state.specs.Begins.{ReadsClock, IsShort, Refuses, short, halted}
-use Rattle.core_state.specs.Answers.{IsAnswered, fault_after, HasCause, done, short as was_short, failed, halted as was_halted, ReachHasCause, reach_reads, reach_failed, reach_as_any, StartHasCause, start_opens, start_as_any, StepHasCause, step_passes, step_ends, step_as_any, EndHasCause, ended, end_failed}
-use Rattle.core_state.specs.Records.{IsTimely, FitsKind, FitsReply, GivesReply, IsKept, AreKept, fault_in, Records}
+use Rattle.core_state.specs.Answers.{IsAnswered, HasCause, done, short as was_short, failed, halted as was_halted, ReachHasCause, reach_reads, reach_failed, reach_as_any, StartHasCause, start_opens, start_as_any, StepHasCause, step_passes, step_ends, step_as_any, EndHasCause, ended, end_failed}
+use Rattle.store_history.specs.Answered.{fault_after, FitsKind, FitsReply, GivesReply, IsKept, AreKept, fault_in}
+use Rattle.core_state.specs.Records.{IsTimely, Records}
 use Rattle.core_state.specs.Catalogue.{Lists, listed_by}
 use Rattle.core_state.specs.Numbers.{AreNumbered}
-use Rattle.core_state.specs.Wanted.{session_at}
 use Rattle.core_state.proofs.Entered.{time_more}
 use Rattle.core_state.proofs.Numbering.{numbered_by}
 
@@ -59,10 +60,10 @@ numbers_more old new lane act answer place entered lists numbers =
     let was = length (old.journal).entries.items in
     let few : was < 2 ^ 63 = omega (arith, (old.journal).entries.ok.0, (old.journal).entries.ok.1, (old.journal).entries.small) in
     let count : length (new.journal).entries.items ≡ was + 1 = let n = ap length entered in omega (arith, n, length-append (old.journal).entries.items (answer.entry ∷ [])) in
-    let items : (new.parts).catalogue.listed ≡ listed_by act answer.reply was (session_at old.parts lane) (old.parts).catalogue.listed =
-    lists ∙ ap (λ n. listed_by act answer.reply n (session_at old.parts lane) (old.parts).catalogue.listed) place in
+    let items : (new.parts).catalogue.listed ≡ listed_by act answer.reply was (kept_at old.parts lane) =
+    lists ∙ ap (λ n. listed_by act answer.reply n (kept_at old.parts lane)) place in
     subst (λ n. AreNumbered n (new.parts).catalogue.listed) (sym count)
-    (subst (AreNumbered (was + 1)) (sym items) (numbered_by was few (old.parts).catalogue.listed numbers act answer.reply (session_at old.parts lane)))
+    (subst (AreNumbered (was + 1)) (sym items) (numbered_by was few (kept_at old.parts lane) numbers act answer.reply))
 
 pub records_more : {D E C : Type 0} (d : Ghosts D) (readings : C → Option Readings) (old new : Core D E C) (lane : ℕ) (act : Act) (answer : Answer) (h : History)
     → IsAnswered d old new lane answer → IsTimely readings old new answer → FitsKind (class_of act) old.fault (answer.entry).kind

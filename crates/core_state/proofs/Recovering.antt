@@ -20,7 +20,8 @@ use Rattle.store_history.specs.Legal.{IsLegal, IsRight}
 use Rattle.store_history.proofs.Longer.{calls_risen}
 use Rattle.store_history.proofs.Prefixes.{reopens_before, reopens_from, reopens_halted, reopens_to}
 use Rattle.core_state.specs.declared.state.Core.{Core}
-use Rattle.core_state.specs.Answers.{IsAnswered, IsCaused, fault_after}
+use Rattle.core_state.specs.Answers.{IsAnswered, IsCaused}
+use Rattle.store_history.specs.Answered.{fault_after}
 use Rattle.core_state.specs.Applies.{ActKeeps, IsClearFor, IsKeptFor}
 use Rattle.core_state.specs.Changes.{Change, LeavesChange}
 use Rattle.core_state.specs.Commands.{is_step}

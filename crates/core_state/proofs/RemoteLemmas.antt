@@ -10,7 +10,8 @@ use Rattle.store_files.specs.Archive.{Snapshot}
 use Rattle.store_model.specs.Stands.{StandsFor as Stands}
 use Rattle.disk_trait.proofs.OnlyReading.{same_then}
 use Rattle.core_state.specs.declared.state.Core.{Core}
-use Rattle.core_state.specs.Remotes.{IsRead, RemoteServes, RemoteStays, ShowsRemote, failed_reads, faults_of}
+use Rattle.core_state.specs.Remotes.{RemoteServes}
+use Rattle.store_history.specs.RemoteDisk.{IsRead, RemoteStays, ShowsRemote, failed_reads, faults_of}
 
 -- ---- the failed reads in the order
 

@@ -1,5 +1,5 @@
 -- How a read of the remote is entered, on any disk, and for each history.
-use Rattle.std.proofs.Common.{◌≡◌, ◌<◌, ◌≤◌, ◌⊎◌, ◌==◌, ◌&&◌, ◌||◌, ⊎_elim, ℕ, Bool, true, false, not, is_some, length, List, Option, Some, None, IfSome, IsTrue, Result, Ok, Err, inl, inr, refl, sym, ap, subst, ◌∙◌, arith}
+use Rattle.std.proofs.Common.{◌≡◌, ◌<◌, ◌≤◌, ◌⊎◌, ◌==◌, ◌&&◌, ◌||◌, ⊎_elim, ℕ, Bool, true, false, not, is_some, length, Option, Some, None, IfSome, IsTrue, Result, Ok, Err, inl, inr, refl, sym, ap, subst, ◌∙◌, arith}
 use Rattle.std.proofs.lemmas.Bool.{eqb-true}
 use Rattle.disk_trait.specs.Disk.{Rose}
 use Rattle.disk_trait.specs.declared.disk.Disk.{Ghosts}
@@ -21,12 +21,12 @@ use Rattle.store_history.specs.Legal.{Right}
 use Rattle.store_history.specs.Remote.{ReadsIn, may_read}
 use Rattle.store_history.proofs.Families.{by_remote}
 use Rattle.core_state.specs.declared.entering.Admitted.TheVariants.{Answered}
-use Rattle.core_state.specs.declared.kept.Listed.{Listed}
 use Rattle.core_state.specs.declared.kept.Session.{Session}
 use Rattle.core_state.specs.declared.parts.Parts.{Parts}
 use Rattle.core_state.specs.declared.state.Core.{Core}
 use Rattle.store_stops.specs.declared.stop.Stop.{Stop}
 use Rattle.store_stops.specs.declared.stop.Stop.TheVariants as stops
+use Rattle.store_history.specs.Answered.{fault_after}
 use Rattle.core_state.specs.Answers.{ClassHasCause, EndHasCause, HasCause, IsAnswered, IsCaused, ReachHasCause, StartHasCause, StepHasCause, done, end_failed, ended as has_ended, failed, halted, reach_as_any, reach_failed, reach_reads, short, start_as_any, start_opens, step_as_any, step_ends, step_passes}
 use Rattle.core_state.specs.Applies.{ActApplies, ActKeeps, CoreApplies}
 use Rattle.core_state.specs.Begins.{AdmittedHasText, IsBegun, IsNotShort, IsReady, Refuses}
@@ -34,18 +34,20 @@ use Rattle.core_state.specs.Catalogue.{listed_by}
 use Rattle.core_state.specs.Changes.{IsFirm, after, by_reply, stays}
 use Rattle.core_state.specs.Closing.{closes, closes_by, is_closing}
 use Rattle.core_state.specs.Collectors.{collector_by, open_in, shown_collecting}
-use Rattle.core_state.specs.Commands.{change_at, ends_session, is_remotes, leaves_writer}
+use Rattle.core_state.specs.Commands.{change_at, ends_session, leaves_writer}
+use Rattle.store_history.specs.RemoteDisk.{is_remotes, RemoteStays, ShowsRemote, faults_of, reads_remote}
+use Rattle.core_state.specs.Kept.{KeptAt, kept_at}
 use Rattle.core_state.specs.PassedTests.{PassesItsTests}
 use Rattle.core_state.specs.Entering.{held_by}
 use Rattle.core_state.specs.History.{History, StandsFor, event_of, then_event, world}
 use Rattle.core_state.specs.Indexed.{row_at}
-use Rattle.core_state.specs.Remotes.{RemoteServes, RemoteStays, SettlesRead, ShowsRemote, faults_of, kind_by, reads_remote, reply_by}
-use Rattle.core_state.specs.Replies.{may_answer, may_give}
+use Rattle.core_state.specs.Remotes.{RemoteServes, SettlesRead, kind_by, reply_by}
+use Rattle.store_history.specs.Replies.{may_answer, may_give}
 use Rattle.core_state.specs.Unchanged.{Unchanged}
 use Rattle.core_state.specs.Upkeeps.{touches_kept}
 use Rattle.core_state.specs.Wanted.{session_at}
 use Rattle.core_state.proofs.Answered.{IsAsked, WorldMoves, begun_acted, refused_stands}
-use Rattle.core_state.proofs.Answering.{entered_answered, refused_answered, refused_told, where_none}
+use Rattle.core_state.proofs.Answering.{entered_answered, refused_answered, refused_told, same_honest, where_none}
 use Rattle.core_state.proofs.Applying.{IsNoEnd, class_told, closes_none, early_by, no_start_kind, refused_collector, refused_kept, refused_remote}
 use Rattle.core_state.proofs.Caused.{refused_caused}
 use Rattle.core_state.proofs.Collecting.{short_shown, step_shown}
@@ -77,8 +79,8 @@ remote_other = by_remote IsNoEnd (λ c. record { end = λ e. cc; sweep = λ e. c
 remote_change : {D : Type 0} (parts : Parts D) (lane : ℕ) (act : Act) → family_of act ≡ Reaches → change_at parts lane act ≡ stays
 remote_change parts lane = by_remote (λ act. change_at parts lane act ≡ stays) (λ c. refl) (λ snapshot name offset. refl) (λ digest. refl)
 
-remote_lists : (reply : Option Reply) (place : ℕ) (session : Session) (catalogue : List Listed) (act : Act) → family_of act ≡ Reaches → listed_by act reply place session catalogue ≡ catalogue
-remote_lists reply place session catalogue = by_remote (λ act. listed_by act reply place session catalogue ≡ catalogue) (λ c. refl) (λ snapshot name offset. refl) (λ digest. refl)
+remote_lists : (reply : Option Reply) (place : ℕ) (k : KeptAt) (act : Act) → family_of act ≡ Reaches → listed_by act reply place k ≡ k.catalogue
+remote_lists reply place k = by_remote (λ act. listed_by act reply place k ≡ k.catalogue) (λ c. refl) (λ snapshot name offset. refl) (λ digest. refl)
 
 remote_closes : (x : Session) (act : Act) → family_of act ≡ Reaches → closes act x ≡ false
 remote_closes x = by_remote (λ act. closes act x ≡ false) (λ c. refl) (λ snapshot name offset. refl) (λ digest. refl)
@@ -219,8 +221,9 @@ module _ {D E C : Type 0} (d : Ghosts D) (e : Ghosts E) (clock : clocks.Ghosts C
         crash = λ _. inl same;
         passed_its_tests = λ _ _ s h. remote_passes s k act remotes;
         firm = λ _ _. subst (IsFirm d (old.parts).disk (new.parts).disk) (sym change) tt;
-        listed = ap (λ p. p.catalogue.listed) parts ∙ sym (remote_lists answer.reply answer.place (session_at old.parts k) (old.parts).catalogue.listed act remotes);
+        listed = ap (λ p. p.catalogue.listed) parts ∙ sym (remote_lists answer.reply answer.place (kept_at old.parts k) act remotes);
         admin = λ _. (ap (λ p. p.sessions.items) parts, ap (λ p. p.locks) parts);
+        others = λ i _. ap (λ p. session_at p i) parts;
         ended = λ ends. absurd (remote_ends act remotes ends);
         rows = λ i _. ap (λ p. row_at p i) parts;
         halted = where_none _ _ ready.no_fault;
@@ -243,9 +246,9 @@ module _ {D E C : Type 0} (d : Ghosts D) (e : Ghosts E) (clock : clocks.Ghosts C
   answered : GivesFit act ended → IsAnswered d old new k answer
   answered fit =
       entered_answered d old acted new k m n (Some (reply_by ended)) answer settles (b.entries).entries (b.entries).calls (fit_text act ended fit)
-      (b.fault ∙ ready.no_fault ∙ sym (unfaulted ended)) (let x = ap (λ p. d.faults p.disk) b.parts in omega (arith, x)) (λ five. absurd ((kind_calm ended).1 five))
+      (b.fault ∙ ready.no_fault ∙ sym (unfaulted ended)) (let x = ap (λ p. d.faults p.disk) b.parts in omega (arith, x)) (same_honest d _ _ (ap (λ p. p.disk) b.parts)) (λ five. absurd ((kind_calm ended).1 five))
     where
-      unfaulted : (r : Result Reply Stop) → Rattle.core_state.specs.Answers.fault_after (length (old.journal).entries.items) (kind_by r) old.fault ≡ None
+      unfaulted : (r : Result Reply Stop) → fault_after (length (old.journal).entries.items) (kind_by r) old.fault ≡ None
       unfaulted (Ok reply) = ready.no_fault
       unfaulted (Err (stops.Refused refusal)) = ready.no_fault
       unfaulted (Err stops.NoMemory) = ready.no_fault

@@ -18,12 +18,13 @@ use Rattle.wire_commands.specs.declared.reply.Reply.TheVariants.{Done}
 use Rattle.store_model.specs.AdminSteps.{forget}
 use Rattle.store_model.specs.Steps.{outcome}
 use Rattle.store_model.proofs.Done.{done}
+use Rattle.store_model.proofs.HeadLemmas.{idle_key_found}
 use Rattle.store_model.specs.Stands.{IsSnapshot, names_content}
 use Rattle.store_model.specs.Store.{Store, Outcome, snapshot_named, without_snapshot}
-use Rattle.core_state.specs.declared.kept.Listed.{Listed}
 use Rattle.core_state.specs.declared.kept.StoredFile.{StoredFile}
 use Rattle.core_state.specs.Changes.{forgets, forgotten, names_beside}
-use Rattle.core_state.specs.Found.{named_kept}
+use Rattle.core_state.specs.Heads.{named_kept}
+use Rattle.core_state.specs.Kept.{KeptAt}
 use Rattle.core_state.specs.Shown.{shown_file, shown_files, shown_snapshot}
 use Rattle.core_state.proofs.Finding.{found_in, found_passes}
 use Rattle.core_state.proofs.Found.{kept_is}
@@ -44,7 +45,7 @@ unfolding outcome
 forget_is s lane text = by_outcome (forget s lane text) refl
   where
     by_outcome : (o : Outcome) → forget s lane text ≡ o → ForgetIs s lane text
-    by_outcome (Ok after) e = let d = done s lane 0 (Forget text) after e in gives d.0 d.1 d.3 d.4 (e ∙ ap (λ x. Ok x) d.6)
+    by_outcome (Ok after) e = let d = done s lane 0 (Forget text) after e in gives d.0 d.1 (idle_key_found s lane text d.0 d.2).1 d.3 (e ∙ ap (λ x. Ok x) d.5)
     by_outcome (Err r) e = fails r e
 
 -- ---- and what it takes away
@@ -85,8 +86,8 @@ found_key snapshots key x there = (same_keys x.key key).0 (found_passes (λ (y :
 pub found_whole : (snapshots : List Snapshot) (key : SnapshotKey) (x : Snapshot) → All IsSnapshot snapshots → snapshot_named key snapshots ≡ Some x → IsSnapshot x
 found_whole snapshots key x each there = found_in IsSnapshot (λ (y : Snapshot). same_key y.key key) snapshots x each there
 
-pub forget_changes : (text : List ℕ) (catalogue : List Listed) (snapshots : List Snapshot) (key : SnapshotKey) (x : Snapshot) → map (λ x. x.kept) catalogue ≡ map shown_snapshot snapshots
+pub forget_changes : (text : List ℕ) (at : KeptAt) (snapshots : List Snapshot) (key : SnapshotKey) (x : Snapshot) → map (λ x. x.kept) at.catalogue ≡ map shown_snapshot snapshots
     → key_of text ≡ Some key → snapshot_named key snapshots ≡ Some x
-    → forgotten (result_ok (named_kept text catalogue)) ≡ forgets (manifest_path x.key) (map (file_path x.key) (beside x))
-forget_changes text catalogue snapshots key x shown is there =
-    ap (λ r. forgotten (result_ok r)) (named_is text catalogue key (shown_snapshot x) is (kept_is catalogue snapshots key shown ∙ ap (option_map shown_snapshot) there))
+    → forgotten (result_ok (named_kept text at)) ≡ forgets (manifest_path x.key) (map (file_path x.key) (beside x))
+forget_changes text at snapshots key x shown is there =
+    ap (λ r. forgotten (result_ok r)) (named_is text at key (shown_snapshot x) is (kept_is at.catalogue snapshots key shown ∙ ap (option_map shown_snapshot) there))

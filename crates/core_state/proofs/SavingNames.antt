@@ -21,7 +21,7 @@ use Rattle.store_model.specs.Store.{Store}
 use Rattle.store_model.proofs.StandsLemmas.{stands_agree}
 use Rattle.chunk_store.proofs.Names.{digits_small}
 use Rattle.store_history.specs.Saved.{book_name}
-use Rattle.core_state.specs.Chunks.{HoldsOnly}
+use Rattle.store_history.specs.ChunkFiles.{HoldsOnly}
 use Rattle.core_state.specs.Holds.{IsOnDisk}
 use Rattle.core_state.proofs.AnyPaths.{from_kind}
 

@@ -11,8 +11,6 @@ use Rattle.store_types.specs.declared.refusal.Refusal.{Refusal}
 use Rattle.store_types.specs.declared.refusal.Refusal.TheVariants as refusals
 use Rattle.store_files.specs.Archive.{File, Snapshot}
 use Rattle.store_files.specs.Folder.{file_path}
-use Rattle.wire_commands.specs.declared.command.Command.{Command}
-use Rattle.wire_commands.specs.declared.command.Command.TheVariants as commands
 use Rattle.wire_commands.specs.declared.reply.Reply.{Reply}
 use Rattle.wire_commands.specs.declared.reply.Reply.TheVariants as replies
 use Rattle.store_model.specs.Stands.{StandsFor, IsSnapshot}
@@ -20,15 +18,15 @@ use Rattle.store_model.specs.Store as model
 use Rattle.store_model.specs.Store.{Store, Writer, session}
 use Rattle.store_model.proofs.StandsLemmas.{Apart}
 use Rattle.store_history.specs.declared.act.Act.{Act}
-use Rattle.store_history.specs.declared.act.Act.TheVariants as acts
+use Rattle.store_history.specs.Profile.{new_file, new_chunk, new_index, new_manifest, no_files, no_snapshot, swept, OnDisk, no_call, only_reads, disk_change, profile}
 use Rattle.backup_session.specs.Indexes.{text_of}
 use Rattle.backup_session.specs.Session.{Open}
 use Rattle.backup_session.specs.Shown.{shown}
 use Rattle.backup_session.specs.Steps.{begun_at}
-use Rattle.core_state.specs.declared.kept.Listed.{Listed}
 use Rattle.core_state.specs.declared.kept.Writing.{Writing}
-use Rattle.core_state.specs.Changes.{Change, MayLeave, blob_put, by_reply, by_writer, change_of, drops, file_put, finishes, forgets, index_put, installs, put_paths, stays, stores, undone}
+use Rattle.core_state.specs.Changes.{Change, MayLeave, blob_put, by_reply, by_writer, change_of, change_on, drops, file_put, finishes, forgets, index_put, installs, put_paths, stays, stores, undone}
 use Rattle.core_state.specs.Holds.{IsSound, IsWriter}
+use Rattle.core_state.specs.Kept.{KeptAt}
 use Rattle.core_state.specs.Shown.{shown_files, shown_session, shown_writer}
 use Rattle.core_state.proofs.AnyPaths.{apart_any, apart_staged, stands_installs, stands_loses}
 use Rattle.core_state.proofs.OnDisk.{fresh}
@@ -101,43 +99,38 @@ module _ (snapshots : List Snapshot) (w : Writer) (each : All IsSnapshot snapsho
 -- ---- acts
 
 -- all but a FINISH, a FORGET and a CHUNK
-abbrev pub spares_all : Act → Bool
-spares_all (acts.Plain commands.Finish) = false
-spares_all (acts.Plain (commands.Forget snapshot)) = false
-spares_all (acts.Chunk digest checked) = false
-spares_all act = true
+abbrev pub spares_on : OnDisk → Bool
+spares_on (disk_change new_manifest) = false
+spares_on (disk_change (no_snapshot snapshot)) = false
+spares_on (disk_change (new_chunk digest checked)) = false
+spares_on disk = true
 
-module _ (s : Store) (lane : ℕ) (sound : IsSound s) where
-  by_session : (change : Writing → Change) → ((w : Writer) → IsWriter s.snapshots w → Spares s.snapshots (change (shown_writer w))) → Spares s.snapshots (by_writer (shown_session s.snapshots (session s lane)) change)
-  by_session change spares = go (session s lane) refl
+abbrev pub spares_all : Act → Bool
+spares_all act = spares_on (profile act).disk
+
+module _ (s : Store) (lane : ℕ) (sound : IsSound s) (k : KeptAt) (shown : k.session ≡ shown_session s.snapshots (session s lane)) where
+  by_session : (change : Writing → Change) → ((w : Writer) → IsWriter s.snapshots w → Spares s.snapshots (change (shown_writer w))) → Spares s.snapshots (by_writer k.session change)
+  by_session change spares = subst (λ x. Spares s.snapshots (by_writer x change)) (sym shown) (go (session s lane) refl)
     where
       go : (x : model.Session) → session s lane ≡ x → Spares s.snapshots (by_writer (shown_session s.snapshots x) change)
       go model.none at = tt
       go (model.writer w) at = spares w (sound.writers lane w at)
       go (model.reader r) at = tt
 
-  spares_drops : Spares s.snapshots (by_writer (shown_session s.snapshots (session s lane)) (λ w. drops (put_paths w.files)))
+  spares_drops : Spares s.snapshots (by_writer k.session (λ w. drops (put_paths w.files)))
   spares_drops = by_session (λ w. drops (put_paths w.files)) (λ w h. spares_paths s.snapshots w sound.each h w.files)
 
-  spares_command : (c : Command) (catalogue : List Listed) → spares_all (acts.Plain c) ≡ true → Spares s.snapshots (change_of (acts.Plain c) (shown_session s.snapshots (session s lane)) catalogue)
-  spares_command (commands.CloseIndex number count size csum) catalogue is =
+  spares_by : (disk : OnDisk) → spares_on disk ≡ true → Spares s.snapshots (change_on disk k)
+  spares_by no_call is = tt
+  spares_by only_reads is = tt
+  spares_by (disk_change (new_file name checked)) is = by_session (blob_put name checked) (λ w h. spares_blob s.snapshots w sound.each h name checked)
+  spares_by (disk_change (new_chunk digest checked)) is = cc
+  spares_by (disk_change (new_index number)) is =
       by_session (λ w. index_put (begun_at number (w.session).writer) w) (λ w h. spares_index s.snapshots w sound.each h (begun_at number ((shown_writer w).session).writer))
-  spares_command commands.Abort catalogue is = spares_drops
-  spares_command commands.Finish catalogue is = cc
-  spares_command (commands.Forget snapshot) catalogue is = cc
-  spares_command c catalogue is = tt
+  spares_by (disk_change new_manifest) is = cc
+  spares_by (disk_change no_files) is = spares_drops
+  spares_by (disk_change (no_snapshot snapshot)) is = cc
+  spares_by (disk_change swept) is = tt
 
-  pub spares_change : (act : Act) (catalogue : List Listed) → spares_all act ≡ true → Spares s.snapshots (change_of act (shown_session s.snapshots (session s lane)) catalogue)
-  spares_change (acts.Plain c) catalogue is = spares_command c catalogue is
-  spares_change (acts.JobGroup c) catalogue is = tt
-  spares_change (acts.Blob name checked) catalogue is = by_session (blob_put name checked) (λ w h. spares_blob s.snapshots w sound.each h name checked)
-  spares_change (acts.Chunk digest checked) catalogue is = cc
-  spares_change (acts.ReadFile name offset) catalogue is = tt
-  spares_change (acts.ReadChunk name entry) catalogue is = tt
-  spares_change (acts.RemoteList c) catalogue is = tt
-  spares_change (acts.RemoteFile snapshot name offset) catalogue is = tt
-  spares_change (acts.RemoteChunk digest) catalogue is = tt
-  spares_change acts.Start catalogue is = tt
-  spares_change acts.Step catalogue is = tt
-  spares_change acts.Short catalogue is = tt
-  spares_change acts.End catalogue is = spares_drops
+  pub spares_change : (act : Act) → spares_all act ≡ true → Spares s.snapshots (change_of act k)
+  spares_change act is = spares_by (profile act).disk is

@@ -15,7 +15,7 @@ use Rattle.store_history.specs.Legal.{may_open, Refuses, Right}
 use Rattle.core_state.specs.declared.collector.Collector.{Collector}
 use Rattle.core_state.specs.declared.state.Core.{Core}
 use Rattle.core_state.specs.Begins.{IsBegun, IsReady}
-use Rattle.core_state.specs.Chunks.{HoldsOnly}
+use Rattle.store_history.specs.ChunkFiles.{HoldsOnly}
 use Rattle.core_state.specs.Collectors.{collector_by, open_in, shown_collecting}
 use Rattle.core_state.specs.History.{History, StandsFor, event_of, pieces_of, then_event, world}
 use Rattle.core_state.specs.Holds.{IsOnDisk, Shows}

@@ -25,7 +25,8 @@ use Rattle.core_state.specs.Catalogue.{listed_by}
 use Rattle.core_state.specs.Changes.{after, by_reply, stays}
 use Rattle.core_state.specs.Closing.{is_closing}
 use Rattle.core_state.specs.Collectors.{collector_by}
-use Rattle.core_state.specs.Replies.{may_answer}
+use Rattle.core_state.specs.Kept.{kept_at}
+use Rattle.store_history.specs.Replies.{may_answer}
 use Rattle.core_state.specs.Commands.{change_at}
 use Rattle.core_state.specs.Entering.{held_by}
 use Rattle.core_state.specs.History.{History, StandsFor, event_of, then_event, world}
@@ -35,7 +36,7 @@ use Rattle.core_state.specs.Settles.{IsEntered, Settles, fault_by, kind_by, repl
 use Rattle.core_state.specs.Unchanged.{Unchanged}
 use Rattle.core_state.specs.Upkeeps.{touches_kept}
 use Rattle.core_state.specs.Wanted.{session_at}
-use Rattle.core_state.proofs.Answering.{done_answered, entered_answered, untouched, where_none}
+use Rattle.core_state.proofs.Answering.{done_answered, entered_answered, same_honest, untouched, where_none}
 use Rattle.core_state.proofs.Applying.{IsNoEnd, closes_none, early_by, no_start_kind, start_closes_none, start_other, undone}
 use Rattle.core_state.proofs.Beginning.{IsStart, start_caused, start_class, start_formed, start_no_step, start_told}
 use Rattle.core_state.proofs.Caused.{done_caused}
@@ -79,6 +80,7 @@ module _ {D E C : Type 0} (d : Ghosts D) (clock : clocks.Ghosts C) (old mid new 
         firm = λ _ _. tt;
         listed = ap (λ p. p.catalogue.listed) parts;
         admin = λ _. (ap (λ p. p.sessions.items) parts, ap (λ p. p.locks) parts);
+        others = λ i _. ap (λ p. session_at p i) parts;
         ended = λ ends. absurd (false_true ends);
         rows = λ i _. ap (λ p. row_at p i) parts;
         halted = where_none _ _ ready.no_fault;
@@ -95,7 +97,7 @@ module _ {D E C : Type 0} (d : Ghosts D) (clock : clocks.Ghosts C) (old mid new 
   answers =
       let b = ready.begun in
       entered_answered d old acted new k m 3 None answer entered (b.entries).entries (b.entries).calls tt b.fault
-      (let e = ap (λ p. d.faults p.disk) b.parts in omega (arith, e)) (λ is. absurd (omega (arith, is)))
+      (let e = ap (λ p. d.faults p.disk) b.parts in omega (arith, e)) (same_honest d _ _ (ap (λ p. p.disk) b.parts)) (λ is. absurd (omega (arith, is)))
 
   -- it may open in each history, and its plan is the new sweep of each whose book the core's is
   pub start_opened_applies : k < 64 → ((h : History) → StandsFor d clock.readings old h → may_open (world h) k ≡ Ok tt) → c.lane ≡ k → c.ended ≡ None
@@ -151,9 +153,10 @@ module _ {D E C : Type 0} (d : Ghosts D) (clock : clocks.Ghosts C) (old mid new 
         crash = λ _. inl same;
         passed_its_tests = λ _ said. absurd (fine (refusal_same refusal DiskFault (sym reply_is ∙ said)));
         firm = λ _. undone answer refusal reply_is;
-        listed = ap (λ p. p.catalogue.listed) kept ∙ sym (ap (λ r. listed_by act r answer.place (session_at old.parts k) (old.parts).catalogue.listed) reply_is
-            ∙ unlisted act refusal answer.place (session_at old.parts k) (old.parts).catalogue.listed);
+        listed = ap (λ p. p.catalogue.listed) kept ∙ sym (ap (λ r. listed_by act r answer.place (kept_at old.parts k)) reply_is
+            ∙ unlisted act refusal answer.place (kept_at old.parts k));
         admin = λ _. (ap (λ p. p.sessions.items) kept, ap (λ p. p.locks) kept);
+        others = λ i _. ap (λ p. session_at p i) kept;
         ended = λ _. undone answer refusal reply_is;
         rows = λ i _. ap (λ p. row_at p i) kept;
         halted = where_none _ _ ready.no_fault;

@@ -1,6 +1,6 @@
 -- An act of a collector after its start is entered: the core stands for the history with it.
 use Rattle.disk_trait.specs.declared.disk.Disk.{Ghosts}
-use Rattle.std.proofs.Common.{◌≡◌, ◌<◌, ◌≤◌, ℕ, Bool, true, false, ◌==◌, cond, List, [], is_some, length, Option, Some, None, IfSome, refl, sym, ap, subst, ◌∙◌, arith}
+use Rattle.std.proofs.Common.{◌≡◌, ◌↔◌, ◌<◌, ◌≤◌, ℕ, Bool, true, false, ◌==◌, cond, List, [], is_some, length, Option, Some, None, IfSome, refl, sym, ap, subst, ◌∙◌, arith}
 use Rattle.std.specs.Prelude.{option_map}
 use Rattle.std.proofs.lemmas.List.{length-map}
 use Rattle.disk_trait.specs.Disk.{Rose, Serves}
@@ -23,9 +23,9 @@ use Rattle.core_state.specs.declared.collector.Collector.{Collector}
 use Rattle.core_state.specs.declared.collector.Early.{Early}
 use Rattle.core_state.specs.declared.collector.Early.TheVariants as early
 use Rattle.core_state.specs.declared.state.Core.{Core}
-use Rattle.core_state.specs.Answers.{fault_after}
+use Rattle.store_history.specs.Answered.{fault_after}
 use Rattle.core_state.specs.Begins.{IsBegun, IsReady, ReadsClock}
-use Rattle.core_state.specs.Chunks.{HoldsOnly}
+use Rattle.store_history.specs.ChunkFiles.{HoldsOnly}
 use Rattle.core_state.specs.Collectors.{OpenOn, closed_on, collector_by, ended_if, is_cut, is_on, open_in, shown_collecting}
 use Rattle.core_state.specs.History.{History, StandsFor, event_of, pieces_of, then_event, world}
 use Rattle.core_state.specs.Holds.{IsOnDisk, Shows}
@@ -35,7 +35,7 @@ use Rattle.core_state.specs.States.{state_of}
 use Rattle.core_state.specs.Unchanged.{SameKept}
 use Rattle.core_state.specs.Wanted.{session_at}
 use Rattle.core_state.proofs.Acting.{shows_same}
-use Rattle.core_state.proofs.Answering.{where_none, where_some}
+use Rattle.core_state.proofs.Answering.{same_honest, where_none, where_some}
 use Rattle.core_state.proofs.Chunks.{only_same}
 use Rattle.core_state.proofs.Collecting.{closed_shown, cut_is, cut_shown}
 use Rattle.core_state.proofs.Commanding.{session_shown}
@@ -50,6 +50,7 @@ pub record IsStepped {D E C : Type 0} (d : Ghosts D) (readings : C → Option Re
   pub fault : acted.fault ≡ fault_after (length (old.journal).entries.items) n old.fault
   pub kept : SameKept old.parts acted.parts
   pub count : d.faults (old.parts).disk ≤ d.faults (acted.parts).disk
+  pub honest : d.honest (old.parts).disk ↔ d.honest (acted.parts).disk
   pub rose : n ≡ 5 → old.fault ≡ None → Rose (d.faults (old.parts).disk) (d.faults (acted.parts).disk)
   pub later : d.calls (old.parts).disk ≤ d.calls (acted.parts).disk
   -- after the disk failed it was not called
@@ -236,6 +237,7 @@ begun_stepped d readings old mid new k m n reply answer c b fault other e = reco
   fault = fault;
   kept = record { catalogue = ap (λ p. p.catalogue.listed) b.parts; sessions = ap (λ p. p.sessions.items) b.parts; locks = ap (λ p. p.locks) b.parts; indexes = ap (λ p. p.indexes.items) b.parts };
   count = let same = ap (λ p. d.faults p.disk) b.parts in omega (arith, same);
+  honest = same_honest d (old.parts).disk (mid.parts).disk (ap (λ p. p.disk) b.parts);
   rose = λ five none. absurd (other five none);
   later = let same = ap (λ p. d.calls p.disk) b.parts in omega (arith, same);
   halted = where_some old.fault ((mid.parts).disk ≡ (old.parts).disk) (ap (λ p. p.disk) b.parts);
@@ -256,6 +258,7 @@ acted_stepped d readings old mid acted new k m n reply answer failed fault c rea
       fault = fault_is;
       kept = subst (λ p. SameKept p acted.parts) b.parts kept;
       count = subst (λ p. d.faults p.disk ≤ d.faults (acted.parts).disk) b.parts serves.count;
+      honest = subst (λ p. d.honest p.disk ↔ d.honest (acted.parts).disk) b.parts serves.kept;
       rose = λ five _. subst (λ p. Rose (d.faults p.disk) (d.faults (acted.parts).disk)) b.parts (serves.cause (met five));
       later = subst (λ p. d.calls p.disk ≤ d.calls (acted.parts).disk) b.parts up;
       halted = where_none old.fault ((acted.parts).disk ≡ (old.parts).disk) ready.no_fault;

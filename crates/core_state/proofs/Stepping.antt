@@ -21,6 +21,7 @@ use Rattle.core_state.specs.Unchanged.{Unchanged}
 use Rattle.core_state.specs.Wanted.{session_at}
 use Rattle.core_state.proofs.Answering.{entered_answered}
 use Rattle.core_state.proofs.Applying.{closes_none}
+use Rattle.core_state.proofs.Commanding.{others_same}
 use Rattle.core_state.proofs.Recorded.{entered_timely, records_more, sweep_fits, sweep_tells}
 use Rattle.core_state.proofs.Stepped.{IsStepped}
 use Rattle.core_state.proofs.SteppedImages.{SparesStored, recovers_step}
@@ -103,6 +104,7 @@ module _ {D E C : Type 0} (d : Ghosts D) (clock : clocks.Ghosts C) (old acted ne
     firm = λ _ _. tt;
     listed = listed;
     admin = λ _. (ap (λ p. p.sessions.items) (is.entered).parts ∙ (is.kept).sessions, ap (λ p. p.locks) (is.entered).parts ∙ (is.kept).locks);
+    others = λ i other. ap (λ p. session_at p i) (is.entered).parts ∙ others_same old.parts acted.parts k (is.kept).sessions i other;
     ended = λ ends. absurd (false_true ends);
     rows = λ i _. ap (λ p. row_at p i) (is.entered).parts ∙ ap (λ xs. row_in xs i) (is.kept).indexes;
     halted = halts;
@@ -116,7 +118,7 @@ module _ {D E C : Type 0} (d : Ghosts D) (clock : clocks.Ghosts C) (old acted ne
   }
 
   answers : IfSome reply ReplyHasText → IsAnswered d old new k answer
-  answers text = entered_answered d old acted new k m n reply answer is.entered is.entries is.calls text is.fault is.count is.rose
+  answers text = entered_answered d old acted new k m n reply answer is.entered is.entries is.calls text is.fault is.count is.honest is.rose
 
   -- by what it leaves, what it stands for, its book, and that it spares what is stored
   pub step_applies : IfSome reply ReplyHasText → StepHasCause d old new Step answer → (leaves : StepLeaves d old new k answer)

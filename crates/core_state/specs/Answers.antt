@@ -1,22 +1,18 @@
 -- What an act's answer is on any disk, and what stands in the order and in the counts after it.
 use Rattle.disk_trait.specs.declared.disk.Disk.{Ghosts}
-use Rattle.std.specs.Prelude.{◌≡◌, ◌≢◌, ◌≤◌, ℕ, true, ◌==◌, ◌⊎◌, [], ◌∷◌, ◌++◌, length, if◌then◌else◌, Option, Some, None, IfSome, IsSome, IsTrue}
+use Rattle.std.specs.Prelude.{◌≡◌, ◌≢◌, ◌≤◌, ◌↔◌, ℕ, true, ◌==◌, ◌⊎◌, [], ◌∷◌, ◌++◌, length, if◌then◌else◌, Some, None, IfSome, IsSome, IsTrue}
 use Rattle.disk_trait.specs.Disk.{Rose}
 use Rattle.store_types.specs.declared.refusal.Refusal.TheVariants.{NoMemory, RemoteFault, DiskFault, Halted}
 use Rattle.store_types.specs.declared.order.TheConstants.{COMMAND_KIND, PART_KIND, MEMORY_KIND, START_KIND, STOP_KIND, FAULT_KIND, END_KIND, REMOTE_FAULT_KIND}
 use Rattle.wire_commands.specs.declared.reply.Reply.{Reply}
 use Rattle.wire_commands.specs.declared.reply.Reply.TheVariants.{Refused}
 use Rattle.wire_commands.specs.HasText.{ReplyHasText}
-use Rattle.store_model.specs.Weave.{first_fault}
 use Rattle.store_history.specs.declared.act.Act.{Act}
 use Rattle.store_history.specs.declared.act.Answer.{Answer}
 use Rattle.store_history.specs.Acts.{Class, reaching, starting, sweeping, wanting, ending, class_of}
 use Rattle.core_state.specs.declared.state.Core.{Core}
-use Rattle.core_state.specs.Replies.{may_answer, may_end, may_give}
-
--- the place of the disk's fault, after an entry of this kind at this place
-abbrev pub fault_after : ℕ → ℕ → Option ℕ → Option ℕ
-fault_after place kind before = if kind == FAULT_KIND then first_fault place before else before
+use Rattle.store_history.specs.Replies.{may_answer, may_end, may_give}
+use Rattle.store_history.specs.Answered.{fault_after}
 
 -- One entry more is in the order, with the disk's count of calls beside it. The reply has a spelling. The disk is said to have
 -- failed only where its count of faults rose in this act, or where it had failed before.
@@ -29,6 +25,8 @@ pub record IsAnswered {D E C : Type 0} (d : Ghosts D) (old new : Core D E C) (la
   pub last : answer.last ≡ true → (answer.entry).kind ≡ MEMORY_KIND
   pub fault : new.fault ≡ fault_after (length (old.journal).entries.items) (answer.entry).kind old.fault
   pub count : d.faults (old.parts).disk ≤ d.faults (new.parts).disk
+  -- an honest disk stays so
+  pub kept : d.honest (old.parts).disk ↔ d.honest (new.parts).disk
   pub cause : (answer.entry).kind ≡ FAULT_KIND → old.fault ≡ None → Rose (d.faults (old.parts).disk) (d.faults (new.parts).disk)
 
 -- Why an act that is no lane's end was answered so, on any disk: each answer has one of four causes.

@@ -1,5 +1,5 @@
 -- What an act promises of the core: the two records of its command, behind the turn.
-use Rattle.std.specs.Prelude.{◌≡◌, ◌||◌, ℕ, true, false, Some, None, IfSome}
+use Rattle.std.specs.Prelude.{◌≡◌, ℕ, true, false, Some, None, IfSome}
 use Rattle.disk_trait.specs.Effects.{SameContent}
 use Rattle.disk_trait.specs.declared.disk.Disk.{Ghosts}
 use Rattle.port_traits.specs.declared.clock.Clock as clocks
@@ -7,8 +7,8 @@ use Rattle.store_types.specs.declared.refusal.Refusal.TheVariants.{DiskFault}
 use Rattle.store_types.specs.declared.order.TheConstants.{MEMORY_KIND}
 use Rattle.wire_commands.specs.declared.reply.Reply.TheVariants.{Refused}
 use Rattle.store_history.specs.declared.act.Act.{Act}
-use Rattle.store_history.specs.declared.act.Act.TheVariants.{Chunk, Step}
 use Rattle.store_history.specs.declared.act.Answer.{Answer}
+use Rattle.store_history.specs.Acts.{Class, class_of, sent_chunk, sweeping}
 use Rattle.store_history.specs.LastTouches.{SameTouches, touches_by_entry}
 use Rattle.core_state.specs.declared.state.Core.{Core}
 use Rattle.core_state.specs.Answers.{IsAnswered, IsCaused, IsTold}
@@ -16,14 +16,15 @@ use Rattle.core_state.specs.Catalogue.{Lists}
 use Rattle.core_state.specs.Changes.{IsFirm, LeavesChange, after, by_reply}
 use Rattle.core_state.specs.Closing.{HasEnded, is_closing, is_writer}
 use Rattle.core_state.specs.Collectors.{collector_by}
-use Rattle.core_state.specs.Commands.{IsNoRefusal, RowsStay, change_at, ends_session, is_collectors, calls_no_disk, is_step, is_still, leaves_writer, reads_only, row_stays_by}
+use Rattle.core_state.specs.Commands.{IsNoRefusal, OthersStay, RowsStay, change_at, ends_session, is_collectors, calls_no_disk, is_step, is_still, leaves_writer, reads_only, row_stays_by}
 use Rattle.core_state.specs.PassedTests.{PassedItsTestsAt}
 use Rattle.core_state.specs.History.{History, IsClear, StandsFor, then_event, event_of}
 use Rattle.core_state.specs.KeepsTouches.{KeepsTouches}
 use Rattle.core_state.specs.Passes.{StepLeaves}
 use Rattle.core_state.specs.Records.{IsTimely, Records}
 use Rattle.core_state.specs.Recovers.{Recovers, TellsMoments}
-use Rattle.core_state.specs.Remotes.{RemoteServes, ShowsRemote, reads_remote}
+use Rattle.core_state.specs.Remotes.{RemoteServes}
+use Rattle.store_history.specs.RemoteDisk.{ShowsRemote, reads_remote}
 use Rattle.core_state.specs.Reserved.{Keeps}
 use Rattle.core_state.specs.Unchanged.{Unchanged}
 use Rattle.core_state.specs.Upkeeps.{touches_kept}
@@ -35,13 +36,15 @@ IsDone answer = IfSome answer.reply IsNoRefusal
 
 -- a CHUNK asks that no two pieces of the history have one digest
 abbrev pub IsClearFor : Act → History → Type 0
-IsClearFor (Chunk digest checked) h = IsClear h
-IsClearFor _ h = Unit {0}
+IsClearFor act h = IfSome (sent_chunk act) (λ _. IsClear h)
 
 -- a mark, a visit or the end of a collector asks that the core's book is that of the history
+abbrev pub IsKeptBy : {D E C : Type 0} → Ghosts D → Core D E C → Class → History → Type 0
+IsKeptBy d old sweeping h = KeepsTouches d old h
+IsKeptBy d old class h = Unit {0}
+
 abbrev pub IsKeptFor : {D E C : Type 0} → Ghosts D → Core D E C → Act → History → Type 0
-IsKeptFor d old Step h = KeepsTouches d old h
-IsKeptFor d old _ h = Unit {0}
+IsKeptFor d old act h = IsKeptBy d old (class_of act) h
 
 -- The core stands for each history that it stood for with this act's event more, of a CHUNK where no two of the pieces of that one have one
 -- digest, and of a collector's act where its book is that of the history. On any disk it keeps the event behind those that it kept, and
@@ -95,7 +98,7 @@ pub record ActKeeps {D E C : Type 0} (d : Ghosts D) (old new : Core D E C) (lane
   pub firm : old.fault ≡ None → IsDone answer → IsFirm d (old.parts).disk (new.parts).disk (change_at old.parts lane act)
   pub listed : Lists old new lane act answer
   -- the acts on the store as a whole, the reads of a VERIFY, GET_CHUNK, RANGE, and the collector's acts leave sessions and locks as they are
-  pub admin : (is_still act || is_collectors act) ≡ true → ((new.parts).sessions.items ≡ (old.parts).sessions.items) × ((new.parts).locks ≡ (old.parts).locks)
+  pub admin : is_still act ≡ true → ((new.parts).sessions.items ≡ (old.parts).sessions.items) × ((new.parts).locks ≡ (old.parts).locks)
   -- the lane has no session any more, and nothing is kept of indexes for it
   pub ended : ends_session act ≡ true → IsDone answer → HasEnded new.parts lane
   -- What is kept of indexes for another lane stays, whatever the act and its reply. The lane's own stays too where the act is refused, but
@@ -103,6 +106,7 @@ pub record ActKeeps {D E C : Type 0} (d : Ghosts D) (old new : Core D E C) (lane
   pub rows : RowsStay old.parts new.parts lane (row_stays_by answer.reply act)
   -- after the disk failed no call of it is made
   pub halted : IfSome old.fault (λ _. (new.parts).disk ≡ (old.parts).disk)
+  pub others : OthersStay old.parts new.parts lane
   -- the lane has a writer, once it was begun and until it is ended
   pub writes : leaves_writer act ≡ true → IsDone answer → is_writer (session_at new.parts lane) ≡ true
   -- the remote is called only by an act that reads it

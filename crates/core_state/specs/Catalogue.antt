@@ -2,13 +2,12 @@
 use Rattle.std.specs.Prelude.{◌≡◌, ℕ, not, List, [], ◌∷◌, filter, if◌then◌else◌, Option, Some, None}
 use Rattle.store_types.specs.declared.names.SnapshotKey.{SnapshotKey}
 use Rattle.store_types.specs.Names.{key_lt, key_of, same_key}
-use Rattle.wire_commands.specs.declared.command.Command.TheVariants.{Finish, Forget}
 use Rattle.wire_commands.specs.declared.reply.Reply.{Reply}
 use Rattle.wire_commands.specs.declared.reply.Reply.TheVariants.{Done}
 use Rattle.store_history.specs.declared.act.Act.{Act}
-use Rattle.store_history.specs.declared.act.Act.TheVariants.{Plain}
 use Rattle.store_history.specs.declared.act.Answer.{Answer}
-use Rattle.core_state.specs.Wanted.{session_at}
+use Rattle.store_history.specs.Profile.{OnList, same_list, lists, takes_out, profile}
+use Rattle.core_state.specs.Kept.{KeptAt, kept_at}
 use Rattle.core_state.specs.declared.state.Core.{Core}
 use Rattle.core_state.specs.declared.kept.Listed.{Listed}
 use Rattle.core_state.specs.declared.kept.Writing.{Writing}
@@ -49,14 +48,17 @@ abbrev pub forgotten_by : List ℕ → Option Reply → List Listed → List Lis
 forgotten_by snapshot (Some Done) catalogue = without_named (key_of snapshot) catalogue
 forgotten_by snapshot reply catalogue = catalogue
 
--- and after any act with this reply: no other act changes the catalogue
-abbrev pub listed_by : Act → Option Reply → ℕ → Session → List Listed → List Listed
-listed_by (Plain Finish) reply number session catalogue = closed_by reply number session catalogue
-listed_by (Plain (Forget snapshot)) reply number session catalogue = forgotten_by snapshot reply catalogue
-listed_by act reply number session catalogue = catalogue
+-- and after any act with this reply, by what it does to the list
+abbrev pub listed_on : OnList → Option Reply → ℕ → KeptAt → List Listed
+listed_on same_list reply number k = k.catalogue
+listed_on lists reply number k = closed_by reply number k.session k.catalogue
+listed_on (takes_out snapshot) reply number k = forgotten_by snapshot reply k.catalogue
+
+abbrev pub listed_by : Act → Option Reply → ℕ → KeptAt → List Listed
+listed_by act reply number k = listed_on (profile act).list reply number k
 
 -- A FINISH that was done has listed the snapshot of the lane's writer, with the number of the order's entry of this act. A FORGET that
 -- was done has taken out the one that it names. No other act has changed the catalogue.
 abbrev pub Lists : {D E C : Type 0} → Core D E C → Core D E C → ℕ → Act → Answer → Type 0
 Lists old new lane act answer =
-    (new.parts).catalogue.listed ≡ listed_by act answer.reply answer.place (session_at old.parts lane) (old.parts).catalogue.listed
+    (new.parts).catalogue.listed ≡ listed_by act answer.reply answer.place (kept_at old.parts lane)

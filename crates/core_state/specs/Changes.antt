@@ -16,22 +16,21 @@ use Rattle.store_types.specs.declared.refusal.Refusal.TheVariants as refusals
 use Rattle.store_files.specs.Folder.{chunk_name, file_path, manifest_path}
 use Rattle.wire_commands.specs.declared.reply.Reply.{Reply}
 use Rattle.wire_commands.specs.declared.reply.Reply.TheVariants as replies
-use Rattle.wire_commands.specs.declared.command.Command.TheVariants.{CloseIndex, Finish, Abort, Forget}
 use Rattle.snapshot_files.specs.Forgotten.{Forgets, ForgetsFirm, MayLose, without}
 use Rattle.store_history.specs.declared.act.Act.{Act}
-use Rattle.store_history.specs.declared.act.Act.TheVariants.{Plain, Blob, Chunk, End}
+use Rattle.store_history.specs.Profile.{DiskChange, new_file, new_chunk, new_index, new_manifest, no_files, no_snapshot, swept, OnDisk, no_call, only_reads, disk_change, profile}
 use Rattle.backup_session.specs.Indexes.{text_of}
 use Rattle.backup_session.specs.Session.{Open}
 use Rattle.backup_session.specs.Steps.{begun_at}
 use Rattle.store_stops.specs.declared.stop.Stop.{Stop}
 use Rattle.store_stops.specs.declared.stop.Stop.TheVariants.{Refused, NoMemory, DiskFailed}
 use Rattle.core_state.specs.declared.kept.Kept.{Kept}
-use Rattle.core_state.specs.declared.kept.Listed.{Listed}
 use Rattle.core_state.specs.declared.kept.Writing.{Writing}
 use Rattle.core_state.specs.declared.kept.StoredFile.{StoredFile}
 use Rattle.core_state.specs.declared.kept.Session.{Session}
 use Rattle.core_state.specs.declared.kept.Session.TheVariants.{Idle, Writer, Reader}
-use Rattle.core_state.specs.Found.{named_kept}
+use Rattle.core_state.specs.Heads.{named_kept}
+use Rattle.core_state.specs.Kept.{KeptAt}
 use Rattle.core_state.specs.Shown.{put_at}
 
 pub data Change : Type 0 where
@@ -108,15 +107,23 @@ by_writer Idle change = stays
 by_writer (Writer w) change = change w
 by_writer (Reader r) change = stays
 
-abbrev pub change_of : Act → Session → List Listed → Change
-change_of (Blob name checked) session catalogue = by_writer session (blob_put name checked)
-change_of (Chunk digest checked) session catalogue = by_writer session (λ w. chunk_put digest checked)
-change_of (Plain (CloseIndex number count size csum)) session catalogue = by_writer session (λ w. index_put (begun_at number (w.session).writer) w)
-change_of (Plain Finish) session catalogue = finish_by session
-change_of (Plain Abort) session catalogue = by_writer session (λ w. drops (put_paths w.files))
-change_of (Plain (Forget snapshot)) session catalogue = forgotten (result_ok (named_kept snapshot catalogue))
-change_of End session catalogue = by_writer session (λ w. drops (put_paths w.files))
-change_of _ session catalogue = stays
+abbrev pub change_by : DiskChange → KeptAt → Change
+change_by (new_file name checked) k = by_writer k.session (blob_put name checked)
+change_by (new_chunk digest checked) k = by_writer k.session (λ w. chunk_put digest checked)
+change_by (new_index number) k = by_writer k.session (λ w. index_put (begun_at number (w.session).writer) w)
+change_by new_manifest k = finish_by k.session
+change_by no_files k = by_writer k.session (λ w. drops (put_paths w.files))
+change_by (no_snapshot snapshot) k = forgotten (result_ok (named_kept snapshot k))
+change_by swept k = stays
+
+abbrev pub change_on : OnDisk → KeptAt → Change
+change_on no_call k = stays
+change_on only_reads k = stays
+change_on (disk_change change) k = change_by change k
+
+-- of a collector's acts it says nothing
+abbrev pub change_of : Act → KeptAt → Change
+change_of act k = change_on (profile act).disk k
 
 -- ---- what comes of it
 

@@ -1,9 +1,8 @@
 -- Chunk files and pieces: when an act may put a chunk, and which pieces chunk files may have.
 use Rattle.disk_trait.specs.declared.disk.Disk.{Ghosts}
-use Rattle.std.specs.Prelude.{◌≡◌, ◌⊎◌, ℕ, List, Some, Result, Ok, Err}
+use Rattle.std.specs.Prelude.{◌≡◌, ◌⊎◌, ℕ, List, Some, IfSome, Result, Ok, Err}
 use Rattle.std.specs.List.{Contains}
 use Rattle.std.specs.FinMap.{get}
-use Rattle.sha2.specs.Sha256.{sha256}
 use Rattle.store_types.specs.declared.names.Digest32.{Digest32}
 use Rattle.store_types.specs.declared.refusal.Refusal.{Refusal}
 use Rattle.blob_codec.specs.Blob.{blob}
@@ -14,14 +13,11 @@ use Rattle.wire_commands.specs.declared.reply.Reply.{Reply}
 use Rattle.store_model.specs.Store.{Store}
 use Rattle.store_files.specs.Folder.{chunk_name}
 use Rattle.store_history.specs.declared.act.Act.{Act}
-use Rattle.store_history.specs.declared.act.Act.TheVariants.{Chunk}
+use Rattle.store_history.specs.Acts.{sent_chunk}
 use Rattle.store_history.specs.History.{data_in, sent_by}
 use Rattle.core_state.specs.declared.parts.Parts.{Parts}
 use Rattle.core_state.specs.Holds.{Holds}
-
--- the chunk file of the piece is there
-abbrev pub HasChunk : Files → List ℕ → Type 0
-HasChunk m p = get m (chunk_name (sha256 p)) ≡ Some (blob p)
+use Rattle.store_history.specs.ChunkFiles.{HasChunk}
 
 -- ---- putting a chunk
 
@@ -32,14 +28,9 @@ MayStand m digest (Err refusal) = Unit {0}
 
 -- no other piece's chunk stands where the act puts one
 abbrev pub IsSafe : Files → Act → Type 0
-IsSafe m (Chunk digest checked) = MayStand m digest (data_in checked)
-IsSafe m _ = Unit {0}
+IsSafe m act = IfSome (sent_chunk act) (λ c. MayStand m c.0 (data_in c.1))
 
 -- ---- which chunk files there are
-
--- each is one of these pieces'
-abbrev pub HoldsOnly : Files → List (List ℕ) → Type 0
-HoldsOnly m pieces = (p : List ℕ) → HasChunk m p → Contains pieces p
 
 -- each was there before, or is of the piece that the act sent
 abbrev pub AddsChunks : Files → Files → Act → Type 0

@@ -1,11 +1,14 @@
 -- Acts that end a session, and how many entries of the order a lane's end may still make.
 use Rattle.std.specs.Prelude.{◌≡◌, ℕ, Bool, true, false, Option, Some, None, Result, Ok, Err, slice_index_or}
+use Rattle.std.specs.List.{Contains}
 use Rattle.disk_trait.specs.declared.disk.DiskError.{DiskError}
 use Rattle.disk_trait.specs.declared.disk.DiskError.TheVariants.{NoMemory, Failed}
+use Rattle.store_types.specs.declared.names.GroupKey.{GroupKey}
+use Rattle.store_types.specs.declared.names.SnapshotKey.{SnapshotKey}
+use Rattle.lock_book.specs.Locks.{group_holder, sharers}
 use Rattle.wire_commands.specs.declared.reply.Reply.{Reply}
-use Rattle.wire_commands.specs.declared.command.Command.TheVariants.{Abort, CloseReader}
 use Rattle.store_history.specs.declared.act.Act.{Act}
-use Rattle.store_history.specs.declared.act.Act.TheVariants.{Plain}
+use Rattle.store_history.specs.Profile.{OnSessions, ends_writer, ends_reader, profile}
 use Rattle.core_state.specs.declared.parts.Parts.{Parts}
 use Rattle.core_state.specs.declared.state.Core.{Core}
 use Rattle.core_state.specs.Indexed.{row_at}
@@ -25,10 +28,13 @@ is_reader (Writer w) = false
 is_reader (Reader r) = true
 
 -- an ABORT ends a writer, a CLOSE_READER a reader
+abbrev pub is_ended : OnSessions → Session → Bool
+is_ended ends_writer session = is_writer session
+is_ended ends_reader session = is_reader session
+is_ended sessions session = false
+
 abbrev pub closes : Act → Session → Bool
-closes (Plain Abort) session = is_writer session
-closes (Plain CloseReader) session = is_reader session
-closes _ session = false
+closes act session = is_ended (profile act).sessions session
 
 -- after a fault of the disk an act that would end a session is refused
 abbrev pub closes_by : Option ℕ → Act → Session → Bool
@@ -56,7 +62,9 @@ HasClosed parts lane (Ok reply) = slice_index_or parts.sessions.items lane Idle 
 HasClosed parts lane (Err NoMemory) = ⊥
 HasClosed parts lane (Err Failed) = Unit {0}
 
--- A lane whose session has ended: it has none, and nothing is kept of indexes for it.
+-- A lane whose session has ended: it has none, nothing is kept of indexes for it, and it holds no group and no snapshot.
 pub record HasEnded {D : Type 0} (parts : Parts D) (lane : ℕ) : Type 0 where
   pub session : session_at parts lane ≡ Idle
   pub row : row_at parts lane ≡ Unread
+  pub group : (group : GroupKey) → group_holder parts.locks group ≡ Some lane → ⊥
+  pub shared : (key : SnapshotKey) → Contains (sharers parts.locks key) lane → ⊥

@@ -1,6 +1,6 @@
 -- What a command over the parts promises of its act: two records, functions of the act, so that a command's clause is the instance at
 -- its constructor.
-use Rattle.std.specs.Prelude.{◌≡◌, ℕ, Bool, true, false, not, List, Option, Some, Result, Ok, Err, IfOk, IsErrOf, IsTrue}
+use Rattle.std.specs.Prelude.{◌≡◌, ℕ, Bool, true, not, List, Option, Some, Result, Ok, Err, IfOk, IsErrOf, IsTrue}
 use Rattle.disk_trait.specs.Disk.{Serves}
 use Rattle.disk_trait.specs.Effects.{SameContent}
 use Rattle.disk_trait.specs.declared.disk.Disk.{Ghosts}
@@ -10,12 +10,12 @@ use Rattle.wire_commands.specs.HasText.{ReplyHasText}
 use Rattle.wire_commands.specs.declared.reply.Reply.{Reply}
 use Rattle.wire_commands.specs.declared.reply.Reply.TheVariants.{Refused}
 use Rattle.wire_commands.specs.declared.command.Command.{Command}
-use Rattle.wire_commands.specs.declared.command.Command.TheVariants.{OpenWriter, NewFixed, NewDynamic, Append, CloseIndex, Previous, OpenReader, CloseReader, GetChunk, Range, List as ListAll, Forget, Group, Finish, Abort}
 use Rattle.store_model.specs.Store.{Store}
 use Rattle.store_history.specs.declared.act.Act.{Act}
-use Rattle.store_history.specs.declared.act.Act.TheVariants.{Plain, Blob, Chunk, JobGroup, ReadFile, ReadChunk, RemoteList, RemoteFile, RemoteChunk, Start, Step, Short, End}
-use Rattle.store_history.specs.Acts.{family_of, is_collecting, is_managing, is_reaching}
+use Rattle.store_history.specs.declared.act.Act.TheVariants.{Plain}
+use Rattle.store_history.specs.Acts.{class_of, family_of, is_collecting, is_managing, is_sweeping}
 use Rattle.store_history.specs.History.{World, act_outcome}
+use Rattle.store_history.specs.Profile.{are_ended, are_same, have_writer, is_called, is_changed, is_paged, is_same_row, profile}
 use Rattle.core_state.specs.declared.entering.Place.{Place}
 use Rattle.core_state.specs.declared.parts.Parts.{Parts}
 use Rattle.store_stops.specs.declared.stop.Stop.{Stop}
@@ -28,100 +28,58 @@ use Rattle.core_state.specs.Closing.{HasClosed, HasEnded, closes, is_writer}
 use Rattle.core_state.specs.PassedTests.{PassesItsTests}
 use Rattle.core_state.specs.Holds.{Acts, Holds}
 use Rattle.core_state.specs.Indexed.{row_at}
-use Rattle.core_state.specs.Replies.{may_answer}
+use Rattle.core_state.specs.Kept.{kept_at}
+use Rattle.store_history.specs.Replies.{may_answer}
 use Rattle.core_state.specs.Settles.{reply_by}
 use Rattle.core_state.specs.Stops.{told}
 use Rattle.core_state.specs.Unchanged.{Unchanged}
 use Rattle.core_state.specs.Wanted.{session_at}
 
+-- ---- what the row of an act tells
+
 -- the acts that make no call of the disk
 abbrev pub calls_no_disk : Act → Bool
-calls_no_disk (Plain (OpenWriter snapshot)) = true
-calls_no_disk (Plain (NewFixed file size chunk_size)) = true
-calls_no_disk (Plain (NewDynamic file)) = true
-calls_no_disk (Plain (Append number entries)) = true
-calls_no_disk (Plain (OpenReader snapshot)) = true
-calls_no_disk (Plain CloseReader) = true
-calls_no_disk (Plain (ListAll rest)) = true
-calls_no_disk (Plain (Group group)) = true
-calls_no_disk (JobGroup command) = true
-calls_no_disk (RemoteList command) = true
-calls_no_disk (RemoteFile snapshot name offset) = true
-calls_no_disk (RemoteChunk digest) = true
-calls_no_disk Start = true
-calls_no_disk Short = true
-calls_no_disk _ = false
+calls_no_disk act = not (is_called (profile act).disk)
 
 -- the acts that change nothing on the disk
 abbrev pub reads_only : Act → Bool
-reads_only (Blob name checked) = false
-reads_only (Chunk digest checked) = false
-reads_only (Plain (CloseIndex number count size csum)) = false
-reads_only (Plain Finish) = false
-reads_only (Plain Abort) = false
-reads_only (Plain (Forget snapshot)) = false
-reads_only Step = false
-reads_only End = false
-reads_only _ = true
+reads_only act = not (is_changed (profile act).disk)
 
--- the acts on the store as a whole, which leave sessions and locks as they are
-abbrev pub is_admins : Act → Bool
-is_admins act = is_managing (family_of act)
-
--- and the reads of a VERIFY do too, those of the remote, and a reader's of chunks and of an archive
+-- the acts that leave sessions and locks as they are
 abbrev pub is_still : Act → Bool
-is_still (Plain (GetChunk digest)) = true
-is_still (Plain (Range name offset len)) = true
-is_still (ReadFile name offset) = true
-is_still (ReadChunk name entry) = true
-is_still (RemoteList command) = true
-is_still (RemoteFile snapshot name offset) = true
-is_still (RemoteChunk digest) = true
-is_still act = is_admins act
+is_still act = are_same (profile act).sessions
 
--- the acts that read the remote
-abbrev pub is_remotes : Act → Bool
-is_remotes act = is_reaching (family_of act)
+-- the acts after which the lane has no session, once they are done
+abbrev pub ends_session : Act → Bool
+ends_session act = are_ended (profile act).sessions
+
+-- the acts after which the lane has a writer, once they are done
+abbrev pub leaves_writer : Act → Bool
+leaves_writer act = have_writer (profile act).sessions
+
+-- the acts after which, done, the lane keeps of indexes what it kept
+abbrev pub keeps_row : Act → Bool
+keeps_row act = is_same_row (profile act).row
+
+-- the reads of a VERIFY that go by an index
+abbrev pub reads_chunk : Act → Bool
+reads_chunk act = is_paged (profile act).row
+
+-- ---- and its class and family
 
 -- a mark, a visit, or the end of a collector
 abbrev pub is_step : Act → Bool
-is_step Step = true
-is_step _ = false
+is_step act = is_sweeping (class_of act)
+
+-- the acts on the store as a whole
+abbrev pub is_admins : Act → Bool
+is_admins act = is_managing (family_of act)
 
 -- the acts of a collector
 abbrev pub is_collectors : Act → Bool
 is_collectors act = is_collecting (family_of act)
 
--- the acts after which the lane has no session, once they are done
-abbrev pub ends_session : Act → Bool
-ends_session (Plain Finish) = true
-ends_session (Plain Abort) = true
-ends_session (Plain CloseReader) = true
-ends_session End = true
-ends_session _ = false
-
--- the acts after which the lane has a writer, once they are done
-abbrev pub leaves_writer : Act → Bool
-leaves_writer (Plain (OpenWriter snapshot)) = true
-leaves_writer (Plain (NewFixed file size chunk_size)) = true
-leaves_writer (Plain (NewDynamic file)) = true
-leaves_writer (Plain (Append number entries)) = true
-leaves_writer (Plain (CloseIndex number count size csum)) = true
-leaves_writer (Blob name checked) = true
-leaves_writer (Chunk digest checked) = true
-leaves_writer _ = false
-
--- the acts after which, done, the lane keeps of indexes what it kept
-abbrev pub keeps_row : Act → Bool
-keeps_row (ReadChunk name entry) = false
-keeps_row (Plain (Previous name offset)) = false
-keeps_row (Plain (Range name offset len)) = false
-keeps_row act = not (ends_session act)
-
--- the reads of a VERIFY that go by an index
-abbrev pub reads_chunk : Act → Bool
-reads_chunk (ReadChunk name entry) = true
-reads_chunk act = false
+-- ---- what stays of the rows
 
 -- By how the act ended: where it was done, by the act; where it was refused the lane keeps what it kept, but behind a read of a chunk
 -- that is damaged.
@@ -140,6 +98,10 @@ row_stays_by reply act = keeps_row act
 abbrev pub RowsStay : {D : Type 0} → Parts D → Parts D → ℕ → Bool → Type 0
 RowsStay old new lane stays = (i : ℕ) → (i ≡ lane → stays ≡ true) → row_at new i ≡ row_at old i
 
+-- no other lane's session has changed
+abbrev pub OthersStay : {D : Type 0} → Parts D → Parts D → ℕ → Type 0
+OthersStay old new lane = (i : ℕ) → (i ≡ lane → ⊥) → session_at new i ≡ session_at old i
+
 -- so it is after an act that was done
 abbrev pub LeavesRows : {D : Type 0} → Parts D → Parts D → ℕ → Act → Type 0
 LeavesRows old new lane act = RowsStay old new lane (keeps_row act)
@@ -150,7 +112,7 @@ IsNoRefusal _ = Unit {0}
 
 -- the act's change of the disk, by what the core keeps before it
 abbrev pub change_at : {D : Type 0} → Parts D → ℕ → Act → Change
-change_at old lane act = change_of act (session_at old lane) old.catalogue.listed
+change_at old lane act = change_of act (kept_at old lane)
 
 -- The act is the plain store's. What is answered, on any disk, is one of the act's replies, and has a spelling.
 pub record ActDoes {D : Type 0} (d : Ghosts D) (old new : Parts D) (at : Place) (act : Act) (result : Result Reply Stop) : Type 0 where
@@ -174,7 +136,7 @@ pub record ActLeaves {D : Type 0} (d : Ghosts D) (old new : Parts D) (at : Place
   pub content : (IsErrOf result DiskFailed → ⊥) → d.honest old.disk → d.content new.disk ≡ after (by_stop (change_at old at.lane act) result) (d.content old.disk)
   pub crash : LeavesChange d old.disk new.disk (by_stop (change_at old at.lane act) result)
   pub firm : IfOk result (λ _. IsFirm d old.disk new.disk (change_at old at.lane act))
-  pub listed : new.catalogue.listed ≡ listed_by act (Some (reply_by (told result))) at.number (session_at old at.lane) old.catalogue.listed
+  pub listed : new.catalogue.listed ≡ listed_by act (Some (reply_by (told result))) at.number (kept_at old at.lane)
   pub admin : is_still act ≡ true → (new.sessions.items ≡ old.sessions.items) × (new.locks ≡ old.locks)
   -- Which chunk files there are more. It follows from `content`; that the core stands for the longer history is shown by it.
   pub adds : Adds d old new act (told result)
@@ -184,6 +146,7 @@ pub record ActLeaves {D : Type 0} (d : Ghosts D) (old new : Parts D) (at : Place
   pub closed : closes act (session_at old at.lane) ≡ true → HasClosed new at.lane (told result)
   pub ended : ends_session act ≡ true → IfOk result (λ _. HasEnded new at.lane)
   pub writes : leaves_writer act ≡ true → IfOk result (λ _. is_writer (session_at new at.lane) ≡ true)
+  pub others : OthersStay old new at.lane
   -- what the lanes keep of indexes
   pub rows : RowsStay old new at.lane (row_stays result act)
 

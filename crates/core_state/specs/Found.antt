@@ -1,15 +1,12 @@
 -- What is found in the catalogue.
-use Rattle.std.specs.Prelude.{ℕ, ◌≤◌, Bool, true, List, map, filter, length, Option, None, Some, is_none, is_some, option_map, Result}
+use Rattle.std.specs.Prelude.{ℕ, ◌≤◌, Bool, true, List, map, filter, length, Option, None, Some, is_none, is_some, option_map}
 use Rattle.std.specs.Borrow.{Bor}
 use Rattle.std.specs.List.{find, last_or}
 use Rattle.std.specs.Option.{ForSome}
 use Rattle.std.specs.Str.{bytes_eq}
 use Rattle.store_types.specs.declared.names.GroupKey.{GroupKey}
 use Rattle.store_types.specs.declared.names.SnapshotKey.{SnapshotKey}
-use Rattle.store_types.specs.declared.refusal.Refusal.{Refusal}
-use Rattle.store_types.specs.declared.refusal.Refusal.TheVariants.{BadName, NoSnapshot}
-use Rattle.store_types.specs.Chain.Refusing.{◌>>=◌, or_else}
-use Rattle.store_types.specs.Names.{group_of_key, key_lt, key_of, same_group, same_key}
+use Rattle.store_types.specs.Names.{group_of_key, key_lt, same_group, same_key}
 use Rattle.core_state.specs.declared.kept.Listed.{Listed}
 use Rattle.core_state.specs.declared.kept.Kept.{Kept}
 use Rattle.core_state.specs.declared.kept.StoredFile.{StoredFile}
@@ -34,12 +31,6 @@ path_of_kept name (Some k) = path_named name k.files
 -- where the snapshot's file stands
 abbrev pub path_in : SnapshotKey → List ℕ → List Listed → Option (List ℕ)
 path_in key name catalogue = path_of_kept name (kept_named key catalogue)
-
--- the finished snapshot that the text names
-unfoldable pub named_kept : List ℕ → List Listed → Result Kept Refusal
-named_kept text catalogue = do
-  key ← or_else BadName (key_of text)
-  or_else NoSnapshot (kept_named key catalogue)
 
 -- the name of the file that makes it damaged leaves room for a temporary one's ending
 abbrev pub IsShortNamed : Kept → Type 0

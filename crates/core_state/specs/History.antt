@@ -12,7 +12,7 @@ use Rattle.store_history.specs.Legal.{IsLegal, IsTimed, readings_left}
 use Rattle.core_state.specs.declared.state.Core.{Core}
 use Rattle.core_state.specs.Collectors.{open_in, shown_collecting}
 use Rattle.core_state.specs.Holds.{Shows, IsOnDisk}
-use Rattle.core_state.specs.Chunks.{HoldsOnly}
+use Rattle.store_history.specs.ChunkFiles.{HoldsOnly}
 
 -- an opening, the remote's snapshots where there is a remote, the clock's readings where they are told, and the events
 pub record History : Type 0 where

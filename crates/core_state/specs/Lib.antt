@@ -4,7 +4,9 @@ pub mod Shown
 pub mod Indexed
 pub mod Locked
 pub mod States
-pub mod Replies
+pub mod Kept
+pub mod Decides
+pub mod Heads
 pub mod MarkedPage
 pub mod Entries
 pub mod Collectors
@@ -23,12 +25,13 @@ pub mod Closing
 pub mod Reserved
 pub mod Records
 pub mod Found
-pub mod Foreign
+pub mod ListedRows
 pub mod Catalogue
 pub mod Catalogued
 pub mod Changes
 pub mod Listing
 pub mod Unreadables
+pub mod Damages
 pub mod Calls
 pub mod Stops
 pub mod Remotes
@@ -36,6 +39,7 @@ pub mod Wanted
 pub mod PassedTests
 pub mod Commands
 pub mod FromState
+pub mod Tells
 pub mod Passes
 pub mod Applies
 pub mod Recovers

@@ -19,8 +19,8 @@ use Rattle.core_state.specs.Shown.{files_named}
 -- ---- an index of the plan
 
 -- the snapshot of the catalogue with this number
-abbrev pub kept_at : ℕ → List Listed → Option Kept
-kept_at number catalogue = option_map (λ x. x.kept) (find (λ x. x.number == number) catalogue)
+abbrev pub by_number : ℕ → List Listed → Option Kept
+by_number number catalogue = option_map (λ x. x.kept) (find (λ x. x.number == number) catalogue)
 
 abbrev pub digests_in : Option File → List (List ℕ)
 digests_in None = []
@@ -36,7 +36,7 @@ left_of_kept snapshots name first None = []
 left_of_kept snapshots name first (Some k) = unmarked_of k.key name (drop first (digests_named k.key name snapshots))
 
 abbrev pub left_at : List Listed → List Snapshot → ℕ → IndexAt → List Unmarked
-left_at catalogue snapshots first i = left_of_kept snapshots i.name first (kept_at i.snapshot catalogue)
+left_at catalogue snapshots first i = left_of_kept snapshots i.name first (by_number i.snapshot catalogue)
 
 -- of these indexes, the first of which is marked up to this entry
 abbrev pub left_in : List Listed → List Snapshot → ℕ → List IndexAt → List Unmarked
@@ -73,7 +73,7 @@ ArePages snapshots name p (Some k) =
 
 abbrev pub HasPages : List Listed → List Snapshot → MarkedPages → Option IndexAt → Type 0
 HasPages catalogue snapshots p None = Unit {0}
-HasPages catalogue snapshots p (Some i) = ArePages snapshots i.name p (kept_at i.snapshot catalogue)
+HasPages catalogue snapshots p (Some i) = ArePages snapshots i.name p (by_number i.snapshot catalogue)
 
 -- no act after so many gives a snapshot the number of this index's
 abbrev pub HasNumber : ℕ → IndexAt → Type 0

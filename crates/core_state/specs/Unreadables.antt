@@ -15,15 +15,13 @@ use Rattle.paged_indexes.specs.declared.kinds.IndexKind.{IndexKind}
 use Rattle.snapshot_files.specs.Parts.{part_from}
 use Rattle.snapshot_files.specs.Indexes.{index_at}
 use Rattle.core_state.specs.declared.entering.Place.{Place}
-use Rattle.core_state.specs.declared.kept.Listed.{Listed}
-use Rattle.core_state.specs.declared.kept.Session.{Session}
 use Rattle.core_state.specs.declared.parts.Parts.{Parts}
 use Rattle.core_state.specs.declared.state.Core.{Core}
 use Rattle.store_stops.specs.declared.stop.Stop.{Stop}
+use Rattle.core_state.specs.Kept.{KeptAt, kept_at}
 use Rattle.core_state.specs.Listing.{listing_at}
 use Rattle.core_state.specs.Settles.{kind_by, reply_by}
 use Rattle.core_state.specs.Stops.{told}
-use Rattle.core_state.specs.Wanted.{session_at}
 
 -- how a file is read that an act asks for
 pub data Way : Type 0 where
@@ -66,12 +64,12 @@ pub record TellsUnreadable {D : Type 0} (d : Ghosts D) (disk : D) (asked : Optio
   pub cause : (name : List ℕ) (a : Asked) → reply ≡ Some (Refused (Unreadable name)) → asked ≡ Some a → d.honest disk → part_read (d.content disk) a ≡ Err (Unreadable name)
   pub missing : (name : List ℕ) (a : Asked) → kind ≡ COMMAND_KIND → asked ≡ Some a → d.honest disk → part_read (d.content disk) a ≡ Err (Unreadable name) → reply ≡ Some (Refused (Unreadable name))
 
--- the file that an act asks for by its lane's session and the catalogue is told so, by how its command ended
-abbrev pub ActUnreadable : {D : Type 0} → Ghosts D → (Session → List Listed → Option Asked) → Parts D → Place → Result Reply Stop → Type 0
+-- the file that an act asks for, by what it finds, is told so, by how its command ended
+abbrev pub ActUnreadable : {D : Type 0} → Ghosts D → (KeptAt → Option Asked) → Parts D → Place → Result Reply Stop → Type 0
 ActUnreadable d asked old at result =
-    TellsUnreadable d old.disk (asked (session_at old at.lane) old.catalogue.listed) (kind_by (told result)) (Some (reply_by (told result)))
+    TellsUnreadable d old.disk (asked (kept_at old at.lane)) (kind_by (told result)) (Some (reply_by (told result)))
 
 -- and by the core's answer
-abbrev pub CoreUnreadable : {D E C : Type 0} → Ghosts D → (Session → List Listed → Option Asked) → Core D E C → ℕ → Answer → Type 0
+abbrev pub CoreUnreadable : {D E C : Type 0} → Ghosts D → (KeptAt → Option Asked) → Core D E C → ℕ → Answer → Type 0
 CoreUnreadable d asked old lane answer =
-    TellsUnreadable d (old.parts).disk (asked (session_at old.parts lane) (old.parts).catalogue.listed) (answer.entry).kind answer.reply
+    TellsUnreadable d (old.parts).disk (asked (kept_at old.parts lane)) (answer.entry).kind answer.reply

@@ -8,7 +8,7 @@ ghost use Rattle.store_types.specs.Names.{IsKey, group_cmp, group_of_key, key_lt
 ghost use Rattle.core_state.specs.Catalogue.{insert_listed, without_listed};
 ghost use Rattle.core_state.specs.Found.{IsShortNamed, count_of, first_unreadable, is_behind, is_in, kept_named, latest_of, lent_key, path_in, path_named as path_among, whole_of};
 ghost use Rattle.core_state.specs.Named.{is_named_snapshot};
-ghost use Rattle.core_state.specs.Sweeps.{kept_at};
+ghost use Rattle.core_state.specs.Sweeps.{by_number};
 
 use crate::kept::{Kept, Listed, StoredFile};
 use snapshot_files::FilePath;
@@ -129,7 +129,7 @@ impl Catalogue {
 
     /// The snapshot of this number.
     pub fn by_number(&self, number: u64) -> Option<&Kept>
-        ensures { option_map (λ k. k.now) result ≡ kept_at number self.now.listed }
+        ensures { option_map (λ k. k.now) result ≡ by_number number self.now.listed }
     {
         let found = self.listed.iter().find(|listed| listed.number == number);
         found.map(|listed| &listed.kept)

@@ -38,7 +38,7 @@ use Rattle.store_stops.specs.declared.stop.Stop.{Stop}
 use Rattle.store_stops.specs.declared.stop.Stop.TheVariants.{DiskFailed}
 use Rattle.core_state.specs.Changes.{Change, drops, IsFirm, LeavesChange, after, by_writer, put_paths}
 use Rattle.core_state.specs.Chunks.{AddsChunks}
-use Rattle.core_state.specs.Commands.{ActDoes, ActLeaves}
+use Rattle.core_state.specs.Commands.{ActDoes, ActLeaves, OthersStay}
 use Rattle.core_state.specs.Holds.{Does, Holds, Shows}
 use Rattle.core_state.specs.Unchanged.{SameKept}
 use Rattle.core_state.specs.Closing.{HasEnded}
@@ -120,15 +120,15 @@ module _ {D : Type 0} (d : Ghosts D) where
 
   pub end_leaves : (old new : Parts D) (at : Place) (removed : D) → new.disk ≡ removed → LeavesBy d old.disk removed (MayLose (put_paths (files_in (session_at old at.lane))))
       → (d.honest old.disk → d.content removed ≡ without (put_paths (files_in (session_at old at.lane))) (d.content old.disk))
-      → new.catalogue.listed ≡ old.catalogue.listed → HasEnded new at.lane → new.indexes.items ≡ set old.indexes.items at.lane Unread → ActLeaves d old new at acts.End (Ok Done)
-  end_leaves old new at removed same crash content c idle emptied =
+      → new.catalogue.listed ≡ old.catalogue.listed → HasEnded new at.lane → new.indexes.items ≡ set old.indexes.items at.lane Unread → OthersStay old new at.lane → ActLeaves d old new at acts.End (Ok Done)
+  end_leaves old new at removed same crash content c idle emptied others =
       let reads : d.honest old.disk → d.content new.disk ≡ without (put_paths (files_in (session_at old at.lane))) (d.content old.disk) = λ h. ap d.content same ∙ content h in
       writes_leaves d old new at acts.End Done tt refl
       (λ h. after_end (session_at old at.lane) (d.content old.disk) (d.content new.disk) (reads h))
       (subst (λ x. LeavesChange d old.disk x (ends_by (session_at old at.lane))) (sym same) (leaves_end (session_at old at.lane) old.disk removed crash))
       (firm_end (session_at old at.lane) old.disk new.disk) c (not_still acts.End refl)
       (λ s h. adds_less (d.content old.disk) (d.content new.disk) (put_paths (files_in (session_at old at.lane))) acts.End (reads h.honest)) (λ _. idle) (λ writes. cc)
-      (rows_but old new.indexes.items at.lane acts.End Unread refl emptied)
+      (rows_but old new.indexes.items at.lane acts.End Unread refl emptied) others
 
   pub end_fails : (old new : Parts D) (at : Place) (removed result : Result (Unit {0}) Failed) (e f : Failed) → removed ≡ Err e → IsErrAnd result (λ x. x ≡ f) → Serves d.honest d.faults old.disk new.disk (IsErr removed) → SameKept old new
       → ActDoes d old new at acts.End (ended_as result)
@@ -183,6 +183,7 @@ module _ {D : Type 0} (d : Ghosts D) where
         closed = λ _. (ends.ended refl).session;
         ended = λ _. ends.ended refl;
         writes = λ writes. cc;
+        others = ends.others;
         rows = ends.rows;
       }
 
@@ -221,5 +222,6 @@ module _ {D : Type 0} (d : Ghosts D) where
         closed = λ _. tt;
         ended = λ _. tt;
         writes = λ _. tt;
+        others = ends.others;
         rows = ends.rows;
       })

@@ -71,7 +71,7 @@ use Rattle.core_writer.proofs.EndingLemmas.{remove_less}
 use Rattle.store_history.specs.declared.act.Act.TheVariants as acts
 use Rattle.sha2.specs.Sha256.{sha256}
 use Rattle.blob_codec.specs.Blob as blobs
-use Rattle.core_state.specs.Replies.{refuses_finish}
+use Rattle.store_history.specs.Replies.{refuses_finish}
 use Rattle.core_state.specs.declared.indexes.Indexes.{Indexes}
 use Rattle.core_state.specs.declared.indexes.Indexes.TheVariants.{Unread}
 use Rattle.core_state.specs.Indexed.{FitsRows}

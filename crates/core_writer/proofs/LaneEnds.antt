@@ -3,11 +3,12 @@ use Rattle.std.proofs.Common.{◌≡◌, ℕ, true, false, set, Option, Some, No
 use Rattle.std.specs.Option.{is_some}
 use Rattle.store_model.specs.Store.{Store, ended}
 use Rattle.store_history.specs.declared.act.Act.TheVariants.{End}
+use Rattle.core_state.proofs.Commanding.{others_set}
 use Rattle.core_state.specs.declared.indexes.Indexes.TheVariants.{Unread}
 use Rattle.core_state.specs.declared.kept.Session.TheVariants.{Idle}
 use Rattle.core_state.specs.declared.parts.Parts.{Parts}
 use Rattle.core_state.specs.Closing.{HasEnded}
-use Rattle.core_state.specs.Commands.{LeavesRows}
+use Rattle.core_state.specs.Commands.{LeavesRows, OthersStay}
 use Rattle.core_state.specs.Holds.{Shows}
 use Rattle.core_state.specs.Wanted.{session_at}
 use Rattle.core_state.proofs.Rows.{rows_but}
@@ -39,3 +40,7 @@ lane_ended parts at lane is ended = subst (HasEnded parts) (sym is) ended
 -- the other lanes keep what they kept of indexes
 pub others_keep : {D : Type 0} (old new : Parts D) (at lane : ℕ) → at ≡ lane → new.indexes.items ≡ set old.indexes.items lane Unread → LeavesRows old new at End
 others_keep old new at lane is emptied = subst (λ l. LeavesRows old new l End) (sym is) (rows_but old new.indexes.items lane End Unread refl emptied)
+
+-- and their sessions
+pub others_stay : {D : Type 0} (old new : Parts D) (at lane : ℕ) → at ≡ lane → new.sessions.items ≡ set old.sessions.items lane Idle → OthersStay old new at
+others_stay old new at lane is sets = subst (OthersStay old new) (sym is) (others_set old new lane Idle sets)

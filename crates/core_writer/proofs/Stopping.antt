@@ -16,7 +16,7 @@ use Rattle.store_stops.specs.declared.stop.Stop.{Stop}
 use Rattle.store_stops.specs.declared.stop.Stop.TheVariants.{Refused, NoMemory, DiskFailed}
 use Rattle.core_state.specs.Commands.{ActDoes}
 use Rattle.core_state.specs.Holds.{Holds}
-use Rattle.core_state.specs.Replies.{may_answer}
+use Rattle.store_history.specs.Replies.{may_answer}
 use Rattle.snapshot_files.specs.Reads.{StopHasText}
 use Rattle.store_stops.specs.Stops.{IfRefused}
 use Rattle.core_state.specs.Unchanged.{SameKept}

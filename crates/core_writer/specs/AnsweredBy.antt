@@ -1,42 +1,18 @@
 -- What OPEN_WRITER answers by what the core keeps, on any disk.
 use Rattle.std.specs.Prelude.{ℕ, List, Option, Result, Ok}
-use Rattle.lock_book.specs.Locks.{Locks}
 use Rattle.store_types.specs.declared.names.SnapshotKey.{SnapshotKey}
 use Rattle.store_types.specs.declared.refusal.Refusal.{Refusal}
-use Rattle.store_types.specs.declared.refusal.Refusal.TheVariants.{BadName}
-use Rattle.store_types.specs.Chain.Refusing.{◌>>=◌, or_else}
-use Rattle.store_types.specs.Names.{key_of}
-use Rattle.wire_commands.specs.declared.command.Command.TheVariants.{OpenWriter}
+use Rattle.store_types.specs.Chain.Refusing.{◌>>=◌}
 use Rattle.wire_commands.specs.declared.reply.Reply.{Reply}
 use Rattle.wire_commands.specs.declared.reply.Reply.TheVariants.{Base}
 use Rattle.store_model.specs.WriterSteps.{base_text}
-use Rattle.store_history.specs.declared.act.Act.{Act}
-use Rattle.store_history.specs.declared.act.Act.TheVariants.{Plain}
-use Rattle.store_history.specs.declared.act.Answer.{Answer}
-use Rattle.core_state.specs.declared.entering.Place.{Place}
-use Rattle.core_state.specs.declared.kept.Listed.{Listed}
-use Rattle.core_state.specs.declared.kept.Session.{Session}
-use Rattle.core_state.specs.declared.parts.Parts.{Parts}
-use Rattle.core_state.specs.declared.state.Core.{Core}
-use Rattle.store_stops.specs.declared.stop.Stop.{Stop}
-use Rattle.core_state.specs.FromState.{ActTells, CoreTells}
-use Rattle.core_state.specs.Wanted.{want_idle}
-use Rattle.core_writer.specs.Opened.{base_for}
+use Rattle.core_state.specs.Kept.{KeptAt}
+use Rattle.core_writer.specs.Opened.{to_write}
 
 -- the base is told by its text, which is empty where there is none
 abbrev pub tells_base : Option SnapshotKey → Result Reply Refusal
 tells_base base = Ok (Base (base_text base))
 
 -- the text of the group's latest whole snapshot, or the refusal
-abbrev pub writer_told : List ℕ → ℕ → Session → List Listed → Locks → Result Reply Refusal
-writer_told text lane session catalogue locks =
-    want_idle session >>= λ _. or_else BadName (key_of text) >>= λ key. base_for locks catalogue lane key >>= tells_base
-
--- of the acts of writers OPEN_WRITER alone is answered so
-abbrev pub ActAnswersBy : {D : Type 0} → Parts D → Place → Act → Result Reply Stop → Type 0
-ActAnswersBy old at (Plain (OpenWriter snapshot)) result = ActTells (writer_told snapshot) old at result
-ActAnswersBy old at act result = Unit {0}
-
-abbrev pub CoreAnswersBy : {D E C : Type 0} → Core D E C → ℕ → Act → Answer → Type 0
-CoreAnswersBy old lane (Plain (OpenWriter snapshot)) answer = CoreTells (writer_told snapshot) old lane answer
-CoreAnswersBy old lane act answer = Unit {0}
+abbrev pub writer_told : List ℕ → KeptAt → Result Reply Refusal
+writer_told text k = to_write text k >>= λ b. tells_base b.1

@@ -8,15 +8,15 @@ use Rattle.store_types.specs.declared.refusal.Refusal.TheVariants.{GroupBusy, To
 use Rattle.store_types.specs.Chain.Refusing.{◌>>=◌, unless, if_none}
 use Rattle.store_types.specs.Names.{group_of_key}
 use Rattle.lock_book.specs.Locks.{Locks, TakesWriter, group_holder, other_than}
-use Rattle.store_model.specs.WriterSteps.{want_newer, base_text}
+use Rattle.store_model.specs.WriterSteps.{want_newer}
 use Rattle.backup_session.specs.Session.{settled}
 use Rattle.backup_session.specs.Steps as rows
 use Rattle.core_state.specs.declared.kept.Kept.{Kept}
 use Rattle.core_state.specs.declared.kept.Listed.{Listed}
 use Rattle.core_state.specs.declared.kept.Writing.{Writing}
-use Rattle.store_stops.specs.declared.stop.Stop.{Stop}
-use Rattle.store_stops.specs.declared.stop.Stop.TheVariants.{Refused, NoMemory, DiskFailed}
 use Rattle.core_state.specs.Found.{kept_in, latest_kept, latest_whole, lent_key}
+use Rattle.core_state.specs.Heads.{idle_key}
+use Rattle.core_state.specs.Kept.{KeptAt}
 use Rattle.core_writer.specs.declared.opening.Beginning.{Beginning}
 
 -- The base of a writer of the group's snapshot of this time, unless it is refused; where another lane has the group, it is refused with that lane. A
@@ -54,18 +54,23 @@ base_for locks catalogue lane key = base_on locks catalogue lane (group_of_key k
 abbrev pub LendsBase : Result (Option SnapshotKey) Refusal → Result (Option (Bor SnapshotKey)) Refusal → Type 0
 LendsBase step result = MatchResult result (λ base. step ≡ Ok (lent_key base)) (λ refusal. step ≡ Err refusal)
 
--- the lane takes the snapshot's group, and what it begins with as base
-abbrev pub TakesBase : Locks → Locks → ℕ → SnapshotKey → Beginning → Type 0
-TakesBase old new lane key b = TakesWriter old new lane (group_of_key key) b.base
+-- ---- the tests in a row
 
--- ---- the writer, and its reply
+-- the snapshot that the text names, and its writer's base, or the refusal
+unfoldable pub to_write : List ℕ → KeptAt → Result (SnapshotKey × Option SnapshotKey) Refusal
+to_write text k = do
+  key ← idle_key text k
+  base ← base_for k.locks k.catalogue k.lane key
+  Ok (key, base)
+
+abbrev pub begins_with : Beginning → SnapshotKey × Option SnapshotKey
+begins_with b = (b.key, b.base)
+
+-- the lane takes the group, and the base
+abbrev pub TakesBase : Locks → Locks → ℕ → Beginning → Type 0
+TakesBase old new lane b = TakesWriter old new lane b.group b.base
+
+-- ---- the writer
 
 abbrev pub new_writing : SnapshotKey → ℕ → Option SnapshotKey → Writing
 new_writing key moment base = record { session = settled (rows.opened key moment base); files = [] }
-
--- what was told is the base with its text, or the refusal
-abbrev pub TellsBase : Result (Option SnapshotKey) Refusal → Result Beginning Stop → Type 0
-TellsBase step (Ok b) = (step ≡ Ok b.base) × (b.text ≡ base_text b.base)
-TellsBase step (Err (Refused refusal)) = step ≡ Err refusal
-TellsBase step (Err NoMemory) = Unit {0}
-TellsBase step (Err DiskFailed) = Unit {0}

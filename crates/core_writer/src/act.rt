@@ -6,24 +6,22 @@ ghost use Rattle.store_history.specs.declared.act.Act.TheVariants.{End};
 ghost use Rattle.store_history.specs.Acts.{IsWellFormed, family_of};
 ghost use Rattle.core_state.specs.Applies.{ActApplies, ActKeeps};
 ghost use Rattle.core_state.specs.Commands.{ActDoes, ActLeaves};
-ghost use Rattle.core_state.specs.Indexed.{row_at};
 ghost use Rattle.core_state.specs.Reserved.{HasRoom};
-ghost use Rattle.core_state.specs.Stops.{ended_by};
-ghost use Rattle.core_state.specs.Unreadables.{ActUnreadable, CoreUnreadable};
-ghost use Rattle.core_writer.specs.AnsweredBy.{ActAnswersBy, CoreAnswersBy};
-ghost use Rattle.core_writer.specs.Notes.{Notes};
+ghost use Rattle.core_state.specs.Tells.{ActTells, CoreTells};
 ghost use Rattle.core_writer.specs.Touching.{ActTouches};
-ghost use Rattle.core_writer.specs.WriterActs.{asked_of_writer};
+ghost use Rattle.core_writer.specs.WriterWords.{writer_words};
 
+use crate::archives::{close_index, new_dynamic, new_fixed};
 use crate::ending::{abort, end};
 use crate::finishing::finish;
 use crate::opening::open_writer;
+use crate::previous_files::previous;
 use crate::touching::{append_touched, chunk_touched};
+use crate::uploads::blob;
 use core_state::{
     Act, Admitted, Answer, Core, Family, Parts, Place, Upkeep, begin, end_session, enter,
     next_place, settle,
 };
-use core_uploads::{blob, close_index, new_dynamic, new_fixed, previous};
 use disk_trait::Disk;
 use port_traits::Clock;
 use std::alloc::Global;
@@ -45,10 +43,7 @@ fn perform<D: Disk>(
     ensures does { ActDoes D.Disk parts.old parts.new at act result }
     ensures leaves { ActLeaves D.Disk parts.old parts.new at act result }
     ensures touches { ActTouches upkeep.old upkeep.new at act result }
-    ensures from_state { ActAnswersBy parts.old at act result }
-    ensures unreadable { ActUnreadable D.Disk (asked_of_writer (row_at parts.old at.lane) act)
-        parts.old at result }
-    ensures notes { Notes D.Disk parts.old parts.new at.lane act result }
+    ensures tells { ActTells (writer_words act) D.Disk parts.old parts.new at result }
 {
     match act {
         Act::Plain(Command::OpenWriter { snapshot }) => {
@@ -101,13 +96,9 @@ pub fn writer_act<D: Disk, E, C: Clock>(
     requires formed { IsWellFormed act }
     ensures applies { ActApplies D.Disk C.Clock core.old core.new lane act result }
     ensures keeps { ActKeeps D.Disk core.old core.new lane act result }
-    // on any disk OPEN_WRITER answers what the core keeps
-    ensures from_state { CoreAnswersBy core.old lane act result }
-    // a file of the base is unreadable exactly where it is, as far as the disk tells
-    ensures unreadable { CoreUnreadable D.Disk (asked_of_writer (row_at core.old.parts lane) act)
-        core.old lane result }
-    // what the lane keeps of indexes then, and which pieces of one its writer may name
-    ensures notes { Notes D.Disk core.old.parts core.new.parts lane act (ended_by result.reply) }
+    // on any disk OPEN_WRITER answers what the core keeps, and takes its group and base; a file of a PREVIOUS is unreadable
+    // exactly where it is, as far as the disk tells, how often it calls the disk, and what it leaves of indexes and pieces
+    ensures tells { CoreTells (writer_words act) D.Disk core.old core.new lane result }
 {
     match begin(core, alloc, lane, &act) {
         Admitted::Answered(answer) => {

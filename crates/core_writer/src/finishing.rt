@@ -9,7 +9,7 @@ ghost use Rattle.core_state.specs.Catalogue.{closed};
 ghost use Rattle.core_state.specs.Changes.{kept_manifest};
 ghost use Rattle.core_state.specs.Commands.{PlainDoes, PlainLeaves};
 ghost use Rattle.core_state.specs.Named.{is_named};
-ghost use Rattle.core_state.specs.Replies.{refuses_finish};
+ghost use Rattle.store_history.specs.Replies.{refuses_finish};
 ghost use Rattle.core_writer.specs.Finished.{ChecksPlainly, lent_file, manifest_among, manifest_in};
 ghost use Rattle.core_writer.specs.Stopping.{StopsBy};
 

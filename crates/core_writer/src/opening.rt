@@ -1,20 +1,22 @@
 //! OPEN_WRITER.
 
-ghost use Rattle.std.specs.Prelude.{◌≡◌, ◌<◌, ◌≤◌, length, IfOk, IfErr, OnErr};
+ghost use Rattle.std.specs.Prelude.{◌≡◌, ◌<◌, ◌≤◌, length, IfOk, IfErr, None, OnErr, OnOk};
 ghost use Rattle.std.specs.Option.{ForSome};
-ghost use Rattle.store_types.specs.Names.{IsKey};
+ghost use Rattle.store_types.specs.Names.{IsKey, group_of_key};
 ghost use Rattle.store_types.specs.Times.{last_moment};
 ghost use Rattle.store_types.specs.Chain.Refusing.{if_none};
 ghost use Rattle.store_types.specs.declared.refusal.Refusal.TheVariants.{GroupBusy};
 ghost use Rattle.wire_commands.specs.declared.command.Command.TheVariants.{OpenWriter};
 ghost use Rattle.store_model.specs.WriterSteps.{base_text as text_of_base};
-ghost use Rattle.store_history.specs.declared.act.Act.TheVariants.{Plain};
 ghost use Rattle.core_state.specs.Commands.{PlainDoes, PlainLeaves};
+ghost use Rattle.core_state.specs.Decides.{Decides};
 ghost use Rattle.core_state.specs.Found.{lent_key};
-ghost use Rattle.core_state.specs.Replies.{refuses_writer};
-ghost use Rattle.core_writer.specs.AnsweredBy.{ActAnswersBy};
-ghost use Rattle.core_writer.specs.Opened.{LendsBase, TakesBase, TellsBase, base_for, base_on, other_holder};
-ghost use Rattle.core_writer.specs.Stopping.{RefusesBy, StopsBy};
+ghost use Rattle.core_state.specs.FromState.{ActTells};
+ghost use Rattle.store_history.specs.Replies.{refuses_writer};
+ghost use Rattle.core_writer.specs.AnsweredBy.{writer_told};
+ghost use Rattle.core_writer.specs.Opened.{LendsBase, TakesBase, base_on, begins_with, other_holder, to_write as base_to_write};
+ghost use Rattle.core_writer.specs.Stopping.{RefusesBy};
+ghost use Rattle.core_writer.specs.WriterWords.{TakesLocks};
 
 use crate::testing::{want_newer, want_room};
 use core_state::{Catalogue, Parts, Place, Session, Writing};
@@ -25,9 +27,11 @@ use store_stops::Stop;
 use store_types::{Bytes, GroupKey, Refusal, Rows, SnapshotKey};
 use wire_commands::Reply;
 
-/// What a writer begins with: its base, and the base's text, which is empty where there is none.
+/// What a writer begins with: its snapshot and group, its base, and the base's text, which is empty where there is none.
 #[derive(Drop)]
 struct Beginning {
+    key: SnapshotKey,
+    group: GroupKey,
     base: Option<SnapshotKey>,
     text: Bytes,
 }
@@ -84,28 +88,42 @@ fn copied(base: Option<&SnapshotKey>) -> Result<Option<SnapshotKey>, AllocError>
     }
 }
 
-/// The lane takes the group of the snapshot, and the group's latest whole snapshot as base. At a refusal and at want of
-/// memory nothing has changed.
-fn take_locks(
-    locks: &mut LockBook,
+/// What OPEN_WRITER tests: what the lane's writer of the snapshot begins with.
+#[tactic(auto, unfolding(crate::specs::Opened::to_write))]
+fn to_write<D>(
+    parts: &Parts<D>,
     alloc: Global,
-    catalogue: &Catalogue,
     lane: u32,
-    key: &SnapshotKey,
+    snapshot: &[u8],
 ) -> Result<Beginning, Stop>
-    ensures stop { IfErr result (StopsBy refuses_writer) }
-    // a group that another lane has is told with that lane
-    ensures value { TellsBase (base_for locks.old catalogue.now.listed lane key.now) result }
+    requires { lane < 64 }
+    ensures value { Decides begins_with (base_to_write snapshot.now) parts.now lane result }
+    ensures grammar { IfOk result (λ b. IsKey b.key) }
+    ensures group { IfOk result (λ b. b.group ≡ group_of_key b.key) }
+    ensures text { IfOk result (λ b. b.text ≡ text_of_base b.base) }
     ensures short { IfOk result (λ b. length b.text < 256) }
-    ensures taken { IfOk result (λ b. TakesBase locks.old locks.new lane key.now b) }
+{
+    let key = parts.idle_key(alloc, lane, snapshot)?;
+    let group = key.group(alloc)?;
+    let base = base_of(&parts.locks, &parts.catalogue, lane, &group, key.time)?;
+    let text = base_text(alloc, base)?;
+    let base = copied(base)?;
+    Ok(Beginning {
+        key,
+        group,
+        base,
+        text,
+    })
+}
+
+/// The lane takes the group, which no other lane's writer has, and the base. At want of memory nothing has changed.
+fn take_locks(locks: &mut LockBook, lane: u32, begun: &Beginning) -> Result<(), AllocError>
+    requires { other_holder locks.old lane begun.now.group ≡ None }
+    ensures ok { OnOk result (TakesBase locks.old locks.new lane begun.now) }
     ensures err { OnErr result (locks.new ≡ locks.old) }
 {
-    let group = key.group(alloc)?;
-    let base = base_of(locks, catalogue, lane, &group, key.time)?;
-    let text = base_text(alloc, base)?;
-    let copy = copied(base)?;
-    match locks.writer_take(lane, &group, base)? {
-        Ok(()) => Ok(Beginning { base: copy, text }),
+    match locks.writer_take(lane, &begun.group, begun.base.as_ref())? {
+        Ok(()) => Ok(()),
         Err(_) => unreachable!(),
     }
 }
@@ -126,15 +144,13 @@ pub fn open_writer<D: Disk>(
     ensures does { PlainDoes D.Disk parts.old parts.new at (OpenWriter snapshot.now) result }
     ensures leaves { PlainLeaves D.Disk parts.old parts.new at (OpenWriter snapshot.now) result }
     // on any disk
-    ensures from_state { ActAnswersBy parts.old at (Plain (OpenWriter snapshot.now)) result }
+    ensures from_state { ActTells (writer_told snapshot.now) parts.old at result }
+    ensures locks { TakesLocks parts.old parts.new at.lane result }
 {
-    parts.idle(at.lane)?;
-    let Ok(key) = SnapshotKey::parse(alloc, snapshot)? else {
-        return Err(Stop::Refused(Refusal::BadName));
-    };
-    let begun = take_locks(&mut parts.locks, alloc, &parts.catalogue, at.lane, &key)?;
+    let begun = to_write(parts, alloc, at.lane, snapshot)?;
+    take_locks(&mut parts.locks, at.lane, &begun)?;
     parts.sessions[at.lane as usize] = Session::Writer(Writing {
-        session: backup_session::open_writer(alloc, key, at.moment, begun.base),
+        session: backup_session::open_writer(alloc, begun.key, at.moment, begun.base),
         files: Rows::new(alloc),
     });
     Ok(Reply::Base {

@@ -3,7 +3,7 @@
 ghost use Rattle.std.specs.Prelude.{◌≡◌, IfErr};
 ghost use Rattle.store_model.specs.WriterSteps.{want_newer as needs_newer};
 ghost use Rattle.core_state.specs.Found.{lent_key};
-ghost use Rattle.core_state.specs.Replies.{refuses_writer};
+ghost use Rattle.store_history.specs.Replies.{refuses_writer};
 ghost use Rattle.core_writer.specs.Opened.{wants_room};
 ghost use Rattle.core_writer.specs.Stopping.{RefusesBy};
 

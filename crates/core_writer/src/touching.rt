@@ -7,9 +7,10 @@ ghost use Rattle.store_history.specs.declared.act.Act.TheVariants.{Chunk};
 ghost use Rattle.core_state.specs.Commands.{ActDoes, ActLeaves, PlainDoes, PlainLeaves};
 ghost use Rattle.core_writer.specs.Touching.{ActTouches, EndsEntry, MakesEntry, PlainTouches, TouchesNamed};
 
+use crate::archives::append;
+use crate::chunks::chunk;
 use atime_book::Book;
 use core_state::{Parts, Place, Upkeep};
-use core_uploads::{append, chunk};
 use disk_trait::Disk;
 use std::alloc::{AllocError, Global};
 use store_stops::Stop;

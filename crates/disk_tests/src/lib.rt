@@ -1,4 +1,4 @@
-//! The tests of disks over real folders.
+//! The tests of what is made over the host's files: disks over real folders, sources and sinks.
 #![tactic(auto)]
 
 #[cfg(test)]
@@ -13,6 +13,8 @@ mod holds;
 mod links;
 #[cfg(test)]
 mod maps;
+#[cfg(test)]
+mod ports;
 #[cfg(test)]
 mod refused;
 #[cfg(test)]

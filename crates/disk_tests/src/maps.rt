@@ -2,6 +2,7 @@
 
 use crate::asserts::{must, same, same_at};
 use crate::sessions::{play, play_at};
+use crate::watched::{Record, alone_at};
 use disk_trait::{Disk, FailingDisk, MemoryDisk};
 use file_disk::{AtOnce, FileDisk};
 use std::alloc::{AllocError, Global};
@@ -46,9 +47,36 @@ part NAME 0 0 = none ----
 rename NAME g = none
 remove NAME = none";
 
+// The longest name of a store: a chunk's file before it is renamed.
+const CHUNK: &str =
+    ".chunks/0123/0123456789abcdef0123456789abcdef0123456789abcdef0123456789abcdef.tmp";
+
+const LONG: &str = "\
+put NAME one = done
+put NAME three = done
+size NAME = 5
+read NAME = three
+part NAME 1 4 = 4 hree
+list NAME = NAME
+rename NAME g = done
+size NAME = none
+rename g NAME = done
+sync = done
+read NAME = three
+remove NAME = done
+list NAME = no names";
+
+// The longest name of a store, and the longest that a disk takes.
+fn try_long_names<D: Disk>(rt: &impl Abort, alloc: Global, disk: &mut D) {
+    play_at(rt, alloc, disk, CHUNK, LONG);
+    let longest = must(rt, "n".repeat(alloc, 255));
+    play_at(rt, alloc, disk, longest.as_str(), LONG);
+}
+
 // As any disk does.
 fn try_all<D: Disk>(rt: &impl Abort, alloc: Global, disk: &mut D) {
     play(rt, alloc, disk, MAP);
+    try_long_names(rt, alloc, disk);
     for name in ABSENT_NAMES.split(' ') {
         play_at(rt, alloc, disk, name, ABSENT);
     }
@@ -123,6 +151,21 @@ fn folder_is_a_map(rt: HostRuntime) {
     let text = must(&rt, fs::read_to_string(&rt, "disk_tests_map/e/f"));
     same_at(&rt, ROOT, text.as_str(), "four");
     must(&rt, fs::remove_dir_all(&rt, ROOT));
+}
+
+// A folder of a host whose files give and take one byte a call.
+#[test]
+fn folder_is_a_map_byte_by_byte(rt: HostRuntime) {
+    let root = "disk_tests_bytes";
+    let _ = fs::remove_dir_all(&rt, root);
+    must(&rt, fs::create_dir(&rt, root));
+    let record = Record::new(rt.alloc());
+    record.by_bytes.set(true);
+    let mut disk = must(&rt, alone_at(rt, &record, root));
+    try_all(&rt, rt.alloc(), &mut disk);
+    let text = must(&rt, fs::read_to_string(&rt, "disk_tests_bytes/e/f"));
+    same_at(&rt, root, text.as_str(), "four");
+    must(&rt, fs::remove_dir_all(&rt, root));
 }
 
 // What a disk must be to be moved to another thread.

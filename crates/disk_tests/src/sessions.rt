@@ -1,5 +1,6 @@
 //! Sessions with a disk, as texts. A line is a call and what is told: `done` for a change, `none` where nothing stands at a
-//! name, `failed`, or what is read. In it `''` stands for no bytes, and `NAME` for a name that the session is played at.
+//! name, `failed`, or what is read. In it `''` stands for no bytes, and `NAME` for a name that the session is played at, also as
+//! what is told.
 
 use crate::asserts::{must, same_at};
 use disk_trait::{Disk, DiskError};
@@ -158,7 +159,7 @@ pub fn play_at<D: Disk>(rt: &impl Abort, alloc: Global, disk: &mut D, name: &str
     for line in session.lines() {
         let (line, want) = must(rt, line.split_once(" = ").ok_or("no line of a session"));
         let found = told(rt, alloc, disk, name, line);
-        same_at(rt, line, found.as_str(), want);
+        same_at(rt, line, found.as_str(), meant(want, name));
     }
 }
 

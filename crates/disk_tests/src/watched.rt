@@ -1,4 +1,7 @@
-//! The host's files, with a record of what is synced, on a disk that can be full, or fail to sync folders, or fail at one call.
+//! The host's files, with a record of what is synced, on a disk that can be full, or fail to sync folders, or fail at one call,
+//! or move one byte a call.
+
+ghost use Rattle.std.specs.Prelude.{◌≤◌};
 
 use crate::asserts::must;
 use crate::sessions::play_at;
@@ -19,6 +22,8 @@ pub struct Record {
     pub reads: Cell<usize>,
     pub full: Cell<bool>,
     pub fails: Cell<bool>,
+    // Whether a read and a write of a file move one byte at most.
+    pub by_bytes: Cell<bool>,
     // How many calls of the host were made, and which of them fails.
     pub calls: Cell<u64>,
     pub fails_at: Cell<Option<u64>>,
@@ -31,6 +36,7 @@ impl Record {
             reads: Cell::new(0),
             full: Cell::new(false),
             fails: Cell::new(false),
+            by_bytes: Cell::new(false),
             calls: Cell::new(0),
             fails_at: Cell::new(None),
         }
@@ -44,6 +50,17 @@ impl Record {
             return Err(io::Error::from(ErrorKind::Other));
         }
         Ok(())
+    }
+
+    // How many of so many bytes a call moves.
+    fn moved(&self, count: usize) -> usize
+        ensures { result ≤ count }
+    {
+        if self.by_bytes.get() {
+            count.min(1)
+        } else {
+            count
+        }
     }
 
     /// What was synced since this was last called.
@@ -98,6 +115,13 @@ pub fn play_alone(
     }
 }
 
+// A folder as it is read. Each read of its names is a call of the host.
+#[derive(Drop)]
+pub struct WatchedDir<'a> {
+    dir: <HostRuntime as Files>::Dir,
+    record: &'a Record,
+}
+
 #[derive(Drop)]
 pub struct WatchedFile<'a> {
     file: File,
@@ -137,7 +161,7 @@ impl Alloc for Watched<'_> {
 impl<'a> Files for Watched<'a> {
     type File = WatchedFile<'a>;
 
-    type Dir = <HostRuntime as Files>::Dir;
+    type Dir = WatchedDir<'a>;
 
     fn open_file(&self, how: &OpenOptions, path: &str) -> io::Result<WatchedFile<'a>> {
         self.record.count()?;
@@ -148,12 +172,15 @@ impl<'a> Files for Watched<'a> {
         })
     }
 
-    fn open_dir(&self, path: &str) -> io::Result<Self::Dir> {
+    fn open_dir(&self, path: &str) -> io::Result<WatchedDir<'a>> {
         self.record.count()?;
         self.record
             .reads
             .set(self.record.reads.get().saturating_add(1));
-        self.rt.open_dir(path)
+        Ok(WatchedDir {
+            dir: self.rt.open_dir(path)?,
+            record: self.record,
+        })
     }
 
     fn metadata(&self, path: &str) -> io::Result<Metadata> {
@@ -233,7 +260,15 @@ impl OpenFile for WatchedFile<'_> {
 impl Read for WatchedFile<'_> {
     fn read(&mut self, buf: &mut [u8]) -> io::Result<usize> {
         self.record.count()?;
-        self.file.read(buf)
+        let most = self.record.moved(buf.len());
+        self.file.read(&mut buf[..most])
+    }
+}
+
+impl Read for WatchedDir<'_> {
+    fn read(&mut self, buf: &mut [u8]) -> io::Result<usize> {
+        self.record.count()?;
+        self.dir.read(buf)
     }
 }
 
@@ -243,7 +278,8 @@ impl Write for WatchedFile<'_> {
         if self.record.full.get() {
             return Err(io::Error::from(ErrorKind::StorageFull));
         }
-        self.file.write(buf)
+        let most = self.record.moved(buf.len());
+        self.file.write(&buf[..most])
     }
 
     fn flush(&mut self) -> io::Result<()> {

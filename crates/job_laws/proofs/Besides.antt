@@ -4,10 +4,9 @@ use Rattle.std.proofs.lemmas.Bool.{eqb-true}
 use Rattle.std.proofs.lemmas.List.{get_or-set_same, length-replicate}
 use Rattle.store_types.specs.declared.names.Keep.{Keep}
 use Rattle.store_types.specs.declared.refusal.Refusal.{Refusal}
-use Rattle.store_types.specs.declared.refusal.Refusal.TheVariants.{BadName, NoFile, NoSnapshot, BadRange}
+use Rattle.store_types.specs.declared.refusal.Refusal.TheVariants.{NoFile, NoSnapshot, BadRange}
 use Rattle.store_types.specs.Chain.Refusing.{◌>>=◌, unless, or_else}
 use Rattle.store_types.specs.FileNames.{is_index_name}
-use Rattle.store_types.specs.Names.{key_of}
 use Rattle.store_types.specs.declared.order.TheConstants.{COMMAND_KIND}
 use Rattle.store_files.specs.Archive.{Snapshot, file_named, pieces_of}
 use Rattle.wire_commands.specs.declared.command.Command.{Command}
@@ -16,6 +15,7 @@ use Rattle.wire_commands.specs.declared.reply.Reply.{Reply}
 use Rattle.wire_commands.specs.declared.reply.Reply.TheVariants.{Done, Refused}
 use Rattle.store_model.specs.declared.step.Step.{Step}
 use Rattle.store_model.specs.declared.step.Step.TheVariants.{ReadChunk}
+use Rattle.store_model.specs.Heads.{key_in, idle_in, idle_key, idle_group}
 use Rattle.store_model.specs.AdminSteps.{files, forget, prune_group}
 use Rattle.store_model.specs.Job.{grouping, forgetting, opening, listing, reading, checking, closing, Asking, Job, over, asking, closed, step_of}
 use Rattle.store_model.specs.Jobs.{take}
@@ -57,9 +57,9 @@ bound s (Ok a) f h = h a
 bound s (Err refusal) f h = tt
 
 -- what wants a lane without a session is refused
-refused : (s : Store) (y : Session) (r : Reader) (f : Unit {0} → Outcome) → y ≡ reader r → Quiet s (want_idle y >>= f)
+refused : {A : Type 0} (s : Store) (y : Session) (r : Reader) (g : Unit {0} → Result A Refusal) (f : A → Outcome) → y ≡ reader r → Quiet s ((want_idle y >>= g) >>= f)
 unfolding Quiet
-refused s y r f is = subst (λ z. Quiet s (want_idle z >>= f)) (sym is) tt
+refused s y r g f is = subst (λ z. Quiet s ((want_idle z >>= g) >>= f)) (sym is) tt
 
 answered_quiet : (s : Store) (o : Outcome) → Quiet s o → (answered s o).0 ≡ s
 unfolding Quiet
@@ -76,20 +76,20 @@ module _ (s : Store) (k m : ℕ) (r : Reader) (reads : session s k ≡ reader r)
   quiet_step c h = answered_quiet s (outcome s k m c) h
 
   prune_quiet : (group : List ℕ) (keep : Keep) (dry : Bool) → Quiet s (outcome s k m (commands.Prune group keep dry))
-  unfolding outcome prune_group
-  prune_quiet group keep dry = refused s (session s k) r _ reads
+  unfolding outcome prune_group idle_group idle_in
+  prune_quiet group keep dry = refused s (session s k) r _ _ reads
 
   forget_quiet : (snapshot : List ℕ) → Quiet s (outcome s k m (commands.Forget snapshot))
-  unfolding outcome forget
-  forget_quiet snapshot = refused s (session s k) r _ reads
+  unfolding outcome forget idle_key idle_in
+  forget_quiet snapshot = refused s (session s k) r _ _ reads
 
   open_quiet : (snapshot : List ℕ) → Quiet s (outcome s k m (commands.OpenReader snapshot))
-  unfolding outcome open_reader
-  open_quiet snapshot = refused s (session s k) r _ reads
+  unfolding outcome open_reader idle_key idle_in
+  open_quiet snapshot = refused s (session s k) r _ _ reads
 
   files_quiet : (snapshot : List ℕ) → Quiet s (outcome s k m (commands.Files snapshot))
   unfolding Quiet outcome files
-  files_quiet snapshot = bound s (or_else BadName (key_of snapshot)) _ (λ a. bound s (or_else NoSnapshot (snapshot_named a s.snapshots)) _ (λ b. refl))
+  files_quiet snapshot = bound s (key_in s k snapshot) _ (λ a. bound s (or_else NoSnapshot (snapshot_named a s.snapshots)) _ (λ b. refl))
 
   part_quiet : (name : List ℕ) (offset : ℕ) → Quiet s (read_file s k name offset)
   unfolding Quiet read_file
@@ -286,7 +286,7 @@ module _ (R : Option (List Snapshot)) (o : Opening) (before : List Event) (first
   its_reader = record { key = x.key; noted = [] }
 
   opens : outcome w.store k (moment first) (commands.OpenReader text) ≡ Ok (with_session w.store k (reader its_reader), Done)
-  unfolding outcome open_reader
+  unfolding outcome open_reader idle_key idle_in key_in
   opens = rw (h.idle, h.named, h.there)
 
   begins : (n : ℕ) → EndsIn undamaged n (chunk_reads x) x (report_of undamaged x) k w.store (asking (opening text)) → Ends R x k report (after R w first) later

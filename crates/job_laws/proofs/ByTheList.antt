@@ -18,7 +18,9 @@ use Rattle.store_model.specs.AdminSteps.{group as group_here, group_texts}
 use Rattle.store_model.specs.Job.{Pull, Asking, sending, Job, asking}
 use Rattle.store_model.specs.Jobs.{take as job_take, take_more as job_takes}
 use Rattle.store_model.specs.Stands.{IsSnapshot, group_limit}
-use Rattle.store_model.specs.Store.{Store, Outcome, session, want_idle, in_group, keys_in}
+use Rattle.store_model.specs.Store.{Store, Outcome, in_group, keys_in}
+use Rattle.store_model.specs.Heads.{group_in, idle_group}
+use Rattle.store_model.proofs.HeadLemmas.{idle_group_found}
 use Rattle.store_model.specs.SyncJob.{commands_of, file_commands, is_later as job_later, listed_files, new_index, next_command, next_snapshot, text_of, to_pull, uploads}
 use Rattle.store_history.specs.declared.act.Act.TheVariants.{RemoteChunk, RemoteFile}
 use Rattle.store_history.specs.Acts.{Class, stepping, reaching, class_of}
@@ -163,12 +165,10 @@ module _ (L : List Snapshot) (list : IsList L) (here : List Snapshot) (named : A
       subst (λ ts. ShowsJob L (next_pulled [] ts) (next_snapshot [] later)) (sym texts_are) (shows_snapshots L [] later in_list)
 
 -- the group is named where the job begins
-pulled_of : (L : List Snapshot) (from : GroupKey → List Snapshot → List Snapshot) (idle : Result (Unit {0}) Refusal) (o : Option GroupKey) (xs : List Snapshot)
-    → (idle >>= λ _. or_else BadName o >>= λ g. or_else NoRemote (Some L) >>= λ snapshots. Ok (from g snapshots)) ≡ Ok xs
-    → (g : GroupKey) × (o ≡ Some g) × (from g L ≡ xs)
-pulled_of L from (Err z) o xs h = cc
-pulled_of L from (Ok done) None xs h = cc
-pulled_of L from (Ok done) (Some g) xs h = (g, refl, cc)
+pulled_of : (L : List Snapshot) (from : GroupKey → List Snapshot → List Snapshot) (group : Result GroupKey Refusal) (xs : List Snapshot)
+    → (group >>= λ g. or_else NoRemote (Some L) >>= λ snapshots. Ok (from g snapshots)) ≡ Ok xs → (g : GroupKey) × (group ≡ Ok g) × (from g L ≡ xs)
+pulled_of L from (Err z) xs h = cc
+pulled_of L from (Ok g) xs h = (g, refl, cc)
 
 there_is : (o : Option GroupKey) (g : GroupKey) (told : GroupKey → Reply) (there : Reply) → o ≡ Some g → IfSome o (λ k. Some there ≡ Some (told k)) → told g ≡ there
 there_is None g told there is h = cc
@@ -186,13 +186,14 @@ here_is s (Some k) g told here is h = ap told (same is) ∙ ap (reply_in here) h
     same e = cc
 
 pub pulls_by_the_list : PullsByTheList
-unfolding to_pull group_here
+unfolding to_pull group_here group_in
 pulls_by_the_list L s lane group snapshots there here rs list named pulls told_there told_here told =
     let from = λ (g : GroupKey) (xs : List Snapshot). filter (job_later (last_or None (take_first group_limit (keys_in g s.snapshots)))) (in_group g xs) in
-    let known = pulled_of L from (want_idle (session s lane)) (group_of group) snapshots pulls in
+    let known = pulled_of L from (idle_group s lane group) snapshots pulls in
     let g = known.0 in
-    let has_there = there_is (group_of group) g (λ k. Keys (group_texts k L)) there known.1 told_there in
-    let has_here = here_is s (group_of group) g (λ k. Keys (group_texts k s.snapshots)) here known.1 told_here in
+    let found = (idle_group_found s lane group g known.1).1 in
+    let has_there = there_is (group_of group) g (λ k. Keys (group_texts k L)) there found told_there in
+    let has_here = here_is s (group_of group) g (λ k. Keys (group_texts k s.snapshots)) here found told_here in
     let shows : ShowsJob L (pull_after group (there ∷ here ∷ [])) (next_snapshot [] snapshots) =
     subst (λ r. ShowsJob L (pull_after group (r ∷ here ∷ [])) (next_snapshot [] snapshots)) has_there
     (subst (λ r. ShowsJob L (pull_after group (Keys (group_texts g L) ∷ r ∷ [])) (next_snapshot [] snapshots)) has_here

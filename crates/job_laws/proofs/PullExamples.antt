@@ -254,7 +254,7 @@ group_there : Reads list (RemoteList (Sync host)) (Some (Keys (k ∷ [])))
 unfolding on_pulls
 group_there = refl
 
-none_here : group_here (store_of []) host ≡ Ok (store_of [], Keys [])
+none_here : group_here (store_of []) 0 host ≡ Ok (store_of [], Keys [])
 unfolding on_pulls
 none_here = refl
 

@@ -30,6 +30,7 @@ use Rattle.wire_commands.specs.declared.rows.FaultRow.{FaultRow}
 use Rattle.wire_commands.specs.declared.reply.Reply.{Reply}
 use Rattle.wire_commands.specs.declared.reply.Reply.TheVariants.{Data, Done, Files, Part, Refused, Verified}
 use Rattle.store_model.specs.declared.step.Step.{Step}
+use Rattle.store_model.specs.Heads.{key_in, idle_in, idle_key}
 use Rattle.store_model.specs.AdminSteps.{fact_shown, facts_in, file_row, file_rows, files}
 use Rattle.store_types.specs.declared.piece.Piece.{Piece}
 use Rattle.store_model.specs.SizeLimits.{size_limit}
@@ -97,16 +98,16 @@ module _ (x : Snapshot) (fits : IsSnapshot x) (lane : ℕ) (bad : Damage) where
     key_is = keys x.key fits.key
 
     open_told : session t lane ≡ none → step_outcome t lane moment (step_of (opening (key_text x.key))) ≡ Ok (with_session t lane (reader own), Done)
-    unfolding outcome open_reader
+    unfolding outcome open_reader idle_key idle_in key_in
     open_told idle =
-        ap (λ (y : Session). want_idle y >>= (λ u. or_else BadName (key_of (key_text x.key)) >>= (λ key. or_else NoSnapshot (snapshot_named key t.snapshots) >>= (λ z.
-        Ok (with_session t lane (reader (record { key = key; noted = [] })), Done))))) idle
+        ap (λ (y : Session). (want_idle y >>= (λ u. or_else BadName (key_of (key_text x.key)))) >>= (λ key. or_else NoSnapshot (snapshot_named key t.snapshots) >>= (λ z.
+        Ok (with_session t lane (reader (record { key = key; noted = [] })), Done)))) idle
         ∙ ap (λ (o : Option SnapshotKey). or_else BadName o >>= (λ key. or_else NoSnapshot (snapshot_named key t.snapshots) >>= (λ z.
         Ok (with_session t lane (reader (record { key = key; noted = [] })), Done)))) key_is
         ∙ ap (λ (o : Option Snapshot). or_else NoSnapshot o >>= (λ z. Ok (with_session t lane (reader own), Done))) there
 
     files_told : step_outcome t lane moment (step_of (listing (key_text x.key))) ≡ Ok (t, Files (file_rows x.files))
-    unfolding outcome files
+    unfolding outcome files key_in
     files_told =
         ap (λ (o : Option SnapshotKey). or_else BadName o >>= (λ key. or_else NoSnapshot (snapshot_named key t.snapshots) >>= (λ y. Ok (t, Files (file_rows y.files))))) key_is
         ∙ ap (λ (o : Option Snapshot). or_else NoSnapshot o >>= (λ y. Ok (t, Files (file_rows y.files)))) there

@@ -1,14 +1,14 @@
 -- A lane that runs its program makes the steps of the job that is next, and tells its report before anything else.
-use Rattle.std.proofs.Common.{◌≡◌, ◌⊎◌, inl, inr, ℕ, ◌==◌, ◌||◌, Bool, true, false, cond, List, [], ◌∷◌, ◌++◌, length, Option, Some, None, refl, sym, ap, subst, ◌∙◌, arith, eq-eqb}
+use Rattle.std.proofs.Common.{◌≡◌, ◌⊎◌, inl, inr, ℕ, ◌==◌, ◌||◌, Bool, true, false, cond, List, [], ◌∷◌, ◌++◌, length, Option, Some, refl, sym, ap, subst, ◌∙◌, arith, eq-eqb}
 use Rattle.std.specs.List.{fold}
 use Rattle.std.proofs.lemmas.List.{append_assoc, append_cancel_left, length-append}
-use Rattle.store_types.specs.declared.order.TheConstants.{COMMAND_KIND, MEMORY_KIND}
+use Rattle.store_types.specs.declared.order.TheConstants.{COMMAND_KIND}
 use Rattle.store_files.specs.Archive.{Snapshot}
 use Rattle.wire_commands.specs.declared.reply.Reply.{Reply}
 use Rattle.store_model.specs.declared.ending.Ending.{Ending}
 use Rattle.store_model.specs.Job.{opening, Asking, Job, over, asking, step_of}
 use Rattle.store_model.specs.Jobs.{take}
-use Rattle.store_model.specs.Lanes.{Next, job_step}
+use Rattle.store_model.specs.Lanes.{job_step}
 use Rattle.store_model.specs.Steps.{answered}
 use Rattle.store_model.specs.Store.{Store}
 use Rattle.store_history.specs.declared.act.Act.{Act}
@@ -54,10 +54,10 @@ module _ (R : Option (List Snapshot)) (end : Ending) (p : Position) (a : Asking)
   Hears q (over report) = q.told ≡ p.told ++ report ∷ []
   Hears q (asking b) = (next_at q ≡ ahead (job_step b left)) × (q.told ≡ p.told)
 
-  heard_of : (job : Job) (s b : Bool) → Hears (at_job p left job s b) job
+  heard_of : (job : Job) (b : Bool) → Hears (at_job p left job b) job
   unfolding goes_on
-  heard_of (over report) s b = refl
-  heard_of (asking j) s b = (at_job_next p left j s b, refl)
+  heard_of (over report) b = refl
+  heard_of (asking j) b = (at_job_next p left j b, refl)
 
   record Stepped (w : World) (v : Event) : Type 0 where
     act : v.act ≡ act_of_step (step_of a)
@@ -67,7 +67,7 @@ module _ (R : Option (List Snapshot)) (end : Ending) (p : Position) (a : Asking)
 
   stepped : (w : World) (v : Event) (vs : List Event) → IsRight R w v → kind v ≡ COMMAND_KIND → Does (class_of v.act) end p v vs → Stepped w v
   unfolding position_after
-  stepped w v vs right done does = record { act = act_is; answer = told.1; says = says; hears = subst (λ q. Hears q (take a told.1)) (sym heard_is) (heard_of (take a told.1) (((v.answer).entry).kind == MEMORY_KIND) ((v.answer).last || p.is_spent)) }
+  stepped w v vs right done does = record { act = act_is; answer = told.1; says = says; hears = subst (λ q. Hears q (take a told.1)) (sym heard_is) (heard_of (take a told.1) ((v.answer).last || p.is_spent)) }
     where
       of_kind : Right R w (lane v) (moment v) v.act (reply v) (class_of v.act) step_kind
       of_kind = subst (λ n. Right R w (lane v) (moment v) v.act (reply v) (class_of v.act) (kind_of n)) done right.says
@@ -84,7 +84,7 @@ module _ (R : Option (List Snapshot)) (end : Ending) (p : Position) (a : Asking)
       says : reply v ≡ Some told.1
       says = (subst (λ c. Right R w (lane v) (moment v) v.act (reply v) c step_kind) class_is of_kind).1
 
-      heard_is : position_after end p v ≡ at_job p left (take a told.1) (((v.answer).entry).kind == MEMORY_KIND) ((v.answer).last || p.is_spent)
+      heard_is : position_after end p v ≡ at_job p left (take a told.1) ((v.answer).last || p.is_spent)
       heard_is = ap (λ c. heard_as c end p v.answer) class_is ∙ heard_job p a left v.answer told.1 next says
 
 -- ---- from step to step

@@ -97,7 +97,7 @@ abbrev pub PullsByTheList : Type 0
 PullsByTheList =
     (L : List Snapshot) (s : Store) (lane : ℕ) (group : List ℕ) (snapshots : List Snapshot) (there here : Reply) (rs : List Reply)
     → IsList L → All (λ x. IsKey x.key) s.snapshots → to_pull (Some L) s lane group ≡ Ok snapshots
-    → Reads L (RemoteList (Sync group)) (Some there) → group_here s group ≡ Ok (s, here)
+    → Reads L (RemoteList (Sync group)) (Some there) → group_here s lane group ≡ Ok (s, here)
     → (let begun = pull_after group (there ∷ here ∷ []) in
     AreToldBy L begun rs → IsAlike (fold take_more begun rs) (fold job_takes (next_snapshot [] snapshots) (replies_to_job begun rs)))
 

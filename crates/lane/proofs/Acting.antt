@@ -25,10 +25,10 @@ use Rattle.store_history.specs.History.{moment, kind, kind_of, reply}
 use Rattle.store_model.specs.Weave.{first_fault}
 use Rattle.store_model.specs.declared.ending.Ending.{Ending}
 use Rattle.store_model.specs.declared.ending.Ending.TheVariants as endings
-use Rattle.core_state.specs.Answers.{IsTold, fault_after}
+use Rattle.core_state.specs.Answers.{IsTold}
+use Rattle.store_history.specs.Answered.{fault_after, AreKept, FitsKind, FitsReply, GivesReply, IsKept}
 use Rattle.core_state.specs.History.{History, then_event}
-use Rattle.core_state.specs.Replies.{may_answer, may_give}
-use Rattle.core_state.specs.Records.{AreKept, FitsKind, FitsReply, GivesReply, IsKept}
+use Rattle.store_history.specs.Replies.{may_answer, may_give}
 use Rattle.lane.specs.declared.acts.Told.{Told}
 use Rattle.lane.specs.Acting.{Has, HasReply, IsRefused, IsWant, Did, MayTell, short_ending}
 

@@ -1,40 +1,41 @@
 -- A lane whose sink failed made no act more but its end.
-use Rattle.std.proofs.Common.{◌≡◌, ◌≤◌, ℕ, ◌-◌, ◌^◌, min, Bool, true, false, List, [], ◌∷◌, ◌++◌, length, Option, Some, None, refl, sym, ap, ◌∙◌, arith, append-nil}
+use Rattle.std.proofs.Common.{◌≡◌, ◌==◌, ◌≤◌, ℕ, ◌-◌, ◌^◌, ◌&&◌, min, Bool, true, false, is_none, List, [], ◌∷◌, ◌++◌, length, Option, Some, None, refl, sym, ap, ◌∙◌, arith, append-nil}
+use Rattle.store_types.specs.declared.order.TheConstants.{MEMORY_KIND}
 use Rattle.port_traits.specs.Bytes.{WritesCounted}
 use Rattle.wire_commands.specs.declared.reply.Reply.{Reply}
 use Rattle.store_model.specs.declared.ending.Ending.{Ending}
 use Rattle.store_model.specs.declared.ending.Ending.TheVariants as endings
 use Rattle.store_history.specs.declared.act.Act.TheVariants as acts
 use Rattle.store_history.specs.declared.act.Event.{Event}
-use Rattle.store_history.specs.Acts.{Class, stepping, reaching, starting, sweeping, wanting, ending, class_of}
-use Rattle.store_history.specs.LaneRun.{Position, heard, heard_as, position_after, text}
-use Rattle.store_history.specs.SoFar.{Follows, Leads}
-use Rattle.lane.specs.Acting.{gave_all}
-use Rattle.lane.specs.AtOnce.{GaveAllButOne, GaveSo, position_by}
+use Rattle.store_history.specs.Acts.{class_of}
+use Rattle.store_history.specs.History.{kind}
+use Rattle.store_history.specs.LaneRun.{Task, Position, heard, leaves_unheld, heard_as, position_after, text}
+use Rattle.store_history.specs.SoFar.{Leads}
+use Rattle.store_history.proofs.Unheld.{unheld, heard_unheld, follows_heard}
+use Rattle.lane.specs.AtOnce.{gave_all, GaveAllButOne, GaveSo, position_by}
 
 -- ---- where events lead to
 
-heard_so : (c : Class) (e : Ending) (p : Position) (v : Event) → Follows c p v → heard_as c e p v.answer ≡ heard p v.answer
-heard_so stepping e p v follows = refl
-heard_so reaching e p v follows = refl
-heard_so starting e p v follows = refl
-heard_so sweeping e p v follows = refl
-heard_so wanting e p v follows = refl
-heard_so ending e p v follows = absurd follows
-
-pub leads_to : (e : Ending) (vs : List Event) (p q : Position) → Leads p vs q → position_by e p vs ≡ q
+-- there, but that a frame could not be held
+pub leads_to : (b : Bool) (e : Ending) (vs : List Event) (p q : Position) → Leads p vs q → (t : Bool) × (position_by e (unheld b p) vs ≡ unheld t q)
 unfolding position_after
-leads_to e [] p q led = led
-leads_to e (v ∷ vs) p q led = ap (λ x. position_by e x vs) (heard_so (class_of v.act) e p v led.0) ∙ leads_to e vs (heard p v.answer) q led.1
+leads_to b e [] p q led = (b, ap (unheld b) led)
+leads_to b e (v ∷ vs) p q led =
+    let one = follows_heard b (class_of v.act) e p v led.0 in
+    let more = leads_to one.0 e vs (heard p v.answer) q led.1 in
+    (more.0, ap (λ x. position_by e x vs) one.1 ∙ more.1)
 
 pub leads_then_one : (e : Ending) (vs : List Event) (v : Event) (p q : Position) → position_by e p vs ≡ q → position_by e p (vs ++ v ∷ []) ≡ position_after e q v
 leads_then_one e [] v p q led = ap (λ x. position_after e x v) led
 leads_then_one e (u ∷ vs) v p q led = leads_then_one e vs v (position_after e p u) q led
 
 -- want of memory for a frame
-pub wanted_after : (e : Ending) (p : Position) (v : Event) → v.act ≡ acts.Short → position_after e p v ≡ heard p v.answer
+pub wanted_after : (e : Ending) (b : Bool) (p : Position) (v : Event) → v.act ≡ acts.Short → kind v ≡ MEMORY_KIND → p.task ≡ None
+    → position_after e (unheld b p) v ≡ unheld true (heard p v.answer)
 unfolding position_after
-wanted_after e p v asks = ap (λ c. heard_as c e p v.answer) (ap class_of asks)
+wanted_after e b p v asks two off =
+    ap (λ c. heard_as c e (unheld b p) v.answer) (ap class_of asks) ∙ ap (unheld (leaves_unheld p v.answer)) (heard_unheld b p v.answer)
+    ∙ ap (λ (t : Option Task). unheld (is_none t && (kind v == MEMORY_KIND)) (heard p v.answer)) off ∙ ap (λ n. unheld (n == MEMORY_KIND) (heard p v.answer)) two
 
 -- ---- what was given
 

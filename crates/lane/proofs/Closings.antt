@@ -26,11 +26,11 @@ use Rattle.store_history.proofs.Longer.{of_more}
 use Rattle.core_state.specs.History.{History, then_event, event_of}
 use Rattle.core_state.specs.Answers.{EndIsTold}
 use Rattle.shared_store.specs.Comes.{with_events}
-use Rattle.lane.specs.Acting.{gave_all}
+use Rattle.lane.specs.AtOnce.{gave_all, AreEnds, EndsAtOnce, GaveAllButOne, HasEndedAtOnce}
 use Rattle.lane.specs.Closing.{AreEndOf, EndsLane}
 use Rattle.lane.specs.Progress.{Start, HasStopped, HasWords}
-use Rattle.lane.specs.AtOnce.{AreEnds, EndsAtOnce, GaveAllButOne, HasEndedAtOnce}
-use Rattle.lane.specs.Ran.{Took, ReadsOut, RanAlone}
+use Rattle.lane.specs.Ran.{Took, ReadsOut}
+use Rattle.lane.specs.RanAlone.{RanAlone}
 use Rattle.lane.proofs.AtOnce.{all_before}
 use Rattle.lane.proofs.Turning.{gave_more, silent, no_words}
 
@@ -229,8 +229,8 @@ ended_at_once start k left taken size given e words before s given' vs ends gave
   ends = vs;
   split = refl;
   ended = are_ends k vs ends;
-  last = s.last;
-  leads = s.comes;
+  last = record s.last { is_unheld = (s.comes).0 };
+  leads = (s.comes).1;
   off = s.off;
   gave = gave;
 }

@@ -1,16 +1,13 @@
 -- What a command does, or a job: its acts, and where they lead.
 use Rattle.std.proofs.Common.{◌≡◌, ◌≢◌, ℕ, ◌-◌, length, Bool, true, false, not, ◌||◌, ◌==◌, List, [], ◌∷◌, ◌++◌, Option, None, Some, refl, sym, ap, subst, ◌∙◌}
-use Rattle.store_types.specs.declared.order.TheConstants.{MEMORY_KIND}
 use Rattle.wire_commands.specs.declared.command.Command.{Command}
 use Rattle.wire_commands.specs.declared.command.Command.TheVariants as commands
-use Rattle.store_model.specs.Job.{Asking}
 use Rattle.store_model.specs.Jobs.{IsJob}
 use Rattle.wire_commands.specs.Inputs.{front}
 use Rattle.store_model.specs.Lanes.{Next, job_step, plain, collecting, end, command_next, front_next}
 use Rattle.store_history.specs.declared.act.Act.{Act}
 use Rattle.store_history.specs.declared.act.Event.{Event}
 use Rattle.store_history.specs.Acts.{act_of_command}
-use Rattle.store_history.specs.History.{kind}
 use Rattle.store_history.specs.LaneRun.{Task, steps, pulls, sweeps, Ahead, ahead, pull_ahead, ahead_by, Position, next_at, heard, stops, may_step}
 use Rattle.store_history.specs.Pulling.{Pulling, comparing, is_ending}
 use Rattle.store_history.specs.Seats.{AreOf}
@@ -87,12 +84,11 @@ pub does_plain : (before after : History → Type 0) (k : ℕ) (c : Command) (ac
     → Does before after k (command_next c) told
 does_plain before after k c act told d is_act alone = let v = d.event in record {
   events = v ∷ [];
-  is_out_of_memory = kind v == MEMORY_KIND;
   history = d.history;
   lanes = (d.lane_is, tt);
   leads = λ p left is.
       let on = read_on p (plain c left) (is.next ∙ ap ahead (command_is c left alone)) refl is.on in
-      subst (λ b. Leads p (v ∷ []) (answered p left told.reply (kind v == MEMORY_KIND) b)) (or_false p (v.answer).last on ∙ d.last)
+      subst (λ b. Leads p (v ∷ []) (answered p left told.reply b)) (or_false p (v.answer).last on ∙ d.last)
       (leads_command [] p p c left v told.reply refl on (is.next ∙ ap ahead (command_is c left alone)) (d.asks ∙ is_act) d.tells);
 }
 

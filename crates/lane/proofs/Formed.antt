@@ -23,7 +23,7 @@ use Rattle.store_history.specs.declared.act.Act.{Act}
 use Rattle.store_history.specs.declared.act.Act.TheVariants as acts
 use Rattle.store_model.specs.SizeLimits.{size_limit}
 use Rattle.store_history.specs.Pulling.{Pulling, seeking, comparing, starting, reading_manifest, reading_file, opening, reading_chunk, sending_chunk, appending, closing_index, sending_blob, sending_manifest, finishing, rejecting, aborting, SyncJob, reports, asks, Course, Stock, Index, act_of, is_key, is_later, newest_in, next_snapshot, finished, stops, ends, rejected, rejects, next_append, next_chunk, fixed_as, dynamic_as, fixed_entries, dynamic_entries, fixed_in, dynamic_in, index_in, is_index, index_read, blob_read, file_read, next_file, stock_of, manifest_read, batch, sought, compared, started, manifest_part, file_part, manifest_told, file_told, chunk_told, goes_on, take, size_sent, blob_size, mismatched, with_chunk}
-use Rattle.core_state.specs.Replies.{may_answer, may_give}
+use Rattle.store_history.specs.Replies.{may_answer, may_give}
 use Rattle.lane.specs.declared.acts.Told.{Told}
 use Rattle.lane.specs.Acting.{IsRefused, MayTell}
 use Rattle.lane.specs.Pulling.{HasKeys, IsFew, IsFormed}

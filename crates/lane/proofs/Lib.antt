@@ -19,3 +19,6 @@ pub mod Turning
 pub mod Serving
 pub mod Closings
 pub mod Seated
+pub mod Halves
+pub mod Sessions
+pub mod Whole

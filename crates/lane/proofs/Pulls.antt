@@ -1,7 +1,7 @@
 -- What an act of a SYNC does, and where it leads.
 use Rattle.std.proofs.Common.{◌≡◌, ◌⊎◌, inl, inr, ℕ, Bool, true, false, not, ◌-◌, length, ◌||◌, ◌==◌, List, [], ◌∷◌, ◌++◌, Option, Some, None, IsTrue, if◌then◌else◌, refl, sym, ap, subst, ◌∙◌}
 use Rattle.std.proofs.lemmas.Bool.{eqb-true, eqb-false}
-use Rattle.store_types.specs.declared.order.TheConstants.{PART_KIND, MEMORY_KIND}
+use Rattle.store_types.specs.declared.order.TheConstants.{PART_KIND}
 use Rattle.store_files.specs.Archive.{Layout, dynamic, fixed}
 use Rattle.wire_commands.specs.Inputs.{front}
 use Rattle.wire_commands.specs.declared.reply.Reply.{Reply}
@@ -14,13 +14,13 @@ use Rattle.store_history.specs.declared.act.Event.{Event}
 use Rattle.store_history.specs.Acts.{stepping, reaching, act_of_command, class_of}
 use Rattle.store_history.specs.History.{kind, reply}
 use Rattle.store_history.specs.LaneRun as lane_run
-use Rattle.store_history.specs.LaneRun.{Task, Ahead, ahead, pull, pull_ahead, ahead_by, Position, next_at, tells, pulls_on, heard_at, heard, wants, Asks, may_want_at}
+use Rattle.store_history.specs.LaneRun.{Task, Ahead, ahead, pull, pull_ahead, ahead_by, Position, next_at, tells, pulls_on, heard_at, heard, Asks, may_want_at}
 use Rattle.store_history.specs.Pulling.{Pulling, seeking, comparing, starting, reading_manifest, reading_file, opening, reading_chunk, sending_chunk, appending, closing_index, sending_blob, sending_manifest, finishing, rejecting, aborting, SyncJob, reports, asks, act_of, sought, take, is_ending}
 use Rattle.store_history.specs.SoFar.{goes_further, Follows, Leads}
-use Rattle.store_history.proofs.Ending.{wants_shut}
 use Rattle.store_history.proofs.Growing.{leads_more, pulls_on_spent}
+use Rattle.store_history.proofs.Unheld.{flagged}
 use Rattle.store_history.proofs.Wanting.{wants_pulling}
-use Rattle.core_state.specs.Replies.{may_answer, may_give}
+use Rattle.store_history.specs.Replies.{may_answer, may_give}
 use Rattle.core_state.specs.History.{History}
 use Rattle.lane.specs.declared.acts.Told.{Told}
 use Rattle.lane.specs.Acting.{Did, IsRefused}
@@ -51,55 +51,49 @@ front_sync (Some (lane_run.pulls x)) offset left group behind e = absurd (by_pul
 -- ---- a SYNC that was refused, or for which memory was wanting
 
 pub heard_refused : (p : Position) (group left : List ℕ) (a : Answer) (r : Reply) → next_at p ≡ ahead (sync group left) → a.reply ≡ Some r → ((a.entry).kind == PART_KIND) ≡ false
-    → heard p a ≡ record p { left = left; task = None; is_out_of_memory = (a.entry).kind == MEMORY_KIND; is_spent = a.last || p.is_spent; told = p.told ++ r ∷ [] }
+    → heard p a ≡ record p { left = left; task = None; is_unheld = false; is_spent = a.last || p.is_spent; told = p.told ++ r ∷ [] }
 unfolding heard heard_at
 heard_refused p group left a r is says other =
-    let flag : Bool → Position → Position = λ b q. record q { is_out_of_memory = b; is_spent = a.last || q.is_spent } in
-    ap (λ x. flag (wants (a.entry).kind p.task) (heard_at p (a.entry).kind a.reply x)) is
-    ∙ ap (λ (x : Option Reply). flag (wants (a.entry).kind p.task) (heard_at p (a.entry).kind x (ahead (sync group left)))) says
-    ∙ ap (λ b. flag b (heard_at p (a.entry).kind (Some r) (ahead (sync group left)))) (wants_shut p (ahead (sync group left)) (a.entry).kind is refl)
-    ∙ ap (λ b. flag ((a.entry).kind == MEMORY_KIND) (if b then pulls_on p p.left (sought group r) else tells p left r)) other
+    ap (λ x. flagged a (heard_at p (a.entry).kind a.reply x)) is
+    ∙ ap (λ (x : Option Reply). flagged a (heard_at p (a.entry).kind x (ahead (sync group left)))) says
+    ∙ ap (λ b. flagged a (if b then pulls_on p p.left (sought group r) else tells p left r)) other
 
 -- the remote gave what it has of the group
 heard_keys : (p : Position) (group left : List ℕ) (a : Answer) (r : Reply) → next_at p ≡ ahead (sync group left) → a.reply ≡ Some r → ((a.entry).kind == PART_KIND) ≡ true
-    → heard p a ≡ record (pulls_on p p.left (sought group r)) { is_out_of_memory = (a.entry).kind == MEMORY_KIND; is_spent = a.last || p.is_spent }
+    → heard p a ≡ record (pulls_on p p.left (sought group r)) { is_unheld = false; is_spent = a.last || p.is_spent }
 unfolding heard heard_at
 heard_keys p group left a r is says one =
-    let flag : Bool → Position → Position = λ b q. record q { is_out_of_memory = b; is_spent = a.last || q.is_spent } in
-    ap (λ x. flag (wants (a.entry).kind p.task) (heard_at p (a.entry).kind a.reply x)) is
-    ∙ ap (λ (x : Option Reply). flag (wants (a.entry).kind p.task) (heard_at p (a.entry).kind x (ahead (sync group left)))) says
-    ∙ ap (λ b. flag b (heard_at p (a.entry).kind (Some r) (ahead (sync group left)))) (wants_shut p (ahead (sync group left)) (a.entry).kind is refl)
-    ∙ ap (λ b. flag ((a.entry).kind == MEMORY_KIND) (if b then pulls_on p p.left (sought group r) else tells p left r)) one
-    ∙ ap (λ b. record (pulls_on p p.left (sought group r)) { is_out_of_memory = (a.entry).kind == MEMORY_KIND; is_spent = a.last || b }) (pulls_on_spent p p.left (sought group r))
+    ap (λ x. flagged a (heard_at p (a.entry).kind a.reply x)) is
+    ∙ ap (λ (x : Option Reply). flagged a (heard_at p (a.entry).kind x (ahead (sync group left)))) says
+    ∙ ap (λ b. flagged a (if b then pulls_on p p.left (sought group r) else tells p left r)) one
+    ∙ ap (λ b. record (pulls_on p p.left (sought group r)) { is_unheld = false; is_spent = a.last || b }) (pulls_on_spent p p.left (sought group r))
 
 -- ---- one that is begun
 
-heard_open : (p : Position) (left : List ℕ) (x : Pulling) (a : Answer) (r : Reply) → p.task ≡ Some (lane_run.pulls x) → next_at p ≡ pull x left → a.reply ≡ Some r
-    → heard p a ≡ record (pulls_on p left (take x r)) { is_out_of_memory = (a.entry).kind == MEMORY_KIND; is_spent = a.last || p.is_spent }
+heard_open : (p : Position) (left : List ℕ) (x : Pulling) (a : Answer) (r : Reply) → next_at p ≡ pull x left → a.reply ≡ Some r
+    → heard p a ≡ record (pulls_on p left (take x r)) { is_unheld = false; is_spent = a.last || p.is_spent }
 unfolding heard heard_at
-heard_open p left x a r begun next says =
-    let flag : Bool → Position → Position = λ b q. record q { is_out_of_memory = b; is_spent = a.last || q.is_spent } in
-    ap (λ y. flag (wants (a.entry).kind p.task) (heard_at p (a.entry).kind a.reply y)) next
-    ∙ ap (λ (o : Option Reply). flag (wants (a.entry).kind p.task) (heard_at p (a.entry).kind o (pull x left))) says
-    ∙ ap (λ (t : Option Task). flag (wants (a.entry).kind t) (pulls_on p left (take x r))) begun
-    ∙ ap (λ b. record (pulls_on p left (take x r)) { is_out_of_memory = (a.entry).kind == MEMORY_KIND; is_spent = a.last || b }) (pulls_on_spent p left (take x r))
+heard_open p left x a r next says =
+    ap (λ y. flagged a (heard_at p (a.entry).kind a.reply y)) next
+    ∙ ap (λ (o : Option Reply). flagged a (heard_at p (a.entry).kind o (pull x left))) says
+    ∙ ap (λ b. record (pulls_on p left (take x r)) { is_unheld = false; is_spent = a.last || b }) (pulls_on_spent p left (take x r))
 
 -- where its command was next, it is next behind this
-next_open : (p : Position) (left name : List ℕ) (x : Pulling) (s b : Bool) → IsOpen x → next_at p ≡ ahead (sync name left) → next_at (pulling_at p left x s b) ≡ pull x left
+next_open : (p : Position) (left name : List ℕ) (x : Pulling) (b : Bool) → IsOpen x → next_at p ≡ ahead (sync name left) → next_at (pulling_at p left x b) ≡ pull x left
 unfolding next_at front_next next_in
-next_open p left name (seeking group) s b begun is = absurd begun
-next_open p left name (comparing group remote) s b begun is =
+next_open p left name (seeking group) b begun is = absurd begun
+next_open p left name (comparing group remote) b begun is =
     ap (λ a. pull_ahead (comparing group remote) p.left (next_in a)) (front_sync p.task (p.size - length p.left) p.left name left is)
-next_open p left name x s b begun is = refl
+next_open p left name x b begun is = refl
 
 -- where it goes on from there
-open_at : (p : Position) (left : List ℕ) (x : Pulling) (s b t c : Bool) (job : SyncJob) → IsOn job → IsSyncNext p left
-    → IsAt p left (pull_stage job) t c (record (pulls_on (pulling_at p left x s b) left job) { is_out_of_memory = t; is_spent = c })
+open_at : (p : Position) (left : List ℕ) (x : Pulling) (b c : Bool) (job : SyncJob) → IsOn job → IsSyncNext p left
+    → IsAt p left (pull_stage job) c (record (pulls_on (pulling_at p left x b) left job) { is_unheld = false; is_spent = c })
 unfolding pulls_on
-open_at p left x s b t c (reports report) on next = refl
-open_at p left x s b t c (asks (seeking group)) on next = absurd on
-open_at p left x s b t c (asks (comparing group remote)) on next = absurd on
-open_at p left x s b t c (asks y) on next = (refl, next)
+open_at p left x b c (reports report) on next = refl
+open_at p left x b c (asks (seeking group)) on next = absurd on
+open_at p left x b c (asks (comparing group remote)) on next = absurd on
+open_at p left x b c (asks y) on next = (refl, next)
 
 index_steps : (l : Layout) (name : List ℕ) → class_of (act_of_command (new_index l name)) ≡ stepping
 index_steps dynamic name = refl
@@ -131,59 +125,58 @@ may_on : (b e : Bool) → (b ≡ true → e ≡ true) → (not b || e) ≡ true
 may_on false e stops = refl
 may_on true e stops = stops refl
 
-open_follows : (p : Position) (left name : List ℕ) (x : Pulling) (s was : Bool) (v : Event) (act : Act) → IsOpen x → next_at p ≡ ahead (sync name left)
-    → (was ≡ true → is_ending x ≡ true) → IsActOf (pulls x) act → v.act ≡ act → Follows (class_of v.act) (pulling_at p left x s was) v
-open_follows p left name x s was v act begun is stops (inl of) asks_is = by_class (class_by x)
+open_follows : (p : Position) (left name : List ℕ) (x : Pulling) (was : Bool) (v : Event) (act : Act) → IsOpen x → next_at p ≡ ahead (sync name left)
+    → (was ≡ true → is_ending x ≡ true) → IsActOf (pulls x) act → v.act ≡ act → Follows (class_of v.act) (pulling_at p left x was) v
+open_follows p left name x was v act begun is stops (inl of) asks_is = by_class (class_by x)
   where
     asked : v.act ≡ act_of x
     asked = asks_is ∙ of
 
-    asks_it : Asks (next_at (pulling_at p left x s was)) v.act
-    asks_it = subst (λ a. Asks a v.act) (sym (next_open p left name x s was begun is)) asked
+    asks_it : Asks (next_at (pulling_at p left x was)) v.act
+    asks_it = subst (λ a. Asks a v.act) (sym (next_open p left name x was begun is)) asked
 
-    by_class : (class_of (act_of x) ≡ stepping) ⊎ ((class_of (act_of x) ≡ reaching) × (is_ending x ≡ false)) → Follows (class_of v.act) (pulling_at p left x s was) v
-    by_class (inl step) = subst (λ c. Follows c (pulling_at p left x s was) v) (sym (ap class_of asked ∙ step))
+    by_class : (class_of (act_of x) ≡ stepping) ⊎ ((class_of (act_of x) ≡ reaching) × (is_ending x ≡ false)) → Follows (class_of v.act) (pulling_at p left x was) v
+    by_class (inl step) = subst (λ c. Follows c (pulling_at p left x was) v) (sym (ap class_of asked ∙ step))
         (may_on was (is_ending x) stops, asks_it)
-    by_class (inr reach) = subst (λ c. Follows c (pulling_at p left x s was) v) (sym (ap class_of asked ∙ reach.0))
+    by_class (inr reach) = subst (λ c. Follows c (pulling_at p left x was) v) (sym (ap class_of asked ∙ reach.0))
         (not_last x was stops reach.1, asks_it)
-open_follows p left name x s was v act begun is stops (inr want) asks_is =
-    subst (λ c. Follows c (pulling_at p left x s was) v) (sym (ap class_of (asks_is ∙ want.0)))
-    (not_last x was stops want.1, wants_pulling (pulling_at p left x s was) x refl want.1, ap goes_further (next_open p left name x s was begun is))
+open_follows p left name x was v act begun is stops (inr want) asks_is =
+    subst (λ c. Follows c (pulling_at p left x was) v) (sym (ap class_of (asks_is ∙ want.0)))
+    (not_last x was stops want.1, wants_pulling (pulling_at p left x was) x refl want.1, ap goes_further (next_open p left name x was begun is))
 
-open_led : (p : Position) (left name : List ℕ) (x : Pulling) (s was : Bool) (v : Event) (r : Reply) → IsOpen x → next_at p ≡ ahead (sync name left)
-    → Follows (class_of v.act) (pulling_at p left x s was) v → reply v ≡ Some r
-    → Leads (pulling_at p left x s was) (v ∷ []) (record (pulls_on (pulling_at p left x s was) left (take x r)) { is_out_of_memory = kind v == MEMORY_KIND; is_spent = (v.answer).last || was })
-open_led p left name x s was v r begun is follows says =
-    subst (λ q. Leads (pulling_at p left x s was) (v ∷ []) q)
-    (heard_open (pulling_at p left x s was) left x v.answer r refl (next_open p left name x s was begun is) says)
-    (leads_more [] (pulling_at p left x s was) (pulling_at p left x s was) v refl follows)
+open_led : (p : Position) (left name : List ℕ) (x : Pulling) (was : Bool) (v : Event) (r : Reply) → IsOpen x → next_at p ≡ ahead (sync name left)
+    → Follows (class_of v.act) (pulling_at p left x was) v → reply v ≡ Some r
+    → Leads (pulling_at p left x was) (v ∷ []) (record (pulls_on (pulling_at p left x was) left (take x r)) { is_unheld = false; is_spent = (v.answer).last || was })
+open_led p left name x was v r begun is follows says =
+    subst (λ q. Leads (pulling_at p left x was) (v ∷ []) q)
+    (heard_open (pulling_at p left x was) left x v.answer r (next_open p left name x was begun is) says)
+    (leads_more [] (pulling_at p left x was) (pulling_at p left x was) v refl follows)
 
-open_is : (p q : Position) (left : List ℕ) (x : Pulling) (s was : Bool) → IsOpen x → IsAt p left (pulls x) s was q → (q ≡ pulling_at p left x s was) × IsSyncNext p left
-open_is p q left (seeking group) s was begun at = absurd begun
-open_is p q left x s was begun at = at
+open_is : (p q : Position) (left : List ℕ) (x : Pulling) (was : Bool) → IsOpen x → IsAt p left (pulls x) was q → (q ≡ pulling_at p left x was) × IsSyncNext p left
+open_is p q left (seeking group) was begun at = absurd begun
+open_is p q left x was begun at = at
 
 -- one act of it
 open_once : (before after : History → Type 0) (k : ℕ) (x : Pulling) (was : Bool) (act : Act) (told : Told) → IsOpen x → IsActOf (pulls x) act → Did before after k act told
     → (was ≡ true → is_ending x ≡ true) → IsOn (take x told.reply) → StepsOn before after k (pulls x) (pull_stage (take x told.reply)) was (told.last || was)
 open_once before after k x was act told begun of d stops on = record {
   events = d.event ∷ [];
-  wants = λ _. kind d.event == 2;
   history = d.history;
   lanes = (d.lane_is, tt);
-  leads = λ p q left s at. let o = open_is p q left x s was begun at in led p q left s o.0 o.1;
+  leads = λ p q left at. let o = open_is p q left x was begun at in led p q left o.0 o.1;
 }
   where
-    led : (p q : Position) (left : List ℕ) (s : Bool) → q ≡ pulling_at p left x s was → IsSyncNext p left
-        → (r : Position) × (Leads q (d.event ∷ []) r × IsAt p left (pull_stage (take x told.reply)) (kind d.event == 2) (told.last || was) r)
-    led p q left s at next =
+    led : (p q : Position) (left : List ℕ) → q ≡ pulling_at p left x was → IsSyncNext p left
+        → (r : Position) × (Leads q (d.event ∷ []) r × IsAt p left (pull_stage (take x told.reply)) (told.last || was) r)
+    led p q left at next =
         let group = next.0 in
-        let follows = open_follows p left group x s was d.event act begun (next.1).next stops of d.asks in
-        let r : Bool → Position = λ b. record (pulls_on (pulling_at p left x s was) left (take x told.reply)) { is_out_of_memory = kind d.event == 2; is_spent = b } in (
+        let follows = open_follows p left group x was d.event act begun (next.1).next stops of d.asks in
+        let r : Bool → Position = λ b. record (pulls_on (pulling_at p left x was) left (take x told.reply)) { is_unheld = false; is_spent = b } in (
           r (told.last || was),
           (
             subst (λ b. Leads q (d.event ∷ []) (r b)) (ap (λ b. b || was) d.last)
-                (subst (λ y. Leads y (d.event ∷ []) (r (((d.event).answer).last || was))) (sym at) (open_led p left group x s was d.event told.reply begun (next.1).next follows d.tells)),
-            open_at p left x s was (kind d.event == 2) (told.last || was) (take x told.reply) on next,
+                (subst (λ y. Leads y (d.event ∷ []) (r (((d.event).answer).last || was))) (sym at) (open_led p left group x was d.event told.reply begun (next.1).next follows d.tells)),
+            open_at p left x was (told.last || was) (take x told.reply) on next,
           ),
         )
 
@@ -214,25 +207,24 @@ first_keys group act (replies.Keys remote) of may = (remote, refl)
 first_keys group act r (inl is) may = absurd (false_true (subst (λ a. IsTrue (may_give a r)) is may))
 first_keys group act r (inr is) may = absurd (false_true (subst (λ a. IsTrue (may_give a r)) is.0 may))
 
-keys_at : (p : Position) (group left : List ℕ) (r : Reply) (t c : Bool) → IsNext (sync group left) p → (remote : List (List ℕ)) × (r ≡ replies.Keys remote)
-    → IsAt p left (pull_stage (sought group r)) t c (record (pulls_on p p.left (sought group r)) { is_out_of_memory = t; is_spent = c })
+keys_at : (p : Position) (group left : List ℕ) (r : Reply) (c : Bool) → IsNext (sync group left) p → (remote : List (List ℕ)) × (r ≡ replies.Keys remote)
+    → IsAt p left (pull_stage (sought group r)) c (record (pulls_on p p.left (sought group r)) { is_unheld = false; is_spent = c })
 unfolding sought pulls_on
-keys_at p group left r t c next (remote, is) =
-    subst (λ x. IsAt p left (pull_stage (sought group x)) t c (record (pulls_on p p.left (sought group x)) { is_out_of_memory = t; is_spent = c })) (sym is) (refl, (group, next))
+keys_at p group left r c next (remote, is) =
+    subst (λ x. IsAt p left (pull_stage (sought group x)) c (record (pulls_on p p.left (sought group x)) { is_unheld = false; is_spent = c })) (sym is) (refl, (group, next))
 
 first_once : (before after : History → Type 0) (k : ℕ) (group : List ℕ) (was : Bool) (act : Act) (told : Told) → IsActOf (pulls (seeking group)) act → Did before after k act told
     → StepsOn before after k (pulls (seeking group)) (pull_stage (take (seeking group) told.reply)) was (told.last || was)
 unfolding take
 first_once before after k group was act told of d = record {
   events = d.event ∷ [];
-  wants = λ _. kind d.event == 2;
   history = d.history;
   lanes = (d.lane_is, tt);
-  leads = λ p q left s at. led p q left at.0 at.1 at.2;
+  leads = λ p q left at. led p q left at.0 at.1 at.2;
 }
   where
     led : (p q : Position) (left : List ℕ) → q ≡ p → was ≡ false → IsNext (sync group left) p
-        → (r : Position) × (Leads q (d.event ∷ []) r × IsAt p left (pull_stage (sought group told.reply)) (kind d.event == 2) (told.last || was) r)
+        → (r : Position) × (Leads q (d.event ∷ []) r × IsAt p left (pull_stage (sought group told.reply)) (told.last || was) r)
     led p q left same none next = by_kind (kind d.event == 1) refl
       where
         on : p.is_spent ≡ false
@@ -248,24 +240,24 @@ first_once before after k group was act told of d = record {
         heard_led = subst (λ y. Leads y (d.event ∷ []) (heard p (d.event).answer)) (sym same) (leads_more [] p p d.event refl follows)
 
         by_kind : (b : Bool) → (kind d.event == 1) ≡ b
-            → (r : Position) × (Leads q (d.event ∷ []) r × IsAt p left (pull_stage (sought group told.reply)) (kind d.event == 2) (told.last || was) r)
+            → (r : Position) × (Leads q (d.event ∷ []) r × IsAt p left (pull_stage (sought group told.reply)) (told.last || was) r)
         by_kind true one =
             let keys = first_keys group act told.reply of (d.gave (eqb-true (kind d.event) 1 one)) in
-            let r : Bool → Position = λ b. record (pulls_on p p.left (sought group told.reply)) { is_out_of_memory = kind d.event == 2; is_spent = b } in (
+            let r : Bool → Position = λ b. record (pulls_on p p.left (sought group told.reply)) { is_unheld = false; is_spent = b } in (
               r (told.last || was),
               (
                 subst (λ b. Leads q (d.event ∷ []) (r b)) flag
                     (subst (λ y. Leads q (d.event ∷ []) y) (heard_keys p group left (d.event).answer told.reply next.next d.tells one) heard_led),
-                keys_at p group left told.reply (kind d.event == 2) (told.last || was) next keys,
+                keys_at p group left told.reply (told.last || was) next keys,
               ),
             )
         by_kind false other =
             let refused = first_refused group act told.reply of (d.other (eqb-false (kind d.event) 1 other)) in (
-              answered p left told.reply (kind d.event == 2) (told.last || was),
+              answered p left told.reply (told.last || was),
               (
-                subst (λ b. Leads q (d.event ∷ []) (answered p left told.reply (kind d.event == 2) b)) flag
+                subst (λ b. Leads q (d.event ∷ []) (answered p left told.reply b)) flag
                     (subst (λ y. Leads q (d.event ∷ []) y) (heard_refused p group left (d.event).answer told.reply next.next d.tells other) heard_led),
-                subst (λ job. IsAt p left (pull_stage job) (kind d.event == 2) (told.last || was) (answered p left told.reply (kind d.event == 2) (told.last || was)))
+                subst (λ job. IsAt p left (pull_stage job) (told.last || was) (answered p left told.reply (told.last || was)))
                     (sym (refused_reports group told.reply refused)) refl,
               ),
             )

@@ -15,7 +15,7 @@ use Rattle.store_history.specs.declared.act.Act.{Act}
 use Rattle.store_history.specs.declared.act.Act.TheVariants as acts
 use Rattle.store_history.specs.Acts.{act_of_command, act_of_step}
 use Rattle.store_history.specs.Begun.{IsBegun}
-use Rattle.core_state.specs.Replies.{may_answer, may_give, answers_prune, answers_forget, answers_reader, answers_files, answers_part, answers_entry, answers_close}
+use Rattle.store_history.specs.Replies.{may_answer, may_give, answers_prune, answers_forget, answers_reader, answers_files, answers_part, answers_entry, answers_close}
 use Rattle.lane.specs.declared.acts.Told.{Told}
 use Rattle.lane.specs.Acting.{IsRefused, MayTell}
 use Rattle.lane.specs.Tasks.{steps, IsActOf}

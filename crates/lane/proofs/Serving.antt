@@ -1,6 +1,5 @@
 -- What a lane did so far, after one command or job more, or want of memory.
 use Rattle.std.proofs.Common.{◌≡◌, ℕ, ◌+◌, ◌-◌, Bool, true, false, ◌||◌, List, [], ◌∷◌, ◌++◌, length, Option, Some, None, inl, refl, sym, ap, subst, ◌∙◌, arith, ◌==◌, append-nil, append_assoc}
-use Rattle.std.proofs.lemmas.Bool.{eq-eqb}
 use Rattle.std.proofs.lemmas.List.{length-append}
 use Rattle.store_types.specs.declared.refusal.Refusal.TheVariants.{NoMemory}
 use Rattle.store_types.specs.declared.order.TheConstants.{MEMORY_KIND}
@@ -30,14 +29,15 @@ use Rattle.store_history.proofs.Growing.{leads_runs}
 use Rattle.store_history.proofs.Jobs.{at_job, at_job_over, heard_job}
 use Rattle.store_history.proofs.Longer.{of_more}
 use Rattle.store_history.proofs.Placed.{sweep_in, open_at, open_is}
+use Rattle.store_history.proofs.Unheld.{unheld}
 use Rattle.store_history.proofs.Wanting.{Goes, want_goes, wants_frame}
 use Rattle.core_state.specs.History.{History}
 use Rattle.shared_store.specs.Comes.{with_events}
 use Rattle.lane.specs.declared.acts.Told.{Told}
 use Rattle.lane.specs.declared.input.Input.{Input}
 use Rattle.lane.specs.declared.ending.Last.{Last}
-use Rattle.lane.specs.Acting.{AnswersShort, Gives, IsEndedBy, went_on, gave_all, short_ending}
-use Rattle.lane.specs.AtOnce.{GaveSo}
+use Rattle.lane.specs.Acting.{AnswersShort, Gives, IsEndedBy, went_on, short_ending}
+use Rattle.lane.specs.AtOnce.{gave_all, GaveSo}
 use Rattle.lane.specs.Doing.{IsNext, Does}
 use Rattle.lane.specs.Fronts.{IsCommandAhead}
 use Rattle.lane.specs.Progress.{Start, position, HasServed, HasStopped, HasWords}
@@ -56,29 +56,29 @@ use Rattle.lane.proofs.Turning.{nothing_taken, at_next, gave_more, taken_on, lea
 -- what is next on a lane that was served so far
 at_command : (stands : History → Type 0) (start : Start) (k : ℕ) (left taken : Option (List ℕ)) (tail : Tail) (size given : ℕ) (c : Command)
     → (s : HasServed stands start k left taken tail size given) → IsCommandAhead tail c
-    → IsNext (command_next c (advanced tail).bytes) (position s.input tail.bytes s.is_out_of_memory s.told)
-at_command stands start k left taken tail size given c s seen = let p = position s.input tail.bytes s.is_out_of_memory s.told in record {
+    → IsNext (command_next c (advanced tail).bytes) (position s.input tail.bytes s.told)
+at_command stands start k left taken tail size given c s seen = let p = position s.input tail.bytes s.told in record {
   on = refl;
   next = at_next stands start k left taken tail size given s ∙ ap ahead seen.next;
   wants = λ step on. wants_frame p refl (seen.wants (step_is_job c (advanced tail).bytes step));
 }
 
 -- the position behind it
-behind : List ℕ → List ℕ → List Reply → Bool → Told → Position
-behind input left before is_out_of_memory told = record (position input left is_out_of_memory (before ++ told.reply ∷ [])) { is_spent = told.last }
+behind : List ℕ → List ℕ → List Reply → Told → Position
+behind input left before told = record (position input left (before ++ told.reply ∷ [])) { is_spent = told.last }
 
 led_on : (before after : History → Type 0) (start : Start) (k : ℕ) (left taken : Option (List ℕ)) (tail : Tail) (size given : ℕ) (c : Command) (told : Told)
     → (s : HasServed before start k left taken tail size given) → IsCommandAhead tail c → (d : Does before after k (command_next c) told)
-    → Leads (begin s.input) (s.events ++ d.events) (behind s.input (advanced tail).bytes s.told d.is_out_of_memory told)
+    → Leads (begin s.input) (s.events ++ d.events) (behind s.input (advanced tail).bytes s.told told)
 unfolding behind
 led_on before after start k left taken tail size given c told s found d =
-    leads_then s.events d.events (begin s.input) (position s.input tail.bytes s.is_out_of_memory s.told) (behind s.input (advanced tail).bytes s.told d.is_out_of_memory told) s.leads
-    (d.leads (position s.input tail.bytes s.is_out_of_memory s.told) (advanced tail).bytes (at_command before start k left taken tail size given c s found))
+    leads_then s.events d.events (begin s.input) (position s.input tail.bytes s.told) (behind s.input (advanced tail).bytes s.told told) s.leads
+    (d.leads (position s.input tail.bytes s.told) (advanced tail).bytes (at_command before start k left taken tail size given c s found))
 
-on_spent : (input left : List ℕ) (before : List Reply) (is_out_of_memory : Bool) (told : Told) → told.last ≡ false
-    → behind input left before is_out_of_memory told ≡ position input left is_out_of_memory (before ++ told.reply ∷ [])
+on_spent : (input left : List ℕ) (before : List Reply) (told : Told) → told.last ≡ false
+    → behind input left before told ≡ position input left (before ++ told.reply ∷ [])
 unfolding behind
-on_spent input left before is_out_of_memory told on = ap (λ b. record (position input left is_out_of_memory (before ++ told.reply ∷ [])) { is_spent = b }) on
+on_spent input left before told on = ap (λ b. record (position input left (before ++ told.reply ∷ [])) { is_spent = b }) on
 
 -- it was answered, and the lane goes on
 pub command_served : (before after : History → Type 0) (start : Start) (k : ℕ) (left taken taken' : Option (List ℕ)) (tail tail' : Tail) (size size' given given' : ℕ) (c : Command) (told : Told)
@@ -88,12 +88,11 @@ pub command_served : (before after : History → Type 0) (start : Start) (k : �
 command_served before after start k left taken taken' tail tail' size size' given given' c told s found d g past same = record {
   events = s.events ++ d.events;
   input = s.input;
-  is_out_of_memory = d.is_out_of_memory;
   told = s.told ++ told.reply ∷ [];
   stands_for = d.history (with_events start.history s.events) s.stands_for;
   lanes = of_both k s.events d.events s.lanes d.lanes;
-  leads = subst (λ (t : Tail). Leads (begin s.input) (s.events ++ d.events) (position s.input t.bytes d.is_out_of_memory (s.told ++ told.reply ∷ []))) (sym past)
-      (subst (λ p. Leads (begin s.input) (s.events ++ d.events) p) (on_spent s.input (advanced tail).bytes s.told d.is_out_of_memory told g.ended)
+  leads = subst (λ (t : Tail). Leads (begin s.input) (s.events ++ d.events) (position s.input t.bytes (s.told ++ told.reply ∷ []))) (sym past)
+      (subst (λ p. Leads (begin s.input) (s.events ++ d.events) p) (on_spent s.input (advanced tail).bytes s.told told g.ended)
       (led_on before after start k left taken tail size given c told s found d));
   size_is = s.size_is ∙ sym same;
   held = ap (λ (t : Tail). t.offset + length t.bytes) past ∙ found.rest ∙ s.held ∙ sym same;
@@ -103,7 +102,7 @@ command_served before after start k left taken taken' tail tail' size size' give
 
 -- or it is the lane's last
 ends_so : (e : Ending) (p : Position) → p.task ≡ None → IsEndedBy p.is_spent (Some e) → EndsSo e p (next_at p)
-ends_so endings.NoMemory p off by = (second_true p.is_out_of_memory p.is_spent by, ap stops off)
+ends_so endings.NoMemory p off by = (second_true p.is_unheld p.is_spent by, off)
 ends_so endings.SinkFault p off by = tt
 ends_so endings.Clean p off by = absurd by
 ends_so (endings.Broken place) p off by = absurd by
@@ -145,7 +144,7 @@ pub command_stops : (before after : History → Type 0) (start : Start) (k : ℕ
     → HasStopped after start k left taken' size' given' e None
 unfolding behind
 command_stops before after start k left taken taken' tail size size' given given' c told e s found d g same =
-    let p = behind s.input (advanced tail).bytes s.told d.is_out_of_memory told in
+    let p = behind s.input (advanced tail).bytes s.told told in
     let calm = quiet e p start.left left s.input (s.events ++ d.events) (ended_one e told.last g.ended) s.took in
     record {
       events = s.events ++ d.events;
@@ -162,7 +161,7 @@ command_stops before after start k left taken taken' tail size size' given given
       so = ends_so e p refl g.ended;
       says = calm.says;
       read_out = calm.out;
-      comes = leads_to endings.SinkFault (s.events ++ d.events) (begin s.input) p (led_on before after start k left taken tail size given c told s found d);
+      comes = leads_to false endings.SinkFault (s.events ++ d.events) (begin s.input) p (led_on before after start k left taken tail size given c told s found d);
       all_but_one = gave_but_one e (s.told ++ told.reply ∷ []) given' (given_but_one start.taken taken taken' given given' s.told told.reply (frame (reply_text told.reply)) (gave_all e) s.gave g.gave);
     }
 
@@ -172,27 +171,17 @@ record IsHeardShort (p q : Position) (r : Reply) : Type 0 where
   pub on : q.is_over ≡ p.is_over
   pub off : q.task ≡ None
   pub told : q.told ≡ p.told ++ r ∷ []
-  pub is_out_of_memory : q.is_out_of_memory ≡ true
 
-over_told : (p : Position) (left : List ℕ) (job : Job) (r : Reply) (s b : Bool) → job ≡ over r → s ≡ true → IsHeardShort p (at_job p left job s b) r
-over_told p left job r s b is flag =
-    let h = ap (λ j. at_job p left j s b) is ∙ at_job_over p left r s b in
-    record {
-      on = ap (λ (q : Position). q.is_over) h;
-      off = ap (λ (q : Position). q.task) h;
-      told = ap (λ (q : Position). q.told) h;
-      is_out_of_memory = ap (λ (q : Position). q.is_out_of_memory) h ∙ flag;
-    }
+over_told : (p : Position) (left : List ℕ) (job : Job) (r : Reply) (b : Bool) → job ≡ over r → IsHeardShort p (at_job p left job b) r
+over_told p left job r b is =
+    let h = ap (λ j. at_job p left j b) is ∙ at_job_over p left r b in
+    record { on = ap (λ (q : Position). q.is_over) h; off = ap (λ (q : Position). q.task) h; told = ap (λ (q : Position). q.told) h }
 
 -- it was heard as a reply with this left of the input
-told_short : (p q : Position) (left : List ℕ) (r : Reply) (s b : Bool) → s ≡ true
-    → q ≡ record p { left = left; task = None; is_out_of_memory = s; is_spent = b; told = p.told ++ r ∷ [] } → IsHeardShort p q r
-told_short p q left r s b flag h = record {
-  on = ap (λ (x : Position). x.is_over) h;
-  off = ap (λ (x : Position). x.task) h;
-  told = ap (λ (x : Position). x.told) h;
-  is_out_of_memory = ap (λ (x : Position). x.is_out_of_memory) h ∙ flag;
-}
+told_short : (p q : Position) (left : List ℕ) (r : Reply) (b : Bool) → q ≡ record p { left = left; task = None; is_unheld = false; is_spent = b; told = p.told ++ r ∷ [] }
+    → IsHeardShort p q r
+told_short p q left r b h =
+    record { on = ap (λ (x : Position). x.is_over) h; off = ap (λ (x : Position). x.task) h; told = ap (λ (x : Position). x.told) h }
 
 -- the job that a command begins ends by want of memory
 abbrev FirstNext : Next → Type 0
@@ -221,24 +210,21 @@ heard_short p a r off goes says want two =
     let is = next_is p (front p.left) off refl in
     by_next n is (subst Goes is goes) (front_first (p.size - length p.left) (front p.left)) (ap open_at (sym is) ∙ open_is p ∙ ap sweep_in off)
   where
-    flag : ((a.entry).kind == MEMORY_KIND) ≡ true
-    flag = eq-eqb (a.entry).kind 2 two
-
     by_next : (n : Next) → next_at p ≡ ahead n → Goes (ahead n) → FirstNext n → open_at (ahead n) ≡ None → IsHeardShort p (heard p a) r
-    by_next (plain c left) is g first shut = told_short p (heard p a) left r ((a.entry).kind == MEMORY_KIND) (a.last || p.is_spent) flag (heard_plain p c left a r is says)
-    by_next (sync group left) is g first shut = told_short p (heard p a) left r ((a.entry).kind == MEMORY_KIND) (a.last || p.is_spent) flag (heard_refused p group left a r is says (other_kind (a.entry).kind two))
-    by_next (collect left) is g first shut = told_short p (heard p a) left r ((a.entry).kind == MEMORY_KIND) (a.last || p.is_spent) flag (heard_gc p left a r is says)
+    by_next (plain c left) is g first shut = told_short p (heard p a) left r (a.last || p.is_spent) (heard_plain p c left a r is says)
+    by_next (sync group left) is g first shut = told_short p (heard p a) left r (a.last || p.is_spent) (heard_refused p group left a r is says (other_kind (a.entry).kind two))
+    by_next (collect left) is g first shut = told_short p (heard p a) left r (a.last || p.is_spent) (heard_gc p left a r is says)
     by_next (job_step j left) is g first shut =
         subst (λ q. IsHeardShort p q r) (sym (heard_job p j left a r is says))
-        (over_told p left (take j r) r ((a.entry).kind == MEMORY_KIND) (a.last || p.is_spent) (ap (take j) want ∙ first ∙ ap over (sym want)) flag)
-    by_next (broken refusal) is g first shut = told_short p (heard p a) [] r true true refl (heard_broken p refusal a r is says two)
+        (over_told p left (take j r) r (a.last || p.is_spent) (ap (take j) want ∙ first ∙ ap over (sym want)))
+    by_next (broken refusal) is g first shut = told_short p (heard p a) [] r true (heard_broken p refusal a r is says two)
     by_next (collecting b) is g first shut = cc
     by_next bye is g first shut = absurd g
     by_next end is g first shut = absurd g
 
-short_so : (e : Ending) (o : Option Ending) (q : Position) (is_last : Bool) → e ≡ short_ending o → IsEndedBy is_last o → q.is_out_of_memory ≡ true → q.task ≡ None → EndsSo e q (next_at q)
-short_so e None q is_last is by short_is off = subst (λ x. EndsSo x q (next_at q)) (sym is) (first_true q.is_out_of_memory q.is_spent short_is, ap stops off)
-short_so e (Some endings.NoMemory) q is_last is by short_is off = subst (λ x. EndsSo x q (next_at q)) (sym is) (first_true q.is_out_of_memory q.is_spent short_is, ap stops off)
+short_so : (e : Ending) (o : Option Ending) (q : Position) (is_last : Bool) → e ≡ short_ending o → IsEndedBy is_last o → q.is_unheld ≡ true → q.task ≡ None → EndsSo e q (next_at q)
+short_so e None q is_last is by short_is off = subst (λ x. EndsSo x q (next_at q)) (sym is) (first_true q.is_unheld q.is_spent short_is, off)
+short_so e (Some endings.NoMemory) q is_last is by short_is off = subst (λ x. EndsSo x q (next_at q)) (sym is) (first_true q.is_unheld q.is_spent short_is, off)
 short_so e (Some endings.SinkFault) q is_last is by short_is off = subst (λ x. EndsSo x q (next_at q)) (sym is) tt
 short_so e (Some endings.Clean) q is_last is by short_is off = absurd by
 short_so e (Some (endings.Broken place)) q is_last is by short_is off = absurd by
@@ -260,9 +246,9 @@ short_stops before after start k left left' taken taken' tail size size' given g
     let g = answers.gives in
     let r = (answers.told).reply in
     let input = s.input ++ piece in
-    let p = position input (tail.bytes ++ piece) s.is_out_of_memory s.told in
+    let p = position input (tail.bytes ++ piece) s.told in
     let v = d.event in
-    let q = heard p v.answer in
+    let q = unheld true (heard p v.answer) in
     let all = taken_on start.left left left' s.input piece s.took took in
     let h = heard_short p v.answer r refl (want_goes p tt (wants_frame p refl wants)) d.tells ((answers.tells).want (inl refl)) (d.kind_is (inl refl)) in
     let one = short_one e answers.stop (answers.told).last answers.ending_is g.ended in
@@ -274,8 +260,8 @@ short_stops before after start k left left' taken taken' tail size size' given g
       stands_for = d.history (with_events start.history s.events) s.stands_for;
       lanes = of_more k s.events v s.lanes d.lane_is;
       runs = λ f vs told runs. subst (λ es. Runs f (begin input) es told) (sym (append_assoc s.events (v ∷ []) vs))
-          (leads_runs f s.events (v ∷ vs) (begin input) p told refl (leads_further s.input tail.bytes piece s.is_out_of_memory s.told s.events s.leads)
-          (short_runs f p v vs told refl refl refl wants d.asks runs));
+          (leads_runs f s.events (v ∷ vs) (begin input) p told refl (leads_further s.input tail.bytes piece s.told s.events s.leads)
+          (short_runs f p v vs told refl refl refl wants d.asks (d.kind_is (inl refl)) runs));
       on = h.on;
       off = h.off;
       size_is = omega (arith, length-append s.input piece, s.size_is, more);
@@ -283,12 +269,12 @@ short_stops before after start k left left' taken taken' tail size size' given g
       gave = subst (λ ts. WritesCounted start.taken taken' 0 given' (text ts) (gave_all e)) (sym h.told)
           (subst (λ b. WritesCounted start.taken taken' 0 given' (text (s.told ++ r ∷ [])) b) (sym one.1)
           (gave_more start.taken taken taken' given given' s.told r (went_on answers.stop) s.gave g.gave));
-      so = short_so e answers.stop q (answers.told).last answers.ending_is g.ended h.is_out_of_memory h.off;
+      so = short_so e answers.stop q (answers.told).last answers.ending_is g.ended refl h.off;
       says = calm.says;
       read_out = calm.out;
-      comes = leads_then_one endings.SinkFault s.events v (begin input) p
-          (leads_to endings.SinkFault s.events (begin input) p (leads_further s.input tail.bytes piece s.is_out_of_memory s.told s.events s.leads))
-          ∙ wanted_after endings.SinkFault p v d.asks;
+      comes =
+          let led = leads_to false endings.SinkFault s.events (begin input) p (leads_further s.input tail.bytes piece s.told s.events s.leads) in
+          (true, leads_then_one endings.SinkFault s.events v (begin input) (unheld led.0 p) led.1 ∙ wanted_after endings.SinkFault led.0 p v d.asks (d.kind_is (inl refl)) refl);
       all_but_one = subst (λ ts. GaveSo e ts given') (sym h.told)
           (gave_but_one e (s.told ++ r ∷ []) given' (given_but_one start.taken taken taken' given given' s.told r (frame (reply_text r)) (went_on answers.stop) s.gave g.gave));
     }

@@ -1,7 +1,6 @@
 -- What a step of a job does, and where it leads.
 use Rattle.std.proofs.Common.{◌≡◌, inl, inr, ℕ, Bool, true, false, not, ◌-◌, ◌||◌, ◌==◌, List, [], ◌∷◌, ◌++◌, length, Option, Some, None, Result, Ok, Err, OnErr, IsSome, IfSome, IfOk, IsNone, refl, sym, ap, subst, ◌∙◌}
 use Rattle.store_types.specs.declared.refusal.Refusal.TheVariants.{NoMemory}
-use Rattle.store_types.specs.declared.order.TheConstants.{MEMORY_KIND}
 use Rattle.wire_commands.specs.Inputs.{front}
 use Rattle.wire_commands.specs.declared.command.Command.{Command}
 use Rattle.wire_commands.specs.declared.command.Command.TheVariants as commands
@@ -43,11 +42,11 @@ false_true e = cc
 
 -- ---- from where its step is next
 
-told_as : (p q : Position) (left : List ℕ) (r : Reply) (s b : Bool) → TellsNothing p q → answered q left r s b ≡ answered p left r s b
-told_as p q left r s b same =
-    ap (λ n. record (answered q left r s b) { size = n }) same.size
-    ∙ ap (λ ts. record (answered q left r s b) { size = p.size; told = ts ++ r ∷ [] }) same.told
-    ∙ ap (λ o. record (answered p left r s b) { is_over = o }) same.is_over
+told_as : (p q : Position) (left : List ℕ) (r : Reply) (b : Bool) → TellsNothing p q → answered q left r b ≡ answered p left r b
+told_as p q left r b same =
+    ap (λ n. record (answered q left r b) { size = n }) same.size
+    ∙ ap (λ ts. record (answered q left r b) { size = p.size; told = ts ++ r ∷ [] }) same.told
+    ∙ ap (λ o. record (answered p left r b) { is_over = o }) same.is_over
 
 nothing_more : (p q r : Position) → TellsNothing p q → TellsNothing q r → TellsNothing p r
 nothing_more p q r first second = record {
@@ -57,17 +56,17 @@ nothing_more p q r first second = record {
 }
 
 -- where nothing was told before
-at_from : (p q r : Position) (left : List ℕ) (job : Job) (s b : Bool) → TellsNothing p q → IsAt q left (job_stage job) s b r → IsAt p left (job_stage job) s b r
-at_from p q r left (over x) s b same at = at ∙ told_as p q left x s b same
-at_from p q r left (asking j) s b same at = (at.0, nothing_more p q r same at.1, at.2)
+at_from : (p q r : Position) (left : List ℕ) (job : Job) (b : Bool) → TellsNothing p q → IsAt q left (job_stage job) b r → IsAt p left (job_stage job) b r
+at_from p q r left (over x) b same at = at ∙ told_as p q left x b same
+at_from p q r left (asking j) b same at = (at.0, nothing_more p q r same at.1, at.2)
 
 -- where its step led
-here : (p : Position) (left : List ℕ) (job : Job) (s b : Bool) → (b ≡ true → IsStopped (job_stage job))
-    → IsAt p left (job_stage job) s b (at_job p left job s b)
+here : (p : Position) (left : List ℕ) (job : Job) (b : Bool) → (b ≡ true → IsStopped (job_stage job))
+    → IsAt p left (job_stage job) b (at_job p left job b)
 unfolding goes_on
-here p left (over r) s b stopped = refl
-here p left (asking j) s b stopped = (
-  record { on = at_job_steps p left j s b stopped; next = at_job_next p left j s b; wants = λ step on. at_job_wants p left j s b on },
+here p left (over r) b stopped = refl
+here p left (asking j) b stopped = (
+  record { on = at_job_steps p left j b stopped; next = at_job_next p left j b; wants = λ step on. at_job_wants p left j b on },
   record { size = refl; told = refl; is_over = refl },
   refl,
 )
@@ -95,10 +94,10 @@ step_on p j left is goes on = by_spent p.is_spent (ap (λ b. not p.is_spent || b
     by_task (Some (lane_run.sweeps b)) e = refl
 
 step_led : (p : Position) (j : Asking) (left : List ℕ) (v : Event) (r : Reply) (act : Act) → IsNext (job_step j left) p → IsActOf (steps j) act → v.act ≡ act → reply v ≡ Some r
-    → Leads p (v ∷ []) (at_job p left (take j r) (kind v == MEMORY_KIND) ((v.answer).last || p.is_spent))
+    → Leads p (v ∷ []) (at_job p left (take j r) ((v.answer).last || p.is_spent))
 step_led p j left v r act at of asks says = by_act of
   where
-    by_act : IsActOf (steps j) act → Leads p (v ∷ []) (at_job p left (take j r) (kind v == MEMORY_KIND) ((v.answer).last || p.is_spent))
+    by_act : IsActOf (steps j) act → Leads p (v ∷ []) (at_job p left (take j r) ((v.answer).last || p.is_spent))
     by_act (inl is) = leads_job [] p p j left v r refl at.on at.next (asks ∙ is) says
     by_act (inr is) = leads_job_short [] p p j left v r refl (step_on p j left at.next is.1 at.on) at.next (at.wants tt is.1) (asks ∙ is.0) says
 
@@ -108,21 +107,19 @@ pub steps_once : (before after : History → Type 0) (k : ℕ) (j : Asking) (was
     → ((told.last || was) ≡ true → IsStopped (job_stage (take j told.reply))) → StepsOn before after k (steps j) (job_stage (take j told.reply)) was (told.last || was)
 steps_once before after k j was act told of d stops = record {
   events = d.event ∷ [];
-  wants = λ _. kind d.event == 2;
   history = d.history;
   lanes = (d.lane_is, tt);
-  leads = λ p q left s at. led p q left at.0 at.1 at.2;
+  leads = λ p q left at. led p q left at.0 at.1 at.2;
 }
   where
     led : (p q : Position) (left : List ℕ) → IsNext (job_step j left) q → TellsNothing p q → q.is_spent ≡ was
-        → (r : Position) × (Leads q (d.event ∷ []) r × IsAt p left (job_stage (take j told.reply)) (kind d.event == 2) (told.last || was) r)
+        → (r : Position) × (Leads q (d.event ∷ []) r × IsAt p left (job_stage (take j told.reply)) (told.last || was) r)
     led p q left at same spent = let new = take j told.reply in let now = told.last || was in (
-      at_job q left new (kind d.event == 2) now,
+      at_job q left new now,
       (
-        subst (λ b. Leads q (d.event ∷ []) (at_job q left new (kind d.event == 2) b)) (ap (λ b. b || q.is_spent) d.last ∙ ap (λ b. told.last || b) spent)
+        subst (λ b. Leads q (d.event ∷ []) (at_job q left new b)) (ap (λ b. b || q.is_spent) d.last ∙ ap (λ b. told.last || b) spent)
             (step_led q j left d.event told.reply act at of d.asks d.tells),
-        at_from p q (at_job q left new (kind d.event == 2) now) left new (kind d.event == 2) now same
-            (here q left new (kind d.event == 2) now stops),
+        at_from p q (at_job q left new now) left new now same (here q left new now stops),
       ),
     )
 

@@ -161,12 +161,11 @@ want_taken (Err e) s new kept a w same may is ok err = absurd (no_drop kept w is
 both : (before between after : History → Type 0) (k : ℕ) (a b c : Stage) (u v w : Bool) → StepsOn before between k a b u v → StepsOn between after k b c v w → StepsOn before after k a c u w
 both before between after k a b c u v w x y = record {
   events = x.events ++ y.events;
-  wants = λ s. y.wants (x.wants s);
   history = λ h at. subst (λ es. after (with_events h es)) (append_assoc h.events x.events y.events) (y.history (with_events h (h.events ++ x.events)) (x.history h at));
   lanes = of_both k x.events y.events x.lanes y.lanes;
-  leads = λ p q left s at.
-      let r = x.leads p q left s at in
-      let t = y.leads p r.0 left (x.wants s) r.1.1 in
+  leads = λ p q left at.
+      let r = x.leads p q left at in
+      let t = y.leads p r.0 left r.1.1 in
       (t.0, (leads_then x.events y.events q r.0 t.0 r.1.0 t.1.0, t.1.1));
 }
 
@@ -204,7 +203,6 @@ begins c is p left at = absurd is
 pub stepped_none : (before : History → Type 0) (k : ℕ) (c : Command) → IsTask c → HasStepped before before k (command_next c) (first_stage c) false
 stepped_none before k c is = record {
   events = [];
-  is_out_of_memory = false;
   history = λ h at. subst (λ es. before (with_events h es)) (sym (append-nil h.events)) at;
   lanes = tt;
   leads = λ p left next. (p, (refl, begins c is p left next));
@@ -214,12 +212,11 @@ pub stepped_on : (before between after : History → Type 0) (k : ℕ) (n : List
     → StepsOn between after k s new was now → HasStepped before after k n new now
 stepped_on before between after k n s new was now x y = record {
   events = x.events ++ y.events;
-  is_out_of_memory = y.wants x.is_out_of_memory;
   history = λ h at. subst (λ es. after (with_events h es)) (append_assoc h.events x.events y.events) (y.history (with_events h (h.events ++ x.events)) (x.history h at));
   lanes = of_both k x.events y.events x.lanes y.lanes;
   leads = λ p left next.
       let q = x.leads p left next in
-      let r = y.leads p q.0 left x.is_out_of_memory q.1.1 in
+      let r = y.leads p q.0 left q.1.1 in
       (r.0, (leads_then x.events y.events p q.0 r.0 q.1.0 r.1.0, r.1.1));
 }
 
@@ -227,11 +224,10 @@ stepped_on before between after k n s new was now x y = record {
 pub stepped_done : (before after : History → Type 0) (k : ℕ) (n : List ℕ → Next) (s : Stage) (told : Told) → HasStepped before after k n s told.last → s ≡ done told.reply → Does before after k n told
 stepped_done before after k n s told x is = record {
   events = x.events;
-  is_out_of_memory = x.is_out_of_memory;
   history = x.history;
   lanes = x.lanes;
   leads = λ p left next. let q = x.leads p left next in
-      subst (λ y. Leads p x.events y) (subst (λ t. IsAt p left t x.is_out_of_memory told.last q.0) is q.1.1) q.1.0;
+      subst (λ y. Leads p x.events y) (subst (λ t. IsAt p left t told.last q.0) is q.1.1) q.1.0;
 }
 
 -- ---- memory was wanting for its beginning

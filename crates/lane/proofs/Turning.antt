@@ -13,7 +13,7 @@ use Rattle.wire_commands.specs.ReplyText.{reply_text}
 use Rattle.wire_commands.specs.Inputs.{front, cut_front}
 use Rattle.store_model.specs.declared.ending.Ending.{Ending}
 use Rattle.store_model.specs.declared.ending.Ending.TheVariants as endings
-use Rattle.store_model.specs.Lanes.{Next, job_step, plain, sync, collect, collecting, bye, broken, end, front_next}
+use Rattle.store_model.specs.Lanes.{bye, broken, end, front_next}
 use Rattle.store_model.specs.Weave.{is_replied}
 use Rattle.store_history.specs.declared.act.Event.{Event}
 use Rattle.store_history.specs.LaneRun.{Ahead, ahead, Position, begin, text, next_at, tells, last_words, EndsSo}
@@ -24,7 +24,7 @@ use Rattle.core_state.specs.History.{History}
 use Rattle.shared_store.specs.Comes.{with_events}
 use Rattle.lane.specs.declared.input.Input.{Input}
 use Rattle.lane.specs.declared.ending.Last.{Last}
-use Rattle.lane.specs.Acting.{gave_all}
+use Rattle.lane.specs.AtOnce.{gave_all}
 use Rattle.lane.specs.Fronts.{next_in, IsLastAhead}
 use Rattle.lane.specs.Progress.{Start, position, HasServed, HasStopped, HasWords}
 use Rattle.lane.specs.Ran.{Took, ReadsOut}
@@ -73,11 +73,10 @@ pub starts : (stands : History → Type 0) (h : History) (k : ℕ) (left taken :
 starts stands h k left taken tail size s none tail_is size_is = record {
   events = [];
   input = [];
-  is_out_of_memory = false;
   told = [];
   stands_for = subst (λ es. stands (with_events h es)) none s;
   lanes = tt;
-  leads = ap (λ (t : Tail). position [] t.bytes false []) (sym tail_is);
+  leads = ap (λ (t : Tail). position [] t.bytes []) (sym tail_is);
   size_is = sym size_is;
   held = ap (λ (t : Tail). t.offset + length t.bytes) tail_is ∙ sym size_is;
   took = nothing_taken left;
@@ -89,17 +88,17 @@ starts stands h k left taken tail size s none tail_is size_is = record {
 grown_begin : (input piece : List ℕ) → grown piece (begin input) ≡ begin (input ++ piece)
 grown_begin input piece = ap (λ n. record (begin (input ++ piece)) { size = n }) (sym (length-append input piece))
 
-grown_position : (input left piece : List ℕ) (is_out_of_memory : Bool) (told : List Reply)
-    → grown piece (position input left is_out_of_memory told) ≡ position (input ++ piece) (left ++ piece) is_out_of_memory told
-grown_position input left piece is_out_of_memory told =
-    ap (λ n. record (position (input ++ piece) (left ++ piece) is_out_of_memory told) { size = n }) (sym (length-append input piece))
+grown_position : (input left piece : List ℕ) (told : List Reply)
+    → grown piece (position input left told) ≡ position (input ++ piece) (left ++ piece) told
+grown_position input left piece told =
+    ap (λ n. record (position (input ++ piece) (left ++ piece) told) { size = n }) (sym (length-append input piece))
 
-pub leads_further : (input left piece : List ℕ) (is_out_of_memory : Bool) (told : List Reply) (vs : List Event) → Leads (begin input) vs (position input left is_out_of_memory told)
-    → Leads (begin (input ++ piece)) vs (position (input ++ piece) (left ++ piece) is_out_of_memory told)
-leads_further input left piece is_out_of_memory told vs led =
-    subst (λ p. Leads p vs (position (input ++ piece) (left ++ piece) is_out_of_memory told)) (grown_begin input piece)
-    (subst (λ q. Leads (grown piece (begin input)) vs q) (grown_position input left piece is_out_of_memory told)
-    (leads_grown piece vs (begin input) (position input left is_out_of_memory told) led))
+pub leads_further : (input left piece : List ℕ) (told : List Reply) (vs : List Event) → Leads (begin input) vs (position input left told)
+    → Leads (begin (input ++ piece)) vs (position (input ++ piece) (left ++ piece) told)
+leads_further input left piece told vs led =
+    subst (λ p. Leads p vs (position (input ++ piece) (left ++ piece) told)) (grown_begin input piece)
+    (subst (λ q. Leads (grown piece (begin input)) vs q) (grown_position input left piece told)
+    (leads_grown piece vs (begin input) (position input left told) led))
 
 pub took_more : (stands : History → Type 0) (start : Start) (k : ℕ) (left left' taken : Option (List ℕ)) (old new : Input) (given : ℕ)
     → HasServed stands start k left taken old.cutter old.taken given → TakesMore left left' old new → HasServed stands start k left' taken new.cutter new.taken given
@@ -109,12 +108,11 @@ took_more stands start k left left' taken old new given s m =
     record {
       events = s.events;
       input = s.input ++ m.piece;
-      is_out_of_memory = s.is_out_of_memory;
       told = s.told;
       stands_for = s.stands_for;
       lanes = s.lanes;
-      leads = subst (λ xs. Leads (begin (s.input ++ m.piece)) s.events (position (s.input ++ m.piece) xs s.is_out_of_memory s.told)) (sym bytes)
-          (leads_further s.input (old.cutter).bytes m.piece s.is_out_of_memory s.told s.events s.leads);
+      leads = subst (λ xs. Leads (begin (s.input ++ m.piece)) s.events (position (s.input ++ m.piece) xs s.told)) (sym bytes)
+          (leads_further s.input (old.cutter).bytes m.piece s.told s.events s.leads);
       size_is = omega (arith, length-append s.input m.piece, s.size_is, (m.feeds).taken);
       held = omega (arith, ap length bytes, length-append (old.cutter).bytes m.piece, offset, s.held, (m.feeds).taken);
       took = taken_on start.left left left' s.input m.piece s.took m.took;
@@ -125,7 +123,7 @@ took_more stands start k left left' taken old new given s m =
 
 here : (stands : History → Type 0) (start : Start) (k : ℕ) (left taken : Option (List ℕ)) (tail : Tail) (size given : ℕ)
     → HasServed stands start k left taken tail size given → Position
-here stands start k left taken tail size given s = position s.input tail.bytes s.is_out_of_memory s.told
+here stands start k left taken tail size given s = position s.input tail.bytes s.told
 
 next_here : (tail : Tail) (p : Position) → p.task ≡ None → p.left ≡ tail.bytes → p.size ≡ tail.offset + length tail.bytes → next_at p ≡ ahead (next_in tail)
 next_here tail p off left size =
@@ -147,17 +145,17 @@ no_words e p h = ap (λ (q : Position). q.told) (silent e p (next_at p) h) ∙ s
 -- where it stops, as it is
 stopped : (stands : History → Type 0) (start : Start) (k : ℕ) (left left' taken : Option (List ℕ)) (tail : Tail) (size given : ℕ) (e : Ending) (words : Option Reply)
     → (s : HasServed stands start k left taken tail size given) → gave_all e ≡ true → Took e start.left left' s.input
-    → EndsSo e (position s.input tail.bytes s.is_out_of_memory s.told) (next_at (position s.input tail.bytes s.is_out_of_memory s.told))
-    → HasWords e (position s.input tail.bytes s.is_out_of_memory s.told) words
+    → EndsSo e (position s.input tail.bytes s.told) (next_at (position s.input tail.bytes s.told))
+    → HasWords e (position s.input tail.bytes s.told) words
     → ReadsOut e s.input s.events [] left'
     → HasStopped stands start k left' taken size given e words
 stopped stands start k left left' taken tail size given e words s all took so says out = record {
   events = s.events;
   input = s.input;
-  last = position s.input tail.bytes s.is_out_of_memory s.told;
+  last = position s.input tail.bytes s.told;
   stands_for = s.stands_for;
   lanes = s.lanes;
-  runs = λ f vs told. leads_runs f s.events vs (begin s.input) (position s.input tail.bytes s.is_out_of_memory s.told) told refl s.leads;
+  runs = λ f vs told. leads_runs f s.events vs (begin s.input) (position s.input tail.bytes s.told) told refl s.leads;
   on = refl;
   off = refl;
   size_is = s.size_is;
@@ -166,14 +164,14 @@ stopped stands start k left left' taken tail size given e words s all took so sa
   so = so;
   says = says;
   read_out = out;
-  comes = leads_to endings.SinkFault s.events (begin s.input) (position s.input tail.bytes s.is_out_of_memory s.told) s.leads;
+  comes = leads_to false endings.SinkFault s.events (begin s.input) (position s.input tail.bytes s.told) s.leads;
   all_but_one = gave_so e s.told given all;
 }
 
 pub at_next : (stands : History → Type 0) (start : Start) (k : ℕ) (left taken : Option (List ℕ)) (tail : Tail) (size given : ℕ)
-    → (s : HasServed stands start k left taken tail size given) → next_at (position s.input tail.bytes s.is_out_of_memory s.told) ≡ ahead (next_in tail)
+    → (s : HasServed stands start k left taken tail size given) → next_at (position s.input tail.bytes s.told) ≡ ahead (next_in tail)
 at_next stands start k left taken tail size given s =
-    next_here tail (position s.input tail.bytes s.is_out_of_memory s.told) refl refl (s.size_is ∙ sym s.held)
+    next_here tail (position s.input tail.bytes s.told) refl refl (s.size_is ∙ sym s.held)
 
 bye_words : (p : Position) (n : Ahead) → n ≡ ahead bye → (last_words endings.Clean p n).told ≡ p.told ++ Done ∷ []
 unfolding last_words
@@ -191,7 +189,7 @@ end_words p n is = ap (λ x. (last_words endings.Clean p x).told) is ∙ sym (ap
 pub bye_stops : (stands : History → Type 0) (start : Start) (k : ℕ) (left taken : Option (List ℕ)) (tail : Tail) (size given : ℕ)
     → HasServed stands start k left taken tail size given → IsLastAhead tail bye → HasStopped stands start k left taken size given endings.Clean (Some Done)
 bye_stops stands start k left taken tail size given s seen =
-    let p = position s.input tail.bytes s.is_out_of_memory s.told in
+    let p = position s.input tail.bytes s.told in
     let next = at_next stands start k left taken tail size given s ∙ ap ahead seen.next in
     stopped stands start k left left taken tail size given endings.Clean (Some Done) s refl s.took
     (subst (λ n. EndsSo endings.Clean p n) (sym next) refl)
@@ -204,7 +202,7 @@ broken_at : (stands : History → Type 0) (start : Start) (k : ℕ) (left left' 
     → (cut tail.bytes ≡ short → IfSome left' (λ xs. xs ≡ []))
     → HasStopped stands start k left' taken size given (endings.Broken place) (Some (Refused r))
 broken_at stands start k left left' taken tail size given place r s found at nothing seen =
-    let p = position s.input tail.bytes s.is_out_of_memory s.told in
+    let p = position s.input tail.bytes s.told in
     let next = at_next stands start k left taken tail size given s ∙ ap ahead found in
     let offset : place ≡ length s.input - length tail.bytes = omega (arith, at, s.size_is, s.held) in
     stopped stands start k left left' taken tail size given (endings.Broken place) (Some (Refused r)) s refl
@@ -228,7 +226,7 @@ pub end_stops : (stands : History → Type 0) (start : Start) (k : ℕ) (left le
     → HasServed stands start k left taken tail size given → tail.bytes ≡ [] → TakesFrom left left' [] → IfSome left (λ xs. xs ≡ [])
     → HasStopped stands start k left' taken size given endings.Clean None
 end_stops stands start k left left' taken tail size given s all took none =
-    let p = position s.input tail.bytes s.is_out_of_memory s.told in
+    let p = position s.input tail.bytes s.told in
     let next = next_end p refl all in
     stopped stands start k left left' taken tail size given endings.Clean None s refl
     (subst (λ xs. TakesFrom start.left left' xs) (append-nil s.input) (taken_on start.left left left' s.input [] s.took took))
@@ -253,14 +251,14 @@ cut_stops stands start k left left' taken tail size given place s some part at t
 pub fault_stops : (stands : History → Type 0) (start : Start) (k : ℕ) (left left' taken : Option (List ℕ)) (tail : Tail) (size given : ℕ)
     → HasServed stands start k left taken tail size given → cut tail.bytes ≡ short → HasStopped stands start k left' taken size given endings.SourceFault None
 fault_stops stands start k left left' taken tail size given s part =
-    let p = position s.input tail.bytes s.is_out_of_memory s.told in
+    let p = position s.input tail.bytes s.told in
     stopped stands start k left left' taken tail size given endings.SourceFault None s refl (begins start.left left s.input s.took) (refl, refl, part) (no_words endings.SourceFault p refl) tt
 
 -- the lane took as much as it may
 pub long_stops : (stands : History → Type 0) (start : Start) (k : ℕ) (left taken : Option (List ℕ)) (tail : Tail) (size given : ℕ)
     → HasServed stands start k left taken tail size given → cut tail.bytes ≡ short → HasStopped stands start k left taken size given endings.SourceTooLong None
 long_stops stands start k left taken tail size given s part =
-    let p = position s.input tail.bytes s.is_out_of_memory s.told in
+    let p = position s.input tail.bytes s.told in
     stopped stands start k left left taken tail size given endings.SourceTooLong None s refl s.took (refl, refl, part) (no_words endings.SourceTooLong p refl) tt
 
 -- ---- the same by what a read gave

@@ -14,11 +14,12 @@ use Rattle.store_history.specs.declared.act.Act.{Act}
 use Rattle.store_history.specs.declared.act.Act.TheVariants as acts
 use Rattle.store_history.specs.declared.act.Event.{Event}
 use Rattle.store_history.specs.History.{reply, lane, kind}
-use Rattle.core_state.specs.Replies.{may_answer, may_give}
+use Rattle.store_history.specs.Replies.{may_answer, may_give}
 use Rattle.core_state.specs.History.{History, then_event}
 use Rattle.turn_lock.specs.State.{SeatState}
 use Rattle.seat_history.specs.Entered.{HasGrown}
 use Rattle.lane.specs.declared.acts.Told.{Told}
+use Rattle.lane.specs.AtOnce.{gave_all}
 
 -- an act that has a reply, whatever comes: neither a collector's nor a lane's end
 abbrev pub HasReply : Act → Type 0
@@ -55,11 +56,6 @@ pub record MayTell (act : Act) (told : Told) : Type 0 where
   pub want : IsWant act told → told.reply ≡ Refused NoMemory
 
 -- ---- its reply
-
--- all of the replies were given
-abbrev pub gave_all : Ending → Bool
-gave_all endings.SinkFault = false
-gave_all e = true
 
 abbrev pub went_on : Option Ending → Bool
 went_on None = true

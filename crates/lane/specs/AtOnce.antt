@@ -1,5 +1,5 @@
 -- Which acts a lane makes once its sink has failed: its end alone.
-use Rattle.std.specs.Prelude.{ℕ, ◌≡◌, ◌≤◌, ◌-◌, ◌^◌, min, List, [], ◌∷◌, ◌++◌, length, Option, None, option_to_list}
+use Rattle.std.specs.Prelude.{ℕ, Bool, false, true, ◌≡◌, ◌≤◌, ◌-◌, ◌^◌, min, List, [], ◌∷◌, ◌++◌, length, Option, None, option_to_list}
 use Rattle.wire_commands.specs.declared.reply.Reply.{Reply}
 use Rattle.store_model.specs.declared.ending.Ending.{Ending}
 use Rattle.store_model.specs.declared.ending.Ending.TheVariants as endings
@@ -39,6 +39,11 @@ pub record HasEndedAtOnce (input : List ℕ) (events : List Event) (given : ℕ)
 abbrev pub EndsAtOnce : Ending → List ℕ → List Event → ℕ → Type 0
 EndsAtOnce endings.SinkFault input events given = HasEndedAtOnce input events given
 EndsAtOnce e input events given = Unit {0}
+
+-- all of the replies were given
+abbrev pub gave_all : Ending → Bool
+gave_all endings.SinkFault = false
+gave_all e = true
 
 -- where its commands have come to an end
 abbrev pub GaveSo : Ending → List Reply → ℕ → Type 0

@@ -5,8 +5,8 @@ use Rattle.port_traits.specs.declared.sink.Sink as sinks
 use Rattle.port_traits.specs.Faults.{Rose}
 use Rattle.store_model.specs.declared.ending.Ending.{Ending}
 use Rattle.store_model.specs.declared.ending.Ending.TheVariants.{SourceFault, SinkFault, SourceTooLong}
-use Rattle.lane.specs.declared.port.LaneReport.{LaneReport}
-use Rattle.lane.specs.declared.port.Port.{Port}
+use Rattle.store_history.specs.declared.port.LaneReport.{LaneReport}
+use Rattle.store_history.specs.declared.port.Port.{Port}
 
 -- a source or a sink fails only where its own count rose, and too much is 2^40 bytes
 abbrev pub IsCaused : ℕ → ℕ → ℕ → ℕ → ℕ → Option Ending → Type 0

@@ -10,7 +10,7 @@ use Rattle.shared_store.specs.Comes.{with_events}
 use Rattle.lane.specs.declared.ending.Last.{Last}
 use Rattle.turn_lock.specs.State.{SeatState}
 use Rattle.lane.specs.Acting.{Has}
-use Rattle.lane.specs.Ran.{RanAlone}
+use Rattle.lane.specs.RanAlone.{RanAlone}
 use Rattle.lane.specs.Progress.{Start, HasStopped}
 
 pub record IsEndOf (k : ℕ) (v : Event) (n : ℕ) : Type 0 where

@@ -32,18 +32,16 @@ pub record IsNext (n : Next) (p : Position) : Type 0 where
   pub wants : IsStep n → is_last_step n ≡ false → may_want_at p ≡ true
 
 -- behind a command, or a whole job, that was told this
-abbrev pub answered : Position → List ℕ → Reply → Bool → Bool → Position
-answered p left r is_out_of_memory is_spent =
-    record p { left = left; task = None; is_out_of_memory = is_out_of_memory; is_spent = is_spent; told = p.told ++ r ∷ [] }
+abbrev pub answered : Position → List ℕ → Reply → Bool → Position
+answered p left r is_spent = record p { left = left; task = None; is_unheld = false; is_spent = is_spent; told = p.told ++ r ∷ [] }
 
 -- Acts of the lane were entered, all of a command or of the job of one. Wherever it is next on the lane, with this left behind it,
 -- they lead to where it was told.
 pub record Does (before after : History → Type 0) (k : ℕ) (n : List ℕ → Next) (told : Told) : Type 0 where
   pub events : List Event
-  pub is_out_of_memory : Bool
   pub history : (h : History) → before h → after (with_events h (h.events ++ events))
   pub lanes : AreOf k events
-  pub leads : (p : Position) (left : List ℕ) → IsNext (n left) p → Leads p events (answered p left told.reply is_out_of_memory told.last)
+  pub leads : (p : Position) (left : List ℕ) → IsNext (n left) p → Leads p events (answered p left told.reply told.last)
 
 -- so a command did between two states of a seat, whatever it had before
 abbrev pub SeatDoes : SeatState Event → SeatState Event → ℕ → Command → Told → Type 0

@@ -13,3 +13,6 @@ pub mod Progress
 pub mod Closing
 pub mod Turns
 pub mod Loops
+pub mod RanAlone
+pub mod Served
+pub mod Together

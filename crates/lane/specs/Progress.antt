@@ -11,8 +11,7 @@ use Rattle.store_history.specs.Seats.{AreOf}
 use Rattle.store_history.specs.SoFar.{Leads}
 use Rattle.core_state.specs.History.{History}
 use Rattle.shared_store.specs.Comes.{with_events}
-use Rattle.lane.specs.Acting.{gave_all}
-use Rattle.lane.specs.AtOnce.{GaveSo, position_by}
+use Rattle.lane.specs.AtOnce.{gave_all, GaveSo, position_by}
 use Rattle.lane.specs.Ran.{Took, ReadsOut}
 
 -- what a lane began with: the history without its events, what its source had left, and what its sink had taken
@@ -21,19 +20,17 @@ pub record Start : Type 0 where
   pub left : Option (List ℕ)
   pub taken : Option (List ℕ)
 
-abbrev pub position : List ℕ → List ℕ → Bool → List Reply → Position
-position input left is_out_of_memory told =
-    record { size = length input; left = left; task = None; is_out_of_memory = is_out_of_memory; is_spent = false; told = told; is_over = false }
+abbrev pub position : List ℕ → List ℕ → List Reply → Position
+position input left told = record { size = length input; left = left; task = None; is_unheld = false; is_spent = false; told = told; is_over = false }
 
 -- These events led the lane to where it is. It goes on.
 pub record HasServed (stands : History → Type 0) (start : Start) (k : ℕ) (left taken : Option (List ℕ)) (tail : Tail) (size given : ℕ) : Type 0 where
   pub events : List Event
   pub input : List ℕ
-  pub is_out_of_memory : Bool
   pub told : List Reply
   pub stands_for : stands (with_events start.history events)
   pub lanes : AreOf k events
-  pub leads : Leads (begin input) events (position input tail.bytes is_out_of_memory told)
+  pub leads : Leads (begin input) events (position input tail.bytes told)
   pub size_is : length input ≡ size
   pub held : tail.offset + length tail.bytes ≡ size
   pub took : TakesFrom start.left left input
@@ -60,5 +57,5 @@ pub record HasStopped (stands : History → Type 0) (start : Start) (k : ℕ) (l
   pub so : EndsSo e last (next_at last)
   pub says : HasWords e last words
   pub read_out : ReadsOut e input events [] left
-  pub comes : position_by endings.SinkFault (begin input) events ≡ last
+  pub comes : (is_unheld : Bool) × (position_by endings.SinkFault (begin input) events ≡ record last { is_unheld = is_unheld })
   pub all_but_one : GaveSo e last.told given

@@ -159,44 +159,39 @@ abbrev pub left_at : Position → List ℕ → Pulling → List ℕ
 left_at p left (comparing group remote) = p.left
 left_at p left x = left
 
-abbrev pub pulling_at : Position → List ℕ → Pulling → Bool → Bool → Position
-pulling_at p left x is_out_of_memory is_last =
-    record p { left = left_at p left x; task = Some (lane_run.pulls x); is_out_of_memory = is_out_of_memory; is_spent = is_last }
+abbrev pub pulling_at : Position → List ℕ → Pulling → Bool → Position
+pulling_at p left x is_last = record p { left = left_at p left x; task = Some (lane_run.pulls x); is_unheld = false; is_spent = is_last }
 
-abbrev pub sweeping_at : Position → List ℕ → Bool → Bool → Bool → Position
-sweeping_at p left is_cut is_out_of_memory is_last =
-    record p { left = left; task = Some (lane_run.sweeps is_cut); is_out_of_memory = is_out_of_memory; is_spent = is_last }
+abbrev pub sweeping_at : Position → List ℕ → Bool → Bool → Position
+sweeping_at p left is_cut is_last = record p { left = left; task = Some (lane_run.sweeps is_cut); is_unheld = false; is_spent = is_last }
 
 -- From where its command was next: it asks this next, or its report was told.
-abbrev pub IsAt : Position → List ℕ → Stage → Bool → Bool → Position → Type 0
-IsAt p left (done report) is_out_of_memory is_last q = q ≡ answered p left report is_out_of_memory is_last
-IsAt p left (steps j) is_out_of_memory is_last q = IsNext (job_step j left) q × TellsNothing p q × (q.is_spent ≡ is_last)
-IsAt p left (pulls (seeking group)) is_out_of_memory is_last q = (q ≡ p) × (is_last ≡ false) × IsNext (sync group left) p
-IsAt p left (pulls x) is_out_of_memory is_last q = (q ≡ pulling_at p left x is_out_of_memory is_last) × IsSyncNext p left
-IsAt p left starts is_out_of_memory is_last q = (q ≡ p) × (is_last ≡ false) × IsNext (collect left) p
-IsAt p left sweeps is_out_of_memory is_last q = (q ≡ sweeping_at p left is_out_of_memory is_out_of_memory is_last) × IsNext (collect left) p
+abbrev pub IsAt : Position → List ℕ → Stage → Bool → Position → Type 0
+IsAt p left (done report) is_last q = q ≡ answered p left report is_last
+IsAt p left (steps j) is_last q = IsNext (job_step j left) q × TellsNothing p q × (q.is_spent ≡ is_last)
+IsAt p left (pulls (seeking group)) is_last q = (q ≡ p) × (is_last ≡ false) × IsNext (sync group left) p
+IsAt p left (pulls x) is_last q = (q ≡ pulling_at p left x is_last) × IsSyncNext p left
+IsAt p left starts is_last q = (q ≡ p) × (is_last ≡ false) × IsNext (collect left) p
+IsAt p left sweeps is_last q = (is_cut : Bool) × (q ≡ sweeping_at p left is_cut is_last) × IsNext (collect left) p
 
 -- where this is next on the lane, it is at its beginning
 abbrev pub Begins : (List ℕ → Next) → Stage → Type 0
-Begins n s = (p : Position) (left : List ℕ) → IsNext (n left) p → IsAt p left s false false p
+Begins n s = (p : Position) (left : List ℕ) → IsNext (n left) p → IsAt p left s false p
 
 -- Acts of the lane were entered, for what was asked or for want of memory behind it. From wherever this is next on the lane they lead to here.
 pub record HasStepped (before now : History → Type 0) (k : ℕ) (n : List ℕ → Next) (s : Stage) (is_last : Bool) : Type 0 where
   pub events : List Event
-  pub is_out_of_memory : Bool
   pub history : (h : History) → before h → now (with_events h (h.events ++ events))
   pub lanes : AreOf k events
-  pub leads : (p : Position) (left : List ℕ) → IsNext (n left) p → (q : Position) × (Leads p events q × IsAt p left s is_out_of_memory is_last q)
+  pub leads : (p : Position) (left : List ℕ) → IsNext (n left) p → (q : Position) × (Leads p events q × IsAt p left s is_last q)
 
 -- The act for what was asked was entered, and where its answer was dropped, want of memory behind it. From where that was next they lead to
--- what is asked then; `wants` says whether memory was wanting, by whether it was before.
+-- what is asked then.
 pub record StepsOn (before after : History → Type 0) (k : ℕ) (old new : Stage) (was_last is_last : Bool) : Type 0 where
   pub events : List Event
-  pub wants : Bool → Bool
   pub history : (h : History) → before h → after (with_events h (h.events ++ events))
   pub lanes : AreOf k events
-  pub leads : (p q : Position) (left : List ℕ) (s : Bool) → IsAt p left old s was_last q
-      → (r : Position) × (Leads q events r × IsAt p left new (wants s) is_last r)
+  pub leads : (p q : Position) (left : List ℕ) → IsAt p left old was_last q → (r : Position) × (Leads q events r × IsAt p left new is_last r)
 
 -- ---- of seats, from whatever they had before
 

@@ -12,7 +12,7 @@ use Rattle.turn_lock.specs.State.{SeatState}
 use Rattle.store_history.specs.declared.act.Event.{Event}
 use Rattle.lane.specs.declared.ending.Last.{Last}
 use Rattle.lane.specs.declared.input.Input.{Input}
-use Rattle.lane.specs.declared.port.Port.{Port}
+use Rattle.store_history.specs.declared.port.Port.{Port}
 use Rattle.lane.specs.declared.run.Progress.{Progress}
 use Rattle.lane.specs.Acting.{Has}
 use Rattle.lane.specs.Causes.{HasCauses}

@@ -8,11 +8,14 @@ mod ending;
 mod hashing;
 mod input;
 mod jobs;
-mod port;
+mod lanes;
 mod pulling;
 mod run;
+mod serves;
 mod task;
+mod together;
 
-pub use port::{LaneReport, Port};
+pub use lanes::Reports;
 pub use run::{run_lane, run_with};
 pub use store_model::Ending;
+pub use together::serve_all;

@@ -1,6 +1,7 @@
 -- Which lane has which group, and which lanes hold which snapshots.
-use Rattle.std.specs.Prelude.{◌≡◌, ℕ, not, List, [], ◌∷◌, ◌++◌, map, filter, ◌==◌, if◌then◌else◌, Option, Some, None, option_map, Result, OnOk}
+use Rattle.std.specs.Prelude.{◌≡◌, ℕ, min, not, List, [], ◌∷◌, ◌++◌, map, filter, ◌==◌, if◌then◌else◌, Option, Some, None, option_map, Result, OnOk}
 use Rattle.std.specs.Borrow.{Bor}
+use Rattle.std.specs.List.{reduce}
 use Rattle.std.specs.Map.{lookup}
 use Rattle.std.specs.Option.{option_copied}
 use Rattle.std.specs.Result.{result_err}
@@ -24,6 +25,10 @@ group_holder locks group = lookup (same_group group) locks.groups
 -- the lanes that hold the snapshot
 abbrev pub sharers : Locks → SnapshotKey → List ℕ
 sharers locks key = map (λ claim. claim.1) (filter (λ claim. same_key claim.0 key) locks.shared)
+
+-- the least of them
+abbrev pub least_sharer : Locks → SnapshotKey → Option ℕ
+least_sharer locks key = reduce min (sharers locks key)
 
 -- the holder, unless it is this lane
 abbrev pub other_than : ℕ → Option ℕ → Option ℕ

@@ -1,9 +1,9 @@
 //! Which lane's writer has which group, and which lanes hold which snapshots.
 #![tactic(auto)]
 
-ghost use Rattle.std.specs.Prelude.{◌≡◌, ◌≤◌, ◌<◌, ◌++◌, [], All, Contains, IfOk, OnOk, OnErr, IfErr, min, vec_len, vec_capacity};
-ghost use Rattle.std.specs.List.{reduce};
+ghost use Rattle.std.specs.Prelude.{◌≡◌, ◌<◌, ◌++◌, IfOk, OnOk, OnErr, option_map, vec_len, vec_capacity};
 ghost use Rattle.std.specs.Option.{option_copied, option_to_list};
+ghost use Rattle.std.specs.Result.{result_err};
 ghost use Rattle.lock_book.specs.Locks.{claim_by};
 
 use std::alloc::{AllocError, Global};
@@ -55,7 +55,7 @@ fn add_claim(claims: &mut Vec<(SnapshotKey, u32)>, claim: Option<(SnapshotKey, u
 }
 
 impl LockBook {
-    ghost use Rattle.lock_book.specs.Locks.{Locks, no_locks, group_holder, other_than, sharers, TellsHolder, OkTakesGroup, OkTakesWriter, TakesShare, Releases};
+    ghost use Rattle.lock_book.specs.Locks.{Locks, no_locks, group_holder, other_than, least_sharer, TellsHolder, OkTakesGroup, OkTakesWriter, TakesShare, Releases};
 
     /// No lane holds anything. It takes no memory.
     pub fn new(alloc: Global) -> LockBook
@@ -145,9 +145,7 @@ impl LockBook {
 
     /// `Ok` where no lane holds the snapshot, else the least one that does. It takes no memory.
     pub fn free_for_removal(&self, key: &SnapshotKey) -> Result<(), LaneHolds>
-        ensures free { OnOk result (sharers self.now key.now ≡ []) }
-        ensures held { IfErr result (λ e. Contains (sharers self.now key.now) e.lane) }
-        ensures least { IfErr result (λ e. All (λ lane. e.lane ≤ lane) (sharers self.now key.now)) }
+        ensures value { option_map (λ e. e.lane) (result_err result) ≡ least_sharer self.now key.now }
     {
         match self.least_sharer(key) {
             Some(lane) => Err(LaneHolds { lane }),
@@ -156,7 +154,7 @@ impl LockBook {
     }
 
     fn least_sharer(&self, key: &SnapshotKey) -> Option<u32>
-        ensures { result ≡ reduce min (sharers self.now key.now) }
+        ensures { result ≡ least_sharer self.now key.now }
     {
         let sharers = self.shared.iter().filter(|claim| claim.0 == *key);
         sharers.map(|claim| claim.1).min()

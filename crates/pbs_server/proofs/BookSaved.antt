@@ -9,15 +9,17 @@ use Rattle.std.specs.Prelude.{IsErrOf, is_some}
 use Rattle.std.specs.Result.{result_err}
 use Rattle.std.specs.FinMap.{get}
 use Rattle.store_types.specs.declared.order.TheConstants.{FAULT_KIND}
-use Rattle.file_install.proofs.InstallLaws.{installed_other}
+use Rattle.file_install.proofs.InstallLaws.{installed_other, installed_name}
 use Rattle.store_model.specs.Weave.{first_fault}
+use Rattle.pbs_server.specs.Headline.{HasBookOf}
+use Rattle.atime_book.specs.Touches.{as_of}
+use Rattle.pbs_server.proofs.Tests.{neither}
 use Rattle.store_history.specs.declared.act.Event.{Event}
 use Rattle.store_history.specs.History.{entries, kind}
 use Rattle.store_history.specs.Saved.{book_name}
 use Rattle.core_state.specs.declared.state.Core.{Core}
-use Rattle.core_state.specs.Answers.{fault_after}
-use Rattle.core_state.specs.Foreign.{IsForeign}
-use Rattle.core_state.specs.Records.{fault_in}
+use Rattle.store_history.specs.Answered.{fault_after, fault_in}
+use Rattle.store_history.specs.Foreign.{IsForeign}
 use Rattle.core_state.specs.Saving.{HasSaved, KeepsRest, LeavesBook, SavesBook, text_of_book}
 use Rattle.lane.specs.Entries.{has_kind}
 use Rattle.pbs_server.specs.Saving.{EndsSaved, saving_of}
@@ -151,6 +153,20 @@ five_fails place fault (v ∷ vs) five = by_test (λ more. five_fails (place + 1
         → IsSome (fault_in (place + 1) (if b then first_fault place fault else fault) vs)
     by_test more true five = stays_some (place + 1) (first_fault place fault) vs (first_some place fault)
     by_test more false five = more five
+
+-- and without one it has not
+pub no_five : (place : ℕ) (h : List Event) → has_kind 5 (entries h) ≡ false → fault_in place None h ≡ None
+no_five place [] none = refl
+no_five place (v ∷ vs) none =
+    let both = neither (kind v == FAULT_KIND) (has_kind 5 (entries vs)) none in
+    ap (λ b. fault_in (place + 1) (if b then first_fault place None else None) vs) both.0 ∙ no_five (place + 1) vs both.1
+
+-- then the book that was saved is there
+pub book_of : {D E C : Type 0} (d : Ghosts D) (old new : Core D E C) (not_saved : Option DiskError) → EndsSaved d old new not_saved → old.fault ≡ None → not_saved ≡ None → d.honest (old.parts).disk
+    → (m : ℕ) → old.last ≡ m → HasBookOf (d.content (new.parts).disk) m
+book_of d old new not_saved ends none is honest m last =
+    let s : HasSaved d old new = subst (λ o. OnOk (saving_of o) (HasSaved d old new)) is (ends.saved none) in
+    (as_of old.last (old.upkeep).book, ap (λ files. get files book_name) (s.content honest) ∙ installed_name (d.content (old.parts).disk) book_name (text_of_book old), last)
 
 -- so the book was not saved
 pub halted_by : {P : Type 0} (o : Option ℕ) → IsSome o → IfSome o (λ _. P) → P

@@ -9,11 +9,11 @@ use Rattle.port_traits.specs.Faults.{Rose}
 use Rattle.store_types.specs.declared.order.Entry.{Entry}
 use Rattle.store_model.specs.declared.ending.Ending.TheVariants as endings
 use Rattle.store_history.specs.declared.act.Event.{Event}
-use Rattle.lane.specs.declared.port.LaneReport.{LaneReport}
-use Rattle.lane.specs.declared.port.Port.{Port}
+use Rattle.store_history.specs.declared.port.LaneReport.{LaneReport}
+use Rattle.store_history.specs.declared.port.Port.{Port}
 use Rattle.lane.specs.Entries.{has_kind}
 use Rattle.lane.proofs.Caused.{rose_later}
-use Rattle.lane_threads.specs.Served.{EachRan, RanAs, Run}
+use Rattle.lane.specs.Served.{EachRan, RanAs, Run}
 use Rattle.pbs_server.specs.declared.status.Status.{Status}
 use Rattle.pbs_server.specs.declared.status.Status.TheVariants as statuses
 use Rattle.pbs_server.specs.Statuses.{beside_sink, endings_of, first_of, has_disk_fault, is_failed, is_short, is_wanting, run_facts, some_tells}

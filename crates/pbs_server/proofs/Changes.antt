@@ -9,6 +9,7 @@ use Rattle.store_model.specs.WriterSteps.{want_newer, snapshot_of}
 use Rattle.store_model.specs.Done.{Effect, forgets, IsNext, ends, opens, writes, enters, reads, Shape}
 use Rattle.store_model.specs.Done as shapes
 use Rattle.store_model.proofs.Done.{grown_key}
+use Rattle.store_model.proofs.HeadLemmas.{idle_key_found}
 use Rattle.store_history.specs.declared.act.Act.{Act}
 use Rattle.store_history.specs.declared.act.Act.TheVariants as acts
 use Rattle.store_history.specs.Acts.{IsWellFormed}
@@ -65,7 +66,7 @@ same_writer v u e = cc
 -- the lane's next session, if it is a writer, was there with its key, or is new
 next_writer : (s : Store) (k m : ℕ) (e : Effect) (x : Session) → IsNext s k m e x → (u : Writer) → x ≡ writer u → HasWriter s k u.key ⊎ ((k ≡ k) × IsNew s u.key)
 next_writer s k m e x (ends is) u at = absurd (none_writer u (sym is ∙ at))
-next_writer s k m e x (opens text key named idle alone newer is) u at =
+next_writer s k m e x (opens text key takes alone newer is) u at =
     inr (refl, subst (IsNew s) (ap (λ (x : Writer). x.key) (same_writer _ u (sym is ∙ at))) (alone, newer))
 next_writer s k m e x (writes v w runs grows is) u at = inl (v, runs, sym (grown_key s v e w grows) ∙ ap (λ (x : Writer). x.key) (same_writer w u (sym is ∙ at)))
 next_writer s k m e x (enters y r there is) u at = absurd (reader_writer r u (sym is ∙ at))
@@ -87,7 +88,7 @@ module _ (Gone : SnapshotKey → Type 0) (s : Store) (k m : ℕ) (e : Effect) (f
     snapshots = more k v runs (λ u at. none_writer u (sym (none_here s.sessions k) ∙ at)) refl;
   })
   changes t (shapes.less text key takes named free is) =
-      subst Leads (sym is) (record { writers = λ i u at. inl (u, at, refl); snapshots = less key (forgetting text key takes named) refl })
+      subst Leads (sym is) (record { writers = λ i u at. inl (u, at, refl); snapshots = less key (forgetting text key takes (idle_key_found s k text key named).1) refl })
 
 -- ---- an act
 

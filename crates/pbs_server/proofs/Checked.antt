@@ -7,8 +7,8 @@ use Rattle.port_traits.specs.declared.sink.Sink as sinks
 use Rattle.port_traits.specs.declared.source.Source as sources
 use Rattle.port_traits.specs.Readings.{Readings}
 use Rattle.command_line.specs.Reading.{texts}
-use Rattle.lane.specs.declared.port.LaneReport.{LaneReport}
-use Rattle.lane.specs.declared.port.Port.{Port}
+use Rattle.store_history.specs.declared.port.LaneReport.{LaneReport}
+use Rattle.store_history.specs.declared.port.Port.{Port}
 use Rattle.generator.specs.Summaries.{summary_text}
 use Rattle.replay.specs.declared.difference.Unequal.{Unequal}
 use Rattle.run_check.specs.declared.checking.Compared.{Compared}

@@ -6,7 +6,7 @@ use Rattle.std.specs.declared.alloc.Global.{Global}
 use Rattle.port_traits.specs.declared.sink.Sink as sinks
 use Rattle.port_traits.specs.declared.source.Source as sources
 use Rattle.port_traits.specs.Readings.{Readings}
-use Rattle.lane.specs.declared.port.Port.{Port}
+use Rattle.store_history.specs.declared.port.Port.{Port}
 use Rattle.pbs_server.specs.declared.served.Served.{Served}
 use Rattle.pbs_server.specs.declared.status.Status.TheVariants as statuses
 use Rattle.pbs_server.specs.Asking.{LeavesBy}

@@ -15,9 +15,9 @@ use Rattle.store_model.specs.Load.{load}
 use Rattle.store_model.specs.Weave.{told_by_input, woven}
 use Rattle.plain_snapshots.specs.Loading.{has_damaged}
 use Rattle.plain_store.specs.Frees.{frees}
-use Rattle.core_state.specs.Remotes.{faults_of}
+use Rattle.store_history.specs.RemoteDisk.{faults_of}
 use Rattle.command_line.specs.Reading.{texts}
-use Rattle.lane.specs.declared.port.Port.{Port}
+use Rattle.store_history.specs.declared.port.Port.{Port}
 use Rattle.replay.specs.Compare.{compare}
 use Rattle.replay.specs.Orders.{faultless_order}
 use Rattle.replay.specs.Reading.{IsAtEnd, IsTooLong}

@@ -10,14 +10,14 @@ use Rattle.port_traits.specs.declared.source.Source as sources
 use Rattle.port_traits.specs.Faults.{Rose}
 use Rattle.port_traits.specs.Readings.{Readings}
 use Rattle.store_model.specs.declared.ending.Ending.TheVariants as endings
-use Rattle.core_state.specs.Remotes.{faults_of}
+use Rattle.store_history.specs.RemoteDisk.{faults_of}
 use Rattle.command_line.specs.Reading.{IsCount, texts}
 use Rattle.command_line.proofs.Counted.{said_count}
 use Rattle.generator.specs.Sessions.{generated}
 use Rattle.generator.specs.Summaries.{summary_text}
 use Rattle.generator.proofs.SessionLemmas.{session_is_input}
-use Rattle.lane.specs.declared.port.LaneReport.{LaneReport}
-use Rattle.lane.specs.declared.port.Port.{Port}
+use Rattle.store_history.specs.declared.port.LaneReport.{LaneReport}
+use Rattle.store_history.specs.declared.port.Port.{Port}
 use Rattle.lane.specs.Entries.{has_kind}
 use Rattle.run_check.specs.Ports.{faults_at}
 use Rattle.pbs_server.specs.declared.served.Served.{Served}

@@ -8,10 +8,10 @@ use Rattle.store_model.specs.declared.ending.Ending.{Ending}
 use Rattle.store_model.specs.declared.ending.Ending.TheVariants as endings
 use Rattle.store_history.specs.declared.act.Event.{Event}
 use Rattle.store_history.specs.History.{own}
-use Rattle.lane.specs.declared.port.LaneReport.{LaneReport}
-use Rattle.lane.specs.declared.port.Port.{Port}
+use Rattle.store_history.specs.declared.port.LaneReport.{LaneReport}
+use Rattle.store_history.specs.declared.port.Port.{Port}
 use Rattle.lane.specs.Causes.{IsCaused, LaneHasCauses}
-use Rattle.lane_threads.specs.Served.{EachRan, RanAs, Run}
+use Rattle.lane.specs.Served.{EachRan, RanAs, Run}
 use Rattle.pbs_server.specs.declared.status.Status.{Status}
 use Rattle.pbs_server.specs.declared.status.Status.TheVariants as statuses
 use Rattle.pbs_server.specs.Causes.{HasNotFailed, ReachesNoCommand, SomeFailed, SomeReaches, SomeTooLong}

@@ -1,5 +1,5 @@
 -- How sessions of commands end, of which no source failed.
-use Rattle.std.proofs.Common.{◌≡◌, ◌<◌, ◌+◌, ◌^◌, ◌⊎◌, inl, inr, ℕ, suc, List, [], ◌∷◌, ◌++◌, map, length, Option, Some, None, IfSome, refl, ap, subst, ◌∙◌, arith, length-append, slice_index_or}
+use Rattle.std.proofs.Common.{◌≡◌, ◌<◌, ◌+◌, ◌^◌, ◌⊎◌, inl, inr, ℕ, false, suc, List, [], ◌∷◌, ◌++◌, map, length, Option, Some, None, IfSome, refl, ap, subst, ◌∙◌, arith, length-append, slice_index_or}
 use Rattle.std.specs.List.{All}
 use Rattle.std.proofs.lemmas.List.Elements.{All-nil, All-cons, All-head, All-tail}
 use Rattle.port_traits.specs.declared.sink.Sink as sinks
@@ -13,11 +13,12 @@ use Rattle.store_history.specs.declared.act.Event.{Event}
 use Rattle.store_history.specs.History.{own}
 use Rattle.store_history.specs.LaneRun.{LaneRan, Runs, begin, next_at}
 use Rattle.generator.specs.Laws.{IsCommands}
-use Rattle.lane.specs.declared.port.LaneReport.{LaneReport}
-use Rattle.lane.specs.declared.port.Port.{Port}
+use Rattle.store_history.proofs.Unheld.{unheld}
+use Rattle.store_history.specs.declared.port.LaneReport.{LaneReport}
+use Rattle.store_history.specs.declared.port.Port.{Port}
 use Rattle.lane.specs.Causes.{IsCaused}
 use Rattle.lane.specs.Ran.{EndsRead, IsReadOut, Took}
-use Rattle.lane_threads.specs.Served.{EachRan, RanAs, Run}
+use Rattle.lane.specs.Served.{EachRan, RanAs, Run}
 use Rattle.run_check.specs.Ports.{faults_at}
 use Rattle.pbs_server.specs.Completeness.{HoldsCommands}
 use Rattle.pbs_server.specs.Generating.{all_as_memory, in_memory}
@@ -46,9 +47,9 @@ fine_broken : (place : ℕ) (xs : List ℕ) (left : Option (List ℕ)) (input : 
 fine_broken place xs left input events told ran took read commands =
     let out : IsReadOut input read.before read.ends left = read.read in
     let front = took_front xs left input took in
-    let on = leads_back (endings.Broken place) read.before read.ends (begin input) out.last told out.leads refl
+    let on = leads_back false (endings.Broken place) read.before read.ends (begin input) out.last told out.leads refl
     (subst (λ es. Runs (endings.Broken place) (begin input) es told) read.split ran) in
-    let at = so_broken place out.last (next_at out.last) (ends_so (endings.Broken place) out.last read.ends told out.ended on) in
+    let at = so_broken place (unheld on.0 out.last) (next_at out.last) (ends_so on.0 (endings.Broken place) out.last read.ends told out.ended on.1) in
     never_broken input front.0 read.before out.last at.0 (subst IsCommands front.2 commands) out.leads at.1
     (λ part. subst (λ (o : Option (List ℕ)). IfSome o (λ ys. ys ≡ [])) front.1 (out.nothing part))
 

@@ -13,9 +13,9 @@ use Rattle.store_model.specs.Clash.{NoClash, chunk_pieces}
 use Rattle.store_model.specs.Stands.{StandsFor as Stands}
 use Rattle.store_history.specs.History.{sent}
 use Rattle.core_opening.specs.declared.opening.OpenFault.{OpenFault}
-use Rattle.opening_files.specs.Leaving.{MayClean}
-use Rattle.lane.specs.declared.port.LaneReport.{LaneReport}
-use Rattle.lane.specs.declared.port.Port.{Port}
+use Rattle.snapshot_files.specs.Leaving.{MayClean}
+use Rattle.store_history.specs.declared.port.LaneReport.{LaneReport}
+use Rattle.store_history.specs.declared.port.Port.{Port}
 use Rattle.command_line.specs.Reading.{IsCount, texts}
 use Rattle.generator.specs.Summaries.{summary_text}
 use Rattle.pbs_server.specs.declared.ended.Ended.{Ended}

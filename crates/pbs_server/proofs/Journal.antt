@@ -8,9 +8,9 @@ use Rattle.port_traits.specs.declared.source.Source as sources
 use Rattle.port_traits.specs.Bytes.{Writes}
 use Rattle.port_traits.specs.Faults.{HasCause as Caused}
 use Rattle.port_traits.specs.Readings.{Readings}
-use Rattle.lane.specs.declared.port.LaneReport.{LaneReport}
-use Rattle.lane.specs.declared.port.Port.{Port}
-use Rattle.core_state.specs.Remotes.{faults_of}
+use Rattle.store_history.specs.declared.port.LaneReport.{LaneReport}
+use Rattle.store_history.specs.declared.port.Port.{Port}
+use Rattle.store_history.specs.RemoteDisk.{faults_of}
 use Rattle.pbs_server.specs.declared.served.Served.{Served}
 use Rattle.pbs_server.specs.declared.status.Status.{Status}
 use Rattle.pbs_server.specs.declared.status.Status.TheVariants as statuses
@@ -92,6 +92,9 @@ module _ {D E : Type 0} (d : Ghosts D) (e : Ghosts E) (disk : D) (remote : Optio
           order = h.order;
           save = h.save;
           faults = h.faults;
+          rests = h.rests;
+          kept = h.kept;
+          saved = h.saved;
           not_opened = h.not_opened;
         }
 

@@ -16,11 +16,11 @@ use Rattle.store_history.specs.Remote.{IsRemote}
 use Rattle.store_history.specs.Woven.{AreLanes, IsServed, ending_at}
 use Rattle.seat_history.specs.Lanes.{LastsAreWants}
 use Rattle.seat_history.proofs.Wants.{memory_is_entered}
-use Rattle.lane.specs.declared.port.LaneReport.{LaneReport}
-use Rattle.lane.specs.declared.port.Port.{Port}
+use Rattle.store_history.specs.declared.port.LaneReport.{LaneReport}
+use Rattle.store_history.specs.declared.port.Port.{Port}
 use Rattle.lane.specs.Entries.{has_kind}
-use Rattle.lane_threads.specs.Served.{EachRan, RanAs, Run}
-use Rattle.lane_threads.proofs.Halves.{each_counts}
+use Rattle.lane.specs.Served.{EachRan, RanAs, Run}
+use Rattle.lane.proofs.Halves.{each_counts}
 use Rattle.pbs_server.specs.declared.status.Status.TheVariants as statuses
 use Rattle.pbs_server.specs.Headline.{inputs_of, told_by}
 use Rattle.pbs_server.specs.Statuses.{endings_of, some_tells, tells}

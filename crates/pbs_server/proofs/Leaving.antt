@@ -5,14 +5,15 @@ use Rattle.std.proofs.Common.{◌≡◌, ◌≤◌, ◌↔◌, ◌⊎◌, inl, i
 use Rattle.port_traits.specs.declared.sink.Sink as sinks
 use Rattle.port_traits.specs.declared.source.Source as sources
 use Rattle.port_traits.specs.Readings.{Readings}
-use Rattle.lane.specs.declared.port.LaneReport.{LaneReport}
-use Rattle.lane.specs.declared.port.Port.{Port}
+use Rattle.store_history.specs.declared.port.LaneReport.{LaneReport}
+use Rattle.store_history.specs.declared.port.Port.{Port}
 use Rattle.store_model.specs.Stands.{StandsFor as Stands}
-use Rattle.opening_files.specs.Leaving.{Cleans, MayClean}
+use Rattle.snapshot_files.specs.Leaving.{Cleans, MayClean}
 use Rattle.core_opening.specs.declared.opening.NotOpened.{NotOpened}
 use Rattle.core_opening.specs.declared.opening.OpenFault.{OpenFault}
 use Rattle.core_opening.specs.declared.opening.OpenFault.TheVariants as openings
-use Rattle.core_opening.specs.Opening.{IsGivenBack, RecoversOpened, StopsOpening, StopsSynced, TellsDisk}
+use Rattle.core_opening.specs.Opening.{IsGivenBack, RecoversOpened, TellsDisk}
+use Rattle.core_opening.specs.Stops.{StopsOpening, StopsSynced}
 use Rattle.core_state.specs.declared.state.Core.{Core}
 use Rattle.pbs_server.specs.declared.served.Served.{Served}
 use Rattle.pbs_server.specs.declared.status.Status.TheVariants as statuses

@@ -4,7 +4,7 @@ use Rattle.std.specs.Prelude.{slice_set}
 use Rattle.std.proofs.Math.Seq.{set-append_seam}
 use Rattle.std.proofs.lemmas.List.{length-map, map-append, take_more}
 use Rattle.store_model.specs.declared.ending.Ending.{Ending}
-use Rattle.lane.specs.declared.port.LaneReport.{LaneReport}
+use Rattle.store_history.specs.declared.port.LaneReport.{LaneReport}
 use Rattle.pbs_server.specs.Generating.{all_as_memory, as_memory, in_memory}
 
 at_seam : (front : List LaneReport) (y : LaneReport) (rest : List LaneReport) (d : LaneReport) → get_or (front ++ y ∷ rest) (length front) d ≡ y

@@ -19,7 +19,7 @@ use Rattle.sha2.specs.Sha256.{sha256}
 use Rattle.store_model.specs.Clash.{NoClash}
 use Rattle.store_model.specs.Stands.{FitsContent, HoldsPieces, IsSnapshot, StandsFor as Stands, pieces_in}
 use Rattle.store_history.specs.Remote.{IsList, IsRemote}
-use Rattle.core_state.specs.Remotes.{ReadNoRemote, ShowsRead, ShowsRemote, failed_reads}
+use Rattle.store_history.specs.RemoteDisk.{ReadNoRemote, ShowsRead, ShowsRemote, failed_reads}
 use Rattle.store_history.specs.declared.act.Event.{Event}
 use Rattle.lane.specs.Entries.{has_kind}
 use Rattle.pbs_server.specs.Headline.{IsBeside}

@@ -12,8 +12,7 @@ use Rattle.store_history.specs.History.{entries, own, lane, moment, kind}
 use Rattle.store_history.specs.LaneRun.{LaneRan}
 use Rattle.store_history.specs.Woven.{AreLanes, FitsRules, ending_at}
 use Rattle.store_history.proofs.Rules.{KindIs, KindsAre, rules_by}
-use Rattle.core_state.specs.Answers.{fault_after}
-use Rattle.core_state.specs.Records.{FitsKind, AreKept}
+use Rattle.store_history.specs.Answered.{fault_after, FitsKind, AreKept}
 
 below_eight : (c : Class) (fault : Option ℕ) (n : ℕ) → FitsKind c fault n → nat_lt n 8 ≡ true
 below_eight stepping fault n (inl p) = ap (λ x. nat_lt x 8) p.0

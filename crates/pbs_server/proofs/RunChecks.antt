@@ -28,17 +28,17 @@ use Rattle.store_history.specs.LaneRun.{LaneRan, text}
 use Rattle.store_history.specs.Woven.{AreLanes, IsServed}
 use Rattle.order_file.proofs.Whole.{read_again}
 use Rattle.snapshot_files.proofs.Loading as loading
-use Rattle.core_state.specs.Remotes.{ShowsRemote}
-use Rattle.core_opening.specs.Opening.{opening_of}
+use Rattle.store_history.specs.RemoteDisk.{ShowsRemote}
+use Rattle.store_history.specs.Opened.{opening_of}
 use Rattle.plain_store.specs.Frees.{frees}
 use Rattle.generator.specs.Sessions.{generated}
 use Rattle.generator.specs.Summaries.{summary_text}
-use Rattle.lane.specs.declared.port.LaneReport.{LaneReport}
-use Rattle.lane.specs.declared.port.Port.{Port}
-use Rattle.lane.specs.Acting.{gave_all}
+use Rattle.store_history.specs.declared.port.LaneReport.{LaneReport}
+use Rattle.store_history.specs.declared.port.Port.{Port}
+use Rattle.lane.specs.AtOnce.{gave_all}
 use Rattle.lane.specs.Entries.{has_kind}
 use Rattle.lane.specs.Ran.{EndsRead, Took}
-use Rattle.lane_threads.specs.Served.{EachRan, RanAs, Run}
+use Rattle.lane.specs.Served.{EachRan, RanAs, Run}
 use Rattle.replay.specs.Compare.{compare}
 use Rattle.replay.specs.Orders.{faultless_order, has_faults, unless_faults}
 use Rattle.replay_laws.proofs.Equal.{runs_replay_equal}

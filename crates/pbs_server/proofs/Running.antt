@@ -1,7 +1,7 @@
 -- Sessions on a core that came of an opened one: the history that it came to, and what was entered.
 use Rattle.disk_trait.specs.declared.disk.Disk.{Ghosts}
 use Rattle.disk_trait.specs.Disk.{Rose}
-use Rattle.std.proofs.Common.{◌≡◌, ◌≤◌, ◌<◌, ◌+◌, ℕ, true, List, [], ◌∷◌, length, Option, None, IsSome, refl, sym, ap, subst, ◌∙◌, arith}
+use Rattle.std.proofs.Common.{◌≡◌, ◌≤◌, ◌<◌, ◌+◌, ℕ, true, List, [], ◌∷◌, length, Option, None, IsSome, refl, sym, ap, subst, ◌∙◌, arith, ◌↔◌}
 use Rattle.std.specs.List.{All}
 use Rattle.std.proofs.lemmas.List.{length-map}
 use Rattle.std.proofs.lemmas.List.Elements.{All-nil, All-cons}
@@ -13,18 +13,18 @@ use Rattle.store_history.specs.declared.act.Event.{Event}
 use Rattle.store_history.specs.History.{Opening, entry, entries, kind, moment}
 use Rattle.store_history.specs.Woven.{AreLanes}
 use Rattle.core_state.specs.declared.state.Core.{Core}
-use Rattle.core_state.specs.Answers.{fault_after}
+use Rattle.store_history.specs.Answered.{fault_after, AreKept}
 use Rattle.core_state.specs.History.{History, began}
-use Rattle.core_state.specs.Records.{AreKept, Reaches, Records}
-use Rattle.core_state.specs.Remotes.{failed_reads, faults_of}
+use Rattle.core_state.specs.Records.{Reaches, Records}
+use Rattle.store_history.specs.RemoteDisk.{failed_reads, faults_of}
 use Rattle.core_opening.specs.Opening.{RecordsOpened}
 use Rattle.seat_history.specs.Lanes.{LastsAreWants}
-use Rattle.shared_store.specs.Comes.{IsFresh, with_events}
-use Rattle.lane.specs.declared.port.LaneReport.{LaneReport}
-use Rattle.lane.specs.declared.port.Port.{Port}
+use Rattle.shared_store.specs.Comes.{IsFresh, with_events, last_calls}
+use Rattle.store_history.specs.declared.port.LaneReport.{LaneReport}
+use Rattle.store_history.specs.declared.port.Port.{Port}
 use Rattle.lane.specs.Entries.{has_kind}
 use Rattle.lane.proofs.Caused.{rose_later}
-use Rattle.lane_threads.specs.Served.{RanTogether}
+use Rattle.lane.specs.Together.{RanTogether}
 use Rattle.pbs_server.specs.declared.status.Status.TheVariants as statuses
 use Rattle.pbs_server.specs.Causes.{IsOrder}
 use Rattle.pbs_server.specs.Statuses.{endings_of, some_tells}
@@ -68,6 +68,13 @@ module _ {D E C S K : Type 0} (d : Ghosts D) (e : Ghosts E) (clock : clocks.Ghos
 
   no_entries : (first.journal).entries.items ≡ []
   no_entries = begun.entries ∙ ap entries none
+
+  -- the disk is as honest, and was called as often as the last of the run's events tells
+  pub kept : d.honest (first.parts).disk ↔ d.honest (core.parts).disk
+  kept = subst (λ (c : Core D E C). d.honest (c.parts).disk ↔ d.honest (core.parts).disk) (x.comes).is (x.comes).kept
+
+  pub rests : d.calls (core.parts).disk ≡ last_calls (d.calls (first.parts).disk) x.events
+  rests = (x.comes).at_rest ∙ ap (λ (c : Core D E C). last_calls (d.calls (c.parts).disk) x.events) (x.comes).is
 
   -- the disk's count of faults never falls, and an entry of kind 5 comes only where it rose
   pub count : d.faults (first.parts).disk ≤ d.faults (core.parts).disk

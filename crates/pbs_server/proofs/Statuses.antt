@@ -5,7 +5,7 @@ use Rattle.disk_trait.specs.declared.disk.DiskError.{DiskError}
 use Rattle.disk_trait.specs.declared.disk.DiskError.TheVariants as disks
 use Rattle.store_types.specs.declared.order.Entry.{Entry}
 use Rattle.store_model.specs.declared.ending.Ending.{Ending}
-use Rattle.lane.specs.declared.port.LaneReport.{LaneReport}
+use Rattle.store_history.specs.declared.port.LaneReport.{LaneReport}
 use Rattle.lane.specs.Entries.{has_kind}
 use Rattle.pbs_server.specs.declared.status.Status.{Status}
 use Rattle.pbs_server.specs.declared.status.Status.TheVariants as statuses

@@ -5,7 +5,7 @@ use Rattle.std.specs.Prelude.{IsSome, String}
 use Rattle.std.specs.declared.alloc.Global.{Global}
 use Rattle.port_traits.specs.declared.sink.Sink as sinks
 use Rattle.core_opening.specs.declared.opening.OpenFault.{OpenFault}
-use Rattle.opening_files.specs.Leaving.{MayClean}
+use Rattle.snapshot_files.specs.Leaving.{MayClean}
 use Rattle.command_line.specs.Reading.{texts}
 use Rattle.pbs_server.specs.declared.served.Served.{Served}
 use Rattle.pbs_server.specs.declared.status.Status.{Status}

@@ -17,6 +17,7 @@ use Rattle.store_history.specs.History.{entries, kind, reply}
 use Rattle.store_history.specs.LaneRun.{Task, steps, pulls, sweeps, Ahead, ahead, pull, Position, begin, ahead_by, next_at, end_faulted, last_words, heard_as, position_after, Does, EndsSo, IsShut, Runs, LaneRan}
 use Rattle.store_history.specs.SoFar.{grown}
 use Rattle.store_history.proofs.Growing.{front_more, leads_grown, leads_runs}
+use Rattle.store_history.proofs.Unheld.{unheld}
 use Rattle.lane.specs.AtOnce.{AreEnds}
 use Rattle.lane.specs.Entries.{has_kind}
 use Rattle.lane.specs.Ran.{EndsRead, IsReadOut}
@@ -161,11 +162,11 @@ next_stays more p nothing_is n at shut is = absurd at
 
 -- ---- the lane's end
 
-words_grown : (more : List ℕ) (p : Position) (n : Ahead) → AtEnd n → (last_words Clean (grown more p) n).told ≡ (last_words Clean p n).told
+words_grown : (more : List ℕ) (b : Bool) (p : Position) (n : Ahead) → AtEnd n → (last_words Clean (grown more p) n).told ≡ (last_words Clean (unheld b p) n).told
 unfolding last_words
-words_grown more p (ahead bye) at = refl
-words_grown more p (ahead end) at = refl
-words_grown more p n at = absurd at
+words_grown more b p (ahead bye) at = refl
+words_grown more b p (ahead end) at = refl
+words_grown more b p n at = absurd at
 
 -- what a lane told that is over
 over_told : (p : Position) (vs : List Event) (told : List Reply) → p.is_over ≡ true → Runs Clean p vs told → (vs ≡ []) × (p.told ≡ told)
@@ -179,24 +180,25 @@ end_is p v is sound =
     ap (λ c. heard_as c Clean p v.answer) is
     ∙ ap (λ b. if b then end_faulted Clean p (reply v) else record (last_words Clean p (next_at p)) { is_over = true }) sound
 
-ends_grown : (more : List ℕ) (p : Position) (ends : List Event) (told : List Reply) → AreEnds ends → has_kind 5 (entries ends) ≡ false → (cut p.left ≡ short → more ≡ []) → RunsOn Clean p ends told
-    → Runs Clean (grown more p) ends told
-ends_grown more p [] told are sound nothing_is r = absurd (clash (sym (r.runs).0 ∙ r.on))
-ends_grown more p (v ∷ vs) told are sound nothing_is r =
+ends_grown : (more : List ℕ) (b : Bool) (p : Position) (ends : List Event) (told : List Reply) → AreEnds ends → has_kind 5 (entries ends) ≡ false → (cut p.left ≡ short → more ≡ [])
+    → RunsOn Clean (unheld b p) ends told → Runs Clean (grown more p) ends told
+unfolding next_at
+ends_grown more b p [] told are sound nothing_is r = absurd (clash (sym (r.runs).0 ∙ r.on))
+ends_grown more b p (v ∷ vs) told are sound nothing_is r =
     let class : class_of v.act ≡ ending = ap class_of are.0 in
     let faults = neither (kind v == FAULT_KIND) (has_kind 5 (entries vs)) sound in
-    let does : Does ending Clean p v vs = subst (λ c. Does c Clean p v vs) class (r.runs).1 in
-    let at : AtEnd (next_at p) = end_so p (next_at p) does.0 in
+    let does : Does ending Clean (unheld b p) v vs = subst (λ c. Does c Clean (unheld b p) v vs) class (r.runs).1 in
+    let at : AtEnd (next_at p) = end_so (unheld b p) (next_at p) does.0 in
     let same : next_at (grown more p) ≡ next_at p = next_stays more p nothing_is (next_at p) at does.2 refl in
-    let over = over_told (record (last_words Clean p (next_at p)) { is_over = true }) vs told refl (subst (λ (q : Position). Runs Clean q vs told) (end_is p v class faults.0) (r.runs).2) in (
+    let over = over_told (record (last_words Clean (unheld b p) (next_at p)) { is_over = true }) vs told refl (subst (λ (q : Position). Runs Clean q vs told) (end_is (unheld b p) v class faults.0) (r.runs).2) in (
       r.on,
       subst (λ c. Does c Clean (grown more p) v vs) (sym class) (subst (λ n. EndsSo Clean (grown more p) n) (sym same) (spent_same (next_at p) does.0), does.1, does.2),
       subst (λ (q : Position). Runs Clean q vs told) (sym (end_is (grown more p) v class faults.0))
           (subst (λ xs. Runs Clean (record (last_words Clean (grown more p) (next_at (grown more p))) { is_over = true }) xs told) (sym over.0)
-          (refl, ap (λ n. (last_words Clean (grown more p) n).told) same ∙ words_grown more p (next_at p) at ∙ over.1)),
+          (refl, ap (λ n. (last_words Clean (grown more p) n).told) same ∙ words_grown more b p (next_at p) at ∙ over.1)),
     )
   where
-    spent_same : (n : Ahead) → EndsSo Clean p n → EndsSo Clean (grown more p) n
+    spent_same : (n : Ahead) → EndsSo Clean (unheld b p) n → EndsSo Clean (grown more p) n
     spent_same (ahead bye) so = so
     spent_same (ahead end) so = so
     spent_same (ahead (job_step j left)) so = absurd so
@@ -218,8 +220,8 @@ pub ran_whole : (input more : List ℕ) (events : List Event) (told : List Reply
     → LaneRan (input ++ more) Clean events told
 ran_whole input more events told sound ran read =
     let out : IsReadOut input read.before read.ends (Some more) = read.read in
-    let on = leads_back Clean read.before read.ends (begin input) out.last told out.leads refl (subst (λ es. Runs Clean (begin input) es told) read.split ran) in
-    let ends = ends_grown more out.last read.ends told out.ended (later_sound read.before read.ends (subst (λ es. has_kind 5 (entries es) ≡ false) read.split sound)) out.nothing on in
+    let on = leads_back false Clean read.before read.ends (begin input) out.last told out.leads refl (subst (λ es. Runs Clean (begin input) es told) read.split ran) in
+    let ends = ends_grown more on.0 out.last read.ends told out.ended (later_sound read.before read.ends (subst (λ es. has_kind 5 (entries es) ≡ false) read.split sound)) out.nothing on.1 in
     subst (λ es. Runs Clean (begin (input ++ more)) es told) (sym read.split)
     (subst (λ (p : Position). Runs Clean p (read.before ++ read.ends) told) (begin_grown input more)
     (leads_runs Clean read.before read.ends (grown more (begin input)) (grown more out.last) told refl (leads_grown more read.before (begin input) out.last out.leads) ends))

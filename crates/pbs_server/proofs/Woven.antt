@@ -7,7 +7,7 @@ use Rattle.port_traits.specs.declared.sink.Sink as sinks
 use Rattle.port_traits.specs.declared.source.Source as sources
 use Rattle.port_traits.specs.Readings.{Readings}
 use Rattle.disk_trait.specs.Files.{Files}
-use Rattle.std.specs.List.{All}
+use Rattle.std.specs.List.{All, last_or}
 use Rattle.store_types.specs.Names.{IsKey}
 use Rattle.store_types.specs.declared.order.Entry.{Entry}
 use Rattle.store_types.specs.declared.order.TheConstants.{FAULT_KIND}
@@ -19,6 +19,7 @@ use Rattle.store_model.specs.Stands.{StandsFor as Stands}
 use Rattle.store_model.specs.AdminSteps.{list_row}
 use Rattle.store_model.specs.Store.{Store}
 use Rattle.store_model.specs.Weave.{Woven, weave}
+use Rattle.core_state.specs.Saving.{text_of_book}
 use Rattle.store_history.specs.declared.act.Event.{Event}
 use Rattle.store_history.specs.History.{Opening, World, opened, after, after_all, moved, entries, sent, kind, kind_of, EntryKind, step_kind, pass_kind, short_kind, start_kind, close_kind, fault_kind, end_kind, remote_kind, no_kind}
 use Rattle.store_history.specs.LaneRun.{plain_text}
@@ -34,21 +35,22 @@ use Rattle.core_state.specs.declared.kept.Listed.{Listed}
 use Rattle.core_state.specs.declared.state.Core.{Core}
 use Rattle.core_state.specs.History.{History, StandsFor, began, world}
 use Rattle.core_state.specs.KeepsTouches.{KeepsTouches, touches_of_history}
-use Rattle.core_state.specs.Chunks.{HoldsOnly}
-use Rattle.core_state.specs.Foreign.{IsForeign}
+use Rattle.store_history.specs.ChunkFiles.{HoldsOnly}
+use Rattle.store_history.specs.Foreign.{IsForeign}
 use Rattle.core_state.specs.Records.{Records, Reaches, Starts, opened_with}
-use Rattle.core_state.specs.Remotes.{ReadNoRemote}
+use Rattle.store_history.specs.RemoteDisk.{ReadNoRemote}
 use Rattle.core_state.specs.Recovers.{Recovers, TellsMoments}
-use Rattle.opening_files.specs.Leaving.{IsFileOf, IsLeaving, Cleans}
-use Rattle.core_opening.specs.Opening.{HasBook, TouchesOpened, RecoversOpened, StandsOpened, opening_of}
-use Rattle.shared_store.specs.Comes.{with_events}
-use Rattle.lane.specs.declared.port.LaneReport.{LaneReport}
-use Rattle.lane.specs.declared.port.Port.{Port}
+use Rattle.snapshot_files.specs.Leaving.{IsFileOf, IsLeaving, Cleans}
+use Rattle.core_opening.specs.Opening.{HasBook, TouchesOpened, RecoversOpened, StandsOpened}
+use Rattle.store_history.specs.Opened.{opening_of}
+use Rattle.shared_store.specs.Comes.{with_events, last_calls}
+use Rattle.store_history.specs.declared.port.LaneReport.{LaneReport}
+use Rattle.store_history.specs.declared.port.Port.{Port}
 use Rattle.lane.specs.Entries.{has_kind}
-use Rattle.lane_threads.specs.Served.{EachRan, RanAs, Run}
+use Rattle.lane.specs.Served.{EachRan, RanAs, Run}
 use Rattle.pbs_server.specs.Causes.{NoDiskFault}
 use Rattle.pbs_server.specs.Ended.{rows_of}
-use Rattle.pbs_server.specs.Headline.{HasTold, IsBeside, IsPlain, StopsLeave, inputs_of, told_by}
+use Rattle.pbs_server.specs.Headline.{HasBookOf, HasTold, IsBeside, IsPlain, SavesSince, StopsLeave, inputs_of, told_by}
 use Rattle.pbs_server.specs.Saving.{EndsSaved, saving_of}
 use Rattle.pbs_server.specs.Statuses.{endings_of}
 use Rattle.pbs_server.proofs.Acknowledged.{found_after}
@@ -57,7 +59,7 @@ use Rattle.pbs_server.proofs.Remotes.{beside_first, beside_list, beside_there, l
 use Rattle.pbs_server.proofs.Rows.{rows_shown}
 use Rattle.pbs_server.proofs.Rules.{kept_rules}
 use Rattle.pbs_server.proofs.Tests.{neither}
-use Rattle.pbs_server.proofs.BookSaved.{five_fails, halted_by, saving_failed}
+use Rattle.pbs_server.proofs.BookSaved.{book_of, five_fails, no_five, halted_by, saving_failed}
 
 -- only a fault's entry leaves a fault
 moved_fault : (R : Option (List Snapshot)) (w : World) (k m : ℕ) (a : Rattle.store_history.specs.declared.act.Act.Act) (x : EntryKind) → (x ≡ fault_kind → ⊥) → (moved R w k m a x).fault ≡ w.fault
@@ -160,12 +162,19 @@ same_store o R since now is_honest runs events order not_saved reports before fi
     ap (λ (w : Woven). w.store) (woven_is (weave (load before) R order (inputs_of runs) (endings_of reports)) (record { store = s; replies = map plain_text (told_by runs) })
     (record { store = p.store; replies = map plain_text (told_by runs) }) is p.woven)
 
+-- the last of the numbers beside the entries
+last_called : (calls : ℕ) (es : List Event) → last_or (Some calls) (map (λ e. e.calls) es) ≡ Some (last_calls calls es)
+last_called calls [] = refl
+last_called calls (v ∷ vs) = last_called v.calls vs
+
 -- what the sessions did on any disk, and on an honest one, which was opened at a moment; and the snapshots that the core then keeps
 pub record HasBoth {D E S K : Type 0} (d : Ghosts D) (e : Ghosts E) (source : sources.Ghosts S) (sink : sinks.Ghosts K) (clock : Option Readings) (remote remote' : Option E) (start : ℕ) (disk opened last : D)
     (old new : List (Port S K)) (order : List Entry) (calls : List ℕ) (not_saved : Option DiskError) (reports : List LaneReport) (listed : List Listed) : Type 0 where
   pub told : HasTold clock source sink old new order calls reports
   pub since_is : d.honest disk → told.since ≡ (saved_book (d.content opened)).moment
   pub halted : has_kind 5 order ≡ true → not_saved ≡ None
+  pub rests : SavesSince d (last_or (Some (d.calls opened)) calls) last
+  pub saved : d.honest disk → has_kind 5 order ≡ false → not_saved ≡ None → HasBookOf (d.content last) (moment_after told.since told.events)
   pub plain : (L : List Snapshot) (R : Option (List Snapshot)) → IsBeside e remote R told.events → d.honest disk → Stands (d.content disk) L → NoClash (chunk_pieces (d.content disk) ++ sent told.events)
       → IsPlain (opening_of d disk opened L) R told.since (d.calls last) (d.honest last) told.runs told.events order not_saved reports (d.content disk) (d.content last)
   pub stops : (L : List Snapshot) (R : Option (List Snapshot)) → IsBeside e remote R told.events → d.honest disk → Stands (d.content disk) L → NoClash (chunk_pieces (d.content disk) ++ sent told.events)
@@ -182,10 +191,10 @@ pub has_both : {D E C S K : Type 0} (d : Ghosts D) (e : Ghosts E) (source : sour
     → (d.honest disk → Cleans (d.content disk) (d.content (first.parts).disk))
     → Reaches d e readings first (began (opening_at d disk first []) None (readings clock)) core (with_events (began (opening_at d disk first []) None (readings clock)) events)
     → AreLanes (length old) events → EachRan (RanAs source sink) 0 old new reports runs events
-    → EndsSaved d core saved not_saved
+    → EndsSaved d core saved not_saved → (d.honest disk → d.honest (core.parts).disk) → d.calls (core.parts).disk ≡ last_calls (d.calls (first.parts).disk) events
     → order ≡ (saved.journal).entries.items → calls ≡ (saved.journal).calls.items → last ≡ (saved.parts).disk
     → HasBoth d e source sink (readings clock) remote core.remote (recovers.opens).start disk (first.parts).disk last old new order calls not_saved reports (saved.parts).catalogue.listed
-has_both d e source sink readings clock disk remote first core saved old new order calls not_saved reports runs events last moments handed opens touches recovers last_is booked cleaned reaches lanes each ends order_as calls_as disk_as = record {
+has_both d e source sink readings clock disk remote first core saved old new order calls not_saved reports runs events last moments handed opens touches recovers last_is booked cleaned reaches lanes each ends kept at_rest order_as calls_as disk_as = record {
   told = record {
     runs = runs;
     events = events;
@@ -203,6 +212,15 @@ has_both d e source sink readings clock disk remote first core saved old new ord
       let failed : IsSome core.fault = subst (λ (o : Option ℕ). IsSome o) (sym r.fault) (five_fails 0 None events (sym (ap (has_kind 5) order_is) ∙ five)) in
       let both : (saved ≡ core) × (not_saved ≡ None) = halted_by core.fault failed ends.halted in
       both.1;
+  rests = subst (SavesSince d (last_or (Some (d.calls (first.parts).disk)) calls)) (sym disk_as) (record {
+    rested = (core.parts).disk;
+    calls_are = ap (last_or (Some (d.calls (first.parts).disk))) (calls_as ∙ ap (λ x. (x.journal).calls.items) ends.rest ∙ r.calls) ∙ last_called (d.calls (first.parts).disk) events ∙ ap (λ n. Some n) (sym at_rest);
+    later = ends.later;
+    text = text_of_book core;
+    leaves = ends.crash;
+  });
+  saved = λ honest five none. subst (λ x. HasBookOf (d.content x) (moment_after first.last events)) (sym disk_as)
+      (book_of d core saved not_saved ends (r.fault ∙ no_five 0 events (sym (ap (has_kind 5) order_is) ∙ five)) none (kept honest) (moment_after first.last events) r.last);
   plain = λ L R beside honest stands clear.
       let there = ap is_some handed ∙ beside_there e remote R events beside in
       let at = last_at L R there honest stands in

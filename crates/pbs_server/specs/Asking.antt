@@ -6,7 +6,7 @@ use Rattle.port_traits.specs.declared.sink.Sink as sinks
 use Rattle.port_traits.specs.declared.source.Source as sources
 use Rattle.port_traits.specs.Readings.{Readings}
 use Rattle.command_line.specs.Reading.{texts}
-use Rattle.lane.specs.declared.port.Port.{Port}
+use Rattle.store_history.specs.declared.port.Port.{Port}
 use Rattle.pbs_server.specs.declared.served.Served.{Served}
 use Rattle.pbs_server.specs.Checking.{HasChecked}
 use Rattle.pbs_server.specs.Generating.{HasGenerated}

@@ -15,12 +15,12 @@ use Rattle.store_history.specs.declared.act.Event.{Event}
 use Rattle.store_history.specs.History.{own}
 use Rattle.store_history.specs.LaneRun.{ahead, Position, begin, next_at}
 use Rattle.store_history.specs.SoFar.{Leads}
-use Rattle.core_state.specs.Remotes.{failed_reads}
-use Rattle.lane.specs.declared.port.LaneReport.{LaneReport}
-use Rattle.lane.specs.declared.port.Port.{Port}
+use Rattle.store_history.specs.RemoteDisk.{failed_reads}
+use Rattle.store_history.specs.declared.port.LaneReport.{LaneReport}
+use Rattle.store_history.specs.declared.port.Port.{Port}
 use Rattle.lane.specs.Entries.{has_kind}
 use Rattle.lane.specs.AtOnce.{AreEnds}
-use Rattle.lane_threads.specs.Served.{Run}
+use Rattle.lane.specs.Served.{Run}
 use Rattle.pbs_server.specs.declared.status.Status.{Status}
 use Rattle.pbs_server.specs.declared.status.Status.TheVariants as statuses
 

@@ -4,7 +4,7 @@ use Rattle.disk_trait.specs.declared.disk.Disk.{Ghosts}
 use Rattle.std.specs.Prelude.{◌≡◌, Bool, true, false, List, [], Option, None, is_some, Result, Ok, Err}
 use Rattle.port_traits.specs.declared.sink.Sink as sinks
 use Rattle.port_traits.specs.declared.source.Source as sources
-use Rattle.lane.specs.declared.port.Port.{Port}
+use Rattle.store_history.specs.declared.port.Port.{Port}
 use Rattle.replay.specs.declared.difference.Unequal.{Unequal}
 use Rattle.replay.specs.Compare.{line}
 use Rattle.run_check.specs.declared.checking.Compared.{Compared}

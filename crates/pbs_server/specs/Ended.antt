@@ -12,7 +12,7 @@ use Rattle.store_model.specs.Stands.{StandsFor}
 use Rattle.store_history.specs.History.{sent}
 use Rattle.core_state.specs.declared.kept.Listed.{Listed}
 use Rattle.core_admin.specs.Listings.{row_of}
-use Rattle.lane.specs.declared.port.Port.{Port}
+use Rattle.store_history.specs.declared.port.Port.{Port}
 use Rattle.pbs_server.specs.declared.ended.Ended.{Ended}
 use Rattle.pbs_server.specs.declared.served.Served.{Served}
 use Rattle.pbs_server.specs.Headline.{AsksNone, HasNotServed, HasServed, IsBeside}

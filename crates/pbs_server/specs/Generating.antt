@@ -16,8 +16,8 @@ use Rattle.store_model.specs.Stands.{StandsFor}
 use Rattle.store_history.specs.History.{sent}
 use Rattle.generator.specs.Sessions.{generated}
 use Rattle.generator.specs.Summaries.{summary_text}
-use Rattle.lane.specs.declared.port.LaneReport.{LaneReport}
-use Rattle.lane.specs.declared.port.Port.{Port}
+use Rattle.store_history.specs.declared.port.LaneReport.{LaneReport}
+use Rattle.store_history.specs.declared.port.Port.{Port}
 use Rattle.pbs_server.specs.declared.ended.Ended.{Ended}
 use Rattle.pbs_server.specs.declared.served.Served.{Served}
 use Rattle.pbs_server.specs.declared.status.Status.{Status}

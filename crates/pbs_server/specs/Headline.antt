@@ -2,7 +2,7 @@
 use Rattle.disk_trait.specs.declared.disk.Disk.{Ghosts}
 use Rattle.disk_trait.specs.declared.disk.DiskError.{DiskError}
 use Rattle.disk_trait.specs.Disk.{Serves}
-use Rattle.std.specs.Prelude.{◌≡◌, ◌≢◌, ◌≤◌, ◌⊎◌, ℕ, false, List, [], ◌∷◌, ◌++◌, map, length, Option, Some, None, is_some, IfSome, IsTrue, Ok}
+use Rattle.std.specs.Prelude.{◌≡◌, ◌≢◌, ◌≤◌, ◌⊎◌, ℕ, false, List, [], ◌∷◌, ◌++◌, map, length, Option, Some, None, is_some, IfSome, IsTrue, Ok, ◌↔◌}
 use Rattle.std.specs.FinMap.{get}
 use Rattle.port_traits.specs.declared.sink.Sink as sinks
 use Rattle.port_traits.specs.declared.source.Source as sources
@@ -17,26 +17,31 @@ use Rattle.store_model.specs.Load.{load}
 use Rattle.store_model.specs.Store.{Store}
 use Rattle.store_model.specs.Stands.{StandsFor}
 use Rattle.store_model.specs.Weave.{weave}
+use Rattle.disk_trait.specs.Effects.{LeavesBy}
+use Rattle.file_install.specs.Install.{Installs}
+use Rattle.store_files.specs.Book.{Book, book_text}
+use Rattle.std.specs.List.{last_or}
 use Rattle.store_history.specs.declared.act.Event.{Event}
 use Rattle.store_history.specs.History.{Opening, opened, after_all, entries, sent}
 use Rattle.store_history.specs.LaneRun.{plain_text}
 use Rattle.store_history.specs.Legal.{IsLegal, IsTimed, moment_after}
 use Rattle.store_history.specs.Remote.{IsRemote}
-use Rattle.store_history.specs.Saved.{HoldsBook, saved_book}
+use Rattle.store_history.specs.Saved.{HoldsBook, saved_book, book_name}
 use Rattle.store_history.specs.Sweeping.{swept}
 use Rattle.store_history.specs.Woven.{AreLanes}
-use Rattle.core_state.specs.Chunks.{HoldsOnly}
-use Rattle.core_state.specs.Foreign.{IsForeign}
-use Rattle.core_state.specs.Records.{AreKept}
-use Rattle.core_state.specs.Remotes.{ReadNoRemote, RemoteStays, ShowsRemote, faults_of}
-use Rattle.opening_files.specs.Leaving.{MayClean, Cleans}
-use Rattle.opening_files.specs.Opened.{Opens}
+use Rattle.store_history.specs.ChunkFiles.{HoldsOnly}
+use Rattle.store_history.specs.Foreign.{IsForeign}
+use Rattle.store_history.specs.Answered.{AreKept}
+use Rattle.store_history.specs.RemoteDisk.{ReadNoRemote, RemoteStays, ShowsRemote, faults_of}
+use Rattle.snapshot_files.specs.Leaving.{MayClean, Cleans}
+use Rattle.snapshot_files.specs.Opened.{Opens}
 use Rattle.core_opening.specs.declared.opening.OpenFault.{OpenFault}
-use Rattle.core_opening.specs.Opening.{StopsOpening, opening_of}
-use Rattle.lane.specs.declared.port.LaneReport.{LaneReport}
-use Rattle.lane.specs.declared.port.Port.{Port}
+use Rattle.core_opening.specs.Stops.{StopsOpening}
+use Rattle.store_history.specs.Opened.{opening_of}
+use Rattle.store_history.specs.declared.port.LaneReport.{LaneReport}
+use Rattle.store_history.specs.declared.port.Port.{Port}
 use Rattle.lane.specs.Entries.{has_kind}
-use Rattle.lane_threads.specs.Served.{EachRan, RanAs, Run}
+use Rattle.lane.specs.Served.{EachRan, RanAs, Run}
 use Rattle.pbs_server.specs.declared.status.Status.{Status}
 use Rattle.pbs_server.specs.declared.served.Served.{Served}
 use Rattle.pbs_server.specs.declared.status.Status.TheVariants as statuses
@@ -114,6 +119,19 @@ StopsLeave d start disk remote opening events =
 abbrev pub IsBeside : {E : Type 0} → Ghosts E → Option E → Option (List Snapshot) → List Event → Type 0
 IsBeside e remote R events = ShowsRemote e remote R ⊎ (ReadNoRemote events × (is_some remote ≡ is_some R) × IsRemote R)
 
+-- the folder has a book of this moment
+abbrev pub HasBookOf : Files → ℕ → Type 0
+HasBookOf files moment = (b : Book) × (get files book_name ≡ Some (book_text b)) × (b.moment ≡ moment)
+
+-- All that was done to a disk since its count of calls was this is that the book was put, or was to be: what a crash leaves is of the disk as
+-- it was then, or has this book.
+pub record SavesSince {D : Type 0} (d : Ghosts D) (calls : Option ℕ) (result : D) : Type 0 where
+  pub rested : D
+  pub calls_are : calls ≡ Some (d.calls rested)
+  pub later : d.calls rested ≤ d.calls result
+  pub text : List ℕ
+  pub leaves : LeavesBy d rested result (Installs (d.content rested) book_name text)
+
 -- The sessions of these ports were served at once.
 pub record HasServed {D E S K : Type 0} (d : Ghosts D) (e : Ghosts E) (source : sources.Ghosts S) (sink : sinks.Ghosts K) (readings : Option Readings) (disk : D) (remote : Option E)
     (old new : List (Port S K)) (reports : List LaneReport) (result : Served D E) : Type 0 where
@@ -143,6 +161,11 @@ pub record HasServed {D E S K : Type 0} (d : Ghosts D) (e : Ghosts E) (source : 
   pub order : IsOrder (length old) (result.order).items ((result.report).calls).items (d.faults disk) (d.faults result.disk) (faults_of e remote) (faults_of e result.remote)
   pub save : SaveIsTold (result.order).items (result.report).not_saved (d.faults disk) (d.faults result.disk)
   pub faults : d.faults disk ≤ d.faults result.disk
+  -- the number beside the last entry is the disk's count as that act was answered, and nothing but the book came behind it
+  pub rests : SavesSince d (last_or (Some (d.calls opened)) ((result.report).calls).items) result.disk
+  -- whatever it holds, a disk is honest still where it was, and where no call of it failed and its book was saved, it has one of the last moment
+  pub kept : d.honest disk ↔ d.honest result.disk
+  pub saved : d.honest disk → has_kind 5 (result.order).items ≡ false → (result.report).not_saved ≡ None → HasBookOf (d.content result.disk) (moment_after told.since told.events)
   pub not_opened : (result.report).not_opened ≡ None
 
 -- Where the run did not come to open the datastore, the disk was not called; else by why it was not opened.

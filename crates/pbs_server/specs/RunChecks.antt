@@ -11,10 +11,10 @@ use Rattle.store_model.specs.Clash.{NoClash, chunk_pieces}
 use Rattle.store_model.specs.Stands.{StandsFor}
 use Rattle.store_model.specs.Store.{lane_count}
 use Rattle.store_history.specs.History.{sent}
-use Rattle.core_state.specs.Remotes.{ShowsRemote}
+use Rattle.store_history.specs.RemoteDisk.{ShowsRemote}
 use Rattle.generator.specs.Sessions.{generated}
-use Rattle.lane.specs.declared.port.LaneReport.{LaneReport}
-use Rattle.lane.specs.declared.port.Port.{Port}
+use Rattle.store_history.specs.declared.port.LaneReport.{LaneReport}
+use Rattle.store_history.specs.declared.port.Port.{Port}
 use Rattle.run_check.specs.Checks.{loaded}
 use Rattle.pbs_server.specs.declared.served.Served.{Served}
 use Rattle.pbs_server.specs.declared.status.Status.TheVariants as statuses

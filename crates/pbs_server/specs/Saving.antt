@@ -6,7 +6,7 @@ use Rattle.disk_trait.specs.Disk.{Serves}
 use Rattle.std.specs.Prelude.{◌≡◌, ◌≢◌, ◌≤◌, ℕ, List, Option, None, Some, Result, Ok, Err, IfSome, OnOk}
 use Rattle.std.specs.FinMap.{get}
 use Rattle.core_state.specs.declared.state.Core.{Core}
-use Rattle.core_state.specs.Foreign.{IsForeign}
+use Rattle.store_history.specs.Foreign.{IsForeign}
 use Rattle.core_state.specs.Saving.{HasSaved, KeepsRest, LeavesBook, SavesBook}
 
 -- what the saving came to

@@ -9,11 +9,11 @@ use crate::run::not_served;
 use crate::served::Served;
 use crate::status::Status;
 use disk_trait::Disk;
-use lane::Port;
 use port_traits::{Sink, Source, write_all_of};
 use replay::Unequal;
 use run_check::{CheckFault, Compared, check_run};
 use std::alloc::Global;
+use store_history::Port;
 
 fn by_fault(fault: CheckFault) -> Status
     ensures { result ≡ first_of (check_facts (Err fault) false) }

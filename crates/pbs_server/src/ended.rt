@@ -4,7 +4,7 @@ use crate::served::{RunReport, Served};
 use crate::status::status_of;
 use core_state::{Core, CoreParts};
 use disk_trait::DiskError;
-use lane::LaneReport;
+use store_history::LaneReport;
 
 /// The core that the sessions were served on, how each was served, and why the book of touches was not saved, if it was not.
 #[derive(Drop)]

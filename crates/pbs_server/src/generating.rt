@@ -12,11 +12,11 @@ use crate::status::Status;
 use crate::summing::tell_ended;
 use disk_trait::Disk;
 use generator::generate;
-use lane::Port;
 use port_traits::{Gate, MemSink, SetClock, Sink};
 use std::alloc::{AllocError, Global};
 use std::sync::Wait;
 use std::thread::Threads;
+use store_history::Port;
 
 /// The reading of the clock that stands.
 const STILL: u64 = 1_600_000_000;

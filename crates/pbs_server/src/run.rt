@@ -11,13 +11,13 @@ use crate::status::{Status, by_opening};
 use core_opening::{NotOpened, OpenFault, open_on};
 use core_state::{Core, CoreParts};
 use disk_trait::Disk;
-use lane::{LaneReport, Port};
-use lane_threads::serve_all;
+use lane::serve_all;
 use port_traits::{Clock, Gate, Sink, Source};
 use std::alloc::Global;
 use std::marker::Brand;
 use std::sync::Wait;
 use std::thread::Threads;
+use store_history::{LaneReport, Port};
 
 /// No lane was served.
 pub fn not_served<D, E>(

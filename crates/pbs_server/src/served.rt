@@ -3,8 +3,8 @@
 use crate::status::Status;
 use core_opening::OpenFault;
 use disk_trait::DiskError;
-use lane::LaneReport;
 use replay::Unequal;
+use store_history::LaneReport;
 use store_types::Entry;
 
 /// How each lane was served, and for each entry of the order the disk's count of calls as it was answered. Empty where no

@@ -13,11 +13,11 @@ use crate::served::Served;
 use crate::status::Status;
 use crate::telling::tell_order;
 use disk_trait::Disk;
-use lane::Port;
 use port_traits::{Clock, Gate, Sink, Source};
 use std::alloc::Global;
 use std::sync::Wait;
 use std::thread::Threads;
+use store_history::Port;
 
 /// Does what the words ask for: `run ROOT [--remote ROOT2] [--order FILE] SESSION..` serves the sessions on the disk, all at once,
 /// each on a lane and a thread of its own, beside the remote, if one is handed in: the words do not say whether there is one. A

@@ -6,7 +6,8 @@ ghost use Rattle.pbs_server.specs.Statuses.{endings_facts, endings_of, first_of,
 
 use core_opening::OpenFault;
 use disk_trait::DiskError;
-use lane::{Ending, LaneReport};
+use lane::Ending;
+use store_history::LaneReport;
 use store_types::Entry;
 
 /// How a run ended. The program's exit status is its number.

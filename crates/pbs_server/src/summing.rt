@@ -16,9 +16,10 @@ use crate::telling::with_failed_journal;
 use core_admin::row_of;
 use core_state::Listed;
 use generator::summary;
-use lane::{Ending, LaneReport, Port};
+use lane::Ending;
 use port_traits::{MemSink, Sink, write_all_of};
 use std::alloc::{AllocError, Global};
+use store_history::{LaneReport, Port};
 use store_types::Bytes;
 use wire_commands::ListRow;
 

@@ -2,7 +2,7 @@
 
 use crate::remote_of;
 use file_disk::{AtOnce, FileDisk};
-use lane::Port;
+use store_history::Port;
 use pbs_server::{Status, serve};
 use port_traits::{FileSink, FileSource, FreeGate, MemSink, WallClock};
 use std::alloc::{AllocError, Global};

@@ -8,7 +8,7 @@ mod check;
 
 use crate::check::{Check, serve_check};
 use file_disk::{AtOnce, FileDisk};
-use lane::Port;
+use store_history::Port;
 use pbs_server::{Plan, Status, WordFault, plan_words, serve};
 use port_traits::{FileSink, FileSource, FreeGate, Sink, WallClock};
 use std::alloc::{AllocError, Global};

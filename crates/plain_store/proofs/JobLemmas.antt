@@ -4,15 +4,15 @@ use Rattle.std.specs.Prelude.{IfOk}
 use Rattle.store_types.specs.declared.names.GroupKey.{GroupKey}
 use Rattle.store_types.specs.declared.names.Keep.{Keep}
 use Rattle.store_types.specs.declared.refusal.Refusal.{Refusal}
-use Rattle.store_types.specs.declared.refusal.Refusal.TheVariants.{BadName, TooMany}
-use Rattle.store_types.specs.Chain.Refusing.{◌>>=◌, unless, or_else}
-use Rattle.store_types.specs.Names.{group_of}
+use Rattle.store_types.specs.declared.refusal.Refusal.TheVariants.{TooMany}
+use Rattle.store_types.specs.Chain.Refusing.{◌>>=◌, unless}
 use Rattle.wire_commands.specs.declared.command.Command.{Command}
 use Rattle.wire_commands.specs.declared.command.Command.TheVariants.{Prune}
 use Rattle.wire_commands.specs.declared.reply.Reply.{Reply}
 use Rattle.wire_commands.specs.declared.reply.Reply.TheVariants.{Keys, Refused}
 use Rattle.wire_commands.specs.HasText.{ReplyHasText}
-use Rattle.store_model.specs.Store.{Store, Outcome, session, want_idle}
+use Rattle.store_model.specs.Store.{Store, Outcome}
+use Rattle.store_model.specs.Heads.{idle_group}
 use Rattle.store_model.specs.AdminSteps.{group_texts, counts_fit, prune_group}
 use Rattle.store_model.specs.Job.{Asking, grouping, step_of}
 use Rattle.store_model.specs.JobSteps.{step_outcome}
@@ -21,17 +21,15 @@ use Rattle.plain_snapshots.proofs.Telling.{few_texts}
 use Rattle.plain_lanes.specs.Jobs.{IsFew, FitsAsked}
 
 module _ (s : Store) where
-  few_keys : (a : Result (Unit {0}) Refusal) (b : Result GroupKey Refusal) (c : Result (Unit {0}) Refusal)
-      → IsFew (answered s (a >>= λ _. b >>= λ g. c >>= λ _. Ok (s, Keys (group_texts g s.snapshots)))).1
-  few_keys (Err r) b c = tt
-  few_keys (Ok t) (Err r) c = tt
-  few_keys (Ok t) (Ok g) (Err r) = tt
-  few_keys (Ok t) (Ok g) (Ok u) = few_texts g s.snapshots
+  few_keys : (b : Result GroupKey Refusal) (c : Result (Unit {0}) Refusal) → IsFew (answered s (b >>= λ g. c >>= λ _. Ok (s, Keys (group_texts g s.snapshots)))).1
+  few_keys (Err r) c = tt
+  few_keys (Ok g) (Err r) = tt
+  few_keys (Ok g) (Ok u) = few_texts g s.snapshots
 
   -- a PRUNE's own command is told no more snapshots than a group has
   few_told : (lane moment : ℕ) (group : List ℕ) (keep : Keep) (dry : Bool) → IsFew (answered s (outcome s lane moment (Prune group keep dry))).1
   unfolding outcome prune_group
-  few_told lane moment group keep dry = few_keys (want_idle (session s lane)) (or_else BadName (group_of group)) (unless (TooMany 1000) (counts_fit keep))
+  few_told lane moment group keep dry = few_keys (idle_group s lane group) (unless (TooMany 1000) (counts_fit keep))
 
   module _ (after : Store) (lane moment : ℕ) (reply : Reply) (spelled : ReplyHasText reply) where
     by_command : (c : Command) (counts : Keep) (whole : Bool) → (after, reply) ≡ answered s (outcome s lane moment c) → FitsAsked (grouping c counts whole) reply

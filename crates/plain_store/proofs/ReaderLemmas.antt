@@ -8,12 +8,12 @@ use Rattle.store_types.specs.declared.refusal.Refusal.{Refusal}
 use Rattle.store_types.specs.declared.refusal.Refusal.TheVariants.{BadName, NoSnapshot, NoFile, NotAllowed, BadRange}
 use Rattle.store_types.specs.Chain.Refusing.{◌>>=◌, or_else}
 use Rattle.store_types.specs.FileNames.{is_file_name, is_index_name, is_blob_name}
-use Rattle.store_types.specs.Names.{key_of}
 use Rattle.blob_codec.specs.Blob as blobs
 use Rattle.store_files.specs.Archive.{File, Snapshot, file_named, pieces_of, piece_with}
 use Rattle.wire_commands.specs.declared.reply.Reply.{Reply}
 use Rattle.wire_commands.specs.declared.reply.Reply.TheVariants.{Done, Data}
-use Rattle.store_model.specs.Store.{Store, Reader, reader, session, with_session, want_reader, want_idle, snapshot_named, ended}
+use Rattle.store_model.specs.Store.{Store, Reader, reader, session, with_session, want_reader, snapshot_named, ended}
+use Rattle.store_model.specs.Heads.{idle_key}
 use Rattle.store_model.specs.ReaderSteps.{open_reader, reader_files, note, download, noted_pieces, get_chunk, range_of, range, read_file, read_chunk, close_reader}
 use Rattle.plain_sessions.specs.Reading.{chunk_of, entry_blob}
 use Rattle.plain_store.specs.Parts.{file_part}
@@ -27,24 +27,19 @@ pub files_some : (s : Store) (x : Reader) (found : Snapshot) → snapshot_named 
 files_some s x found h = rw (reader_files, h) refl
 
 module _ (s : Store) (lane : ℕ) (text : List ℕ) where
-  pub open_not_idle : (r : Refusal) → want_idle (session s lane) ≡ Err r → open_reader s lane text ≡ Err r
+  pub open_refused : (r : Refusal) → idle_key s lane text ≡ Err r → open_reader s lane text ≡ Err r
   unfolding open_reader
-  open_not_idle r e = rw e refl
+  open_refused r e = rw e refl
 
-  pub open_no_name : want_idle (session s lane) ≡ Ok tt → key_of text ≡ None → open_reader s lane text ≡ Err BadName
+  pub open_no_snapshot : (key : SnapshotKey) → idle_key s lane text ≡ Ok key → snapshot_named key s.snapshots ≡ None → open_reader s lane text ≡ Err NoSnapshot
   unfolding open_reader
-  open_no_name idle bad = rw (idle, bad) refl
-
-  pub open_no_snapshot : (key : SnapshotKey) → want_idle (session s lane) ≡ Ok tt → key_of text ≡ Some key → snapshot_named key s.snapshots ≡ None
-      → open_reader s lane text ≡ Err NoSnapshot
-  unfolding open_reader
-  open_no_snapshot key idle named none = rw (idle, named, none) refl
+  open_no_snapshot key begins none = rw (begins, none) refl
 
   pub open_goes : (key : SnapshotKey) (x : Snapshot) (r : Reader) (after : Store)
-      → want_idle (session s lane) ≡ Ok tt → key_of text ≡ Some key → snapshot_named key s.snapshots ≡ Some x
+      → idle_key s lane text ≡ Ok key → snapshot_named key s.snapshots ≡ Some x
       → r ≡ record { key = key; noted = [] } → after ≡ with_session s lane (reader r) → open_reader s lane text ≡ Ok (after, Done)
   unfolding open_reader
-  open_goes key x r after idle named there new is = rw (idle, named, there, is, new) refl
+  open_goes key x r after begins there new is = rw (begins, there, is, new) refl
 
 -- ---- DOWNLOAD
 

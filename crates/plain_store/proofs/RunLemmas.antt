@@ -22,7 +22,8 @@ use Rattle.store_model.specs.Jobs.{take}
 use Rattle.store_model.specs.SyncJob.{to_pull, next_snapshot}
 use Rattle.store_model.specs.JobSteps.{step_outcome}
 use Rattle.store_model.specs.Steps.{answered, step}
-use Rattle.store_model.specs.Store.{Store, session, want_idle}
+use Rattle.store_model.specs.Store.{Store}
+use Rattle.store_model.specs.Heads.{idle_in}
 use Rattle.store_model.specs.Lanes.{Lane, Collecting, Run, new_lane, lane_at, with_lane, say, collects, lane_next, next_beside, next_of}
 use Rattle.store_model.specs.Weave.{Endings, tell, go_on, stepped, short, told_fault, fault_refusal, first_fault, is_end, is_cut_off, faulted, is_replied, may_leave_unread, end_session, ended_with, unread, ends, entered, with_store, answer, answer_job, want_collector, close_collector, collected, opens, closes, passed, begin_sync, remote_failed}
 use Rattle.plain_lanes.specs.declared.next.Ahead.{Ahead}
@@ -291,11 +292,11 @@ module _ (r : Run) (k : ℕ) (group left : List ℕ) where
 
 -- whether a collector may open
 module _ (r : Run) (k : ℕ) where
-  pub collector_not_idle : (refusal : Refusal) → want_idle (session r.store k) ≡ Err refusal → Err refusal ≡ want_collector r k
+  pub collector_not_idle : (refusal : Refusal) → idle_in r.store k ≡ Err refusal → Err refusal ≡ want_collector r k
   unfolding want_collector
   collector_not_idle refusal h = rw h refl
 
-  module _ (idle : want_idle (session r.store k) ≡ Ok tt) where
+  module _ (idle : idle_in r.store k ≡ Ok tt) where
     pub collector_free : r.collecting ≡ None → Ok tt ≡ want_collector r k
     unfolding want_collector
     collector_free h = rw (idle, h) refl

@@ -6,12 +6,13 @@ use Rattle.store_types.specs.declared.refusal.Refusal.{Refusal}
 use Rattle.store_types.specs.declared.refusal.Refusal.TheVariants.{BadName, GroupBusy, TooMany, NoSnapshot, NoFile}
 use Rattle.store_types.specs.Chain.Refusing.{◌>>=◌, unless, or_else, if_none}
 use Rattle.store_types.specs.FileNames.{is_file_name, is_blob_name}
-use Rattle.store_types.specs.Names.{key_of, group_of_key}
+use Rattle.store_types.specs.Names.{group_of_key}
 use Rattle.store_files.specs.Archive.{File, Snapshot, blob, pieces_of, file_named}
 use Rattle.wire_commands.specs.declared.reply.Reply.{Reply}
 use Rattle.wire_commands.specs.declared.reply.Reply.TheVariants.{Done, Base}
-use Rattle.store_model.specs.Store.{Store, Session, Writer, none, writer, reader, session, with_session, want_writer, want_idle, group_holder, in_group, latest_in, insert_snapshot, insert_file, ended}
+use Rattle.store_model.specs.Store.{Store, Session, Writer, none, writer, reader, session, with_session, want_writer, group_holder, in_group, latest_in, insert_snapshot, insert_file, ended}
 use Rattle.store_model.specs.Uploads.{want_room}
+use Rattle.store_model.specs.Heads.{idle_key}
 use Rattle.store_model.specs.WriterSteps.{open_writer, new_writer, base_text, want_newer, with_pool, base_of as base_snapshot, previous, want_data, checked_blob, put_blob, goes_on, finish, snapshot_of, abort}
 use Rattle.store_model.specs.Manifests.{finish_check}
 use Rattle.plain_sessions.specs.Uploading.{upload_of}
@@ -57,27 +58,23 @@ abbrev has_room : Store → SnapshotKey → Result (Unit {0}) Refusal
 has_room s key = unless (TooMany 4096) (nat_lt (length (in_group (group_of_key key) s.snapshots)) 4096)
 
 module _ (s : Store) (lane moment : ℕ) (text : List ℕ) where
-  pub open_not_idle : (r : Refusal) → want_idle (session s lane) ≡ Err r → open_writer s lane moment text ≡ Err r
+  pub open_not_begun : (r : Refusal) → idle_key s lane text ≡ Err r → open_writer s lane moment text ≡ Err r
   unfolding open_writer
-  open_not_idle r e = rw e refl
+  open_not_begun r e = rw e refl
 
-  pub open_no_name : want_idle (session s lane) ≡ Ok tt → key_of text ≡ None → open_writer s lane moment text ≡ Err BadName
-  unfolding open_writer
-  open_no_name idle bad = rw (idle, bad) refl
-
-  module _ (key : SnapshotKey) (idle : want_idle (session s lane) ≡ Ok tt) (named : key_of text ≡ Some key) where
+  module _ (key : SnapshotKey) (begins : idle_key s lane text ≡ Ok key) where
     abbrev latest : Unit {0} → Option SnapshotKey
     latest _ = latest_in (group_of_key key) s.snapshots
 
-    abbrev begins : Option SnapshotKey → Store × Reply
-    begins base = (with_session s lane (writer (new_writer key moment base)), Base (base_text base))
+    abbrev opened : Option SnapshotKey → Store × Reply
+    opened base = (with_session s lane (writer (new_writer key moment base)), Base (base_text base))
 
     abbrev goes : Unit {0} → Result (Store × Reply) Refusal
-    goes _ = Ok (begins (latest_in (group_of_key key) s.snapshots))
+    goes _ = Ok (opened (latest_in (group_of_key key) s.snapshots))
 
     tests_are : open_writer s lane moment text ≡ (is_free s key >>= λ _. is_newer s key >>= λ _. has_room s key >>= goes)
     unfolding open_writer goes_on
-    tests_are = rw (idle, named) refl
+    tests_are = rw begins refl
 
     pub open_refused : (r : Refusal) → base_of s key ≡ Err r → open_writer s lane moment text ≡ Err r
     open_refused r h = tests_are ∙ refused_in_row latest goes (is_free s key) (is_newer s key) (has_room s key) r h
@@ -87,7 +84,7 @@ module _ (s : Store) (lane moment : ℕ) (text : List ℕ) where
         → after ≡ with_session s lane (writer w) → open_writer s lane moment text ≡ Ok (after, Base told)
     open_goes base copy told w after h same tells new is =
         let p = passed_in_row latest goes (is_free s key) (is_newer s key) (has_room s key) base h in
-        tests_are ∙ p.1 ∙ ap (λ b. Ok (begins b)) p.2 ∙ rw (is, new, same, tells) refl
+        tests_are ∙ p.1 ∙ ap (λ b. Ok (opened b)) p.2 ∙ rw (is, new, same, tells) refl
 
 -- ---- PREVIOUS
 

@@ -6,6 +6,7 @@
 mod admin_steps;
 mod archive_steps;
 mod frees;
+mod heads;
 mod loading;
 mod parts;
 mod plain;

@@ -3,7 +3,7 @@
 ghost use Rattle.std.specs.Prelude.{◌≡◌, ◌<◌, ◌≤◌, IfOk, IfErr, OnOk, OnErr};
 ghost use Rattle.store_types.specs.Times.{last_moment};
 ghost use Rattle.wire_commands.specs.HasText.{FitsRefusal, ReplyHasText};
-ghost use Rattle.store_model.specs.Store.{session as session_at, with_session, ended, want_idle as needs_idle, want_writer as needs_writer, want_reader as needs_reader};
+ghost use Rattle.store_model.specs.Store.{session as session_at, with_session, ended, want_writer as needs_writer, want_reader as needs_reader};
 ghost use Rattle.store_model.specs.JobSteps.{step_outcome as by_step};
 ghost use Rattle.store_model.specs.Steps.{step as stepped, outcome as outcome_of};
 ghost use Rattle.plain_sessions.specs.Sessions.{shown_held};
@@ -43,21 +43,12 @@ impl Model for Plain {
 
 impl Plain {
     /// What the lane has.
-    fn held(&self, lane: u32) -> &Held
+    pub(crate) fn held(&self, lane: u32) -> &Held
         requires { lane < 64 }
         ensures { shown_held result.now ≡ session_at self.now lane }
     {
         let session = &self.sessions[lane as usize];
         &session.held
-    }
-
-    /// The lane has no session.
-    pub(crate) fn want_idle(&self, lane: u32) -> Result<(), Refusal>
-        requires { lane < 64 }
-        ensures fits { IfErr result FitsRefusal }
-        ensures test { result ≡ needs_idle (session_at self.now lane) }
-    {
-        self.held(lane).want_idle()
     }
 
     /// The lane's writer.
@@ -242,14 +233,14 @@ impl Plain {
                 length,
             } => self.range(alloc, lane, file.as_slice(), *offset, *length),
             Command::CloseReader => self.close_reader(lane),
-            Command::List { after } => self.list(alloc, after.as_slice()),
-            Command::Files { snapshot } => self.files(alloc, snapshot.as_slice()),
+            Command::List { after } => self.list(alloc, lane, after.as_slice()),
+            Command::Files { snapshot } => self.files(alloc, lane, snapshot.as_slice()),
             Command::Forget { snapshot } => self.forget(alloc, lane, snapshot.as_slice()),
             Command::Prune { group, keep, .. } => {
                 self.prune_group(alloc, lane, group.as_slice(), keep)
             }
             Command::Verify { .. } | Command::Sync { .. } | Command::Gc => Ok(Reply::Done),
-            Command::Group { group } => self.group(alloc, group.as_slice()),
+            Command::Group { group } => self.group(alloc, lane, group.as_slice()),
             Command::Bye => {
                 self.end(lane);
                 Ok(Reply::Done)

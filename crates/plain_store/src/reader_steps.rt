@@ -7,7 +7,7 @@ ghost use Rattle.plain_store.specs.Outcomes.{Answers, Does, IsSpelled};
 use crate::parts::part_in;
 use crate::plain::Plain;
 use plain_sessions::{Held, Reader, Stop, blob_at};
-use plain_snapshots::{File, PlainKey, file_named, snapshot_named};
+use plain_snapshots::{File, file_named, snapshot_named};
 use std::alloc::Global;
 use store_types::{Digest32, FileName, Refusal};
 use wire_commands::Reply;
@@ -34,10 +34,7 @@ impl Plain {
         ensures does { Does self.old self.new result (opened self.old lane snapshot.now) }
         ensures spelled { IsSpelled result }
     {
-        self.want_idle(lane)?;
-        let Ok(key) = PlainKey::parse(alloc, snapshot)? else {
-            return Err(Stop::Refused(Refusal::BadName));
-        };
+        let key = self.idle_key(alloc, lane, snapshot)?;
         if snapshot_named(key.as_key(), &self.snapshots).is_none() {
             return Err(Stop::Refused(Refusal::NoSnapshot));
         }

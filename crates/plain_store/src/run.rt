@@ -228,7 +228,7 @@ impl<'a> Run<'a> {
         ensures fits { IfErr result FitsRefusal }
         ensures test { result ≡ wants_collector self.now lane }
     {
-        self.store.want_idle(lane)?;
+        self.store.idle_in(lane)?;
         match &self.collecting {
             None => Ok(()),
             Some(open) => Err(collector_busy(open.lane)),

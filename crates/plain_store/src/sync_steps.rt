@@ -8,7 +8,7 @@ use crate::plain::Plain;
 use plain_sessions::Stop;
 use plain_snapshots::{Snapshot, later_than, members, newest_told};
 use std::alloc::Global;
-use store_types::{GroupKey, Refusal};
+use store_types::Refusal;
 
 impl Plain {
     /// The remote's snapshots of a group that are later than the newest that GROUP tells here, the oldest first.
@@ -23,10 +23,7 @@ impl Plain {
         ensures fits { IsFitRefusal result }
         ensures gives { Pulls remote.entry (λ p. p.now) self.now lane group.now result }
     {
-        self.want_idle(lane)?;
-        let Ok(group) = GroupKey::parse(alloc, group)? else {
-            return Err(Stop::Refused(Refusal::BadName));
-        };
+        let group = self.idle_group(alloc, lane, group)?;
         let Some(remote) = remote else {
             return Err(Stop::Refused(Refusal::NoRemote));
         };

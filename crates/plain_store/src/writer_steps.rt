@@ -89,10 +89,7 @@ impl Plain {
         ensures does { Does self.old self.new result (opened self.old lane moment snapshot.now) }
         ensures spelled { IsSpelled result }
     {
-        self.want_idle(lane)?;
-        let Ok(key) = PlainKey::parse(alloc, snapshot)? else {
-            return Err(Stop::Refused(Refusal::BadName));
-        };
+        let key = self.idle_key(alloc, lane, snapshot)?;
         let base = self.base_of(key.as_key())?;
         let text = base_text(alloc, base)?;
         let base = copied(base)?;

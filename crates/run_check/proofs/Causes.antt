@@ -3,7 +3,7 @@ use Rattle.std.proofs.Common.{◌≡◌, ◌⊎◌, ℕ, ◌+◌, ◌*◌, List,
 use Rattle.disk_trait.specs.declared.disk.Disk.{Ghosts}
 use Rattle.disk_trait.proofs.OnlyReading.{reads_as, reads_none}
 use Rattle.port_traits.specs.declared.source.Source as sources
-use Rattle.lane.specs.declared.port.Port.{Port}
+use Rattle.store_history.specs.declared.port.Port.{Port}
 use Rattle.run_check.specs.declared.fault.CheckFault.{CheckFault}
 use Rattle.run_check.specs.declared.fault.CheckFault.TheVariants as faults
 use Rattle.run_check.specs.Checks.{Checks, RemoteIsOnlyRead}

@@ -10,7 +10,7 @@ use Rattle.store_model.specs.Load.{load}
 use Rattle.store_model.specs.Weave.{told_by_input, woven}
 use Rattle.plain_snapshots.specs.Loading.{has_damaged}
 use Rattle.plain_store.specs.Frees.{frees}
-use Rattle.lane.specs.declared.port.Port.{Port}
+use Rattle.store_history.specs.declared.port.Port.{Port}
 use Rattle.replay.specs.declared.difference.Unequal.{Unequal}
 use Rattle.replay.specs.declared.comparison.Comparison.{Comparison}
 use Rattle.replay.specs.Compare.{compare, line}

@@ -2,7 +2,7 @@
 use Rattle.std.proofs.Common.{Result, Ok, Err, Vec, ◌≡◌, ℕ, ◌+◌, ◌*◌, ◌<◌, List, [], ◌∷◌, ◌++◌, length, Option, refl, sym, ap, subst, ◌∙◌, ◌≢◌, append_assoc}
 use Rattle.std.proofs.lemmas.List.{append-nil, length_push}
 use Rattle.port_traits.specs.declared.source.Source as sources
-use Rattle.lane.specs.declared.port.Port.{Port}
+use Rattle.store_history.specs.declared.port.Port.{Port}
 use Rattle.replay.specs.declared.difference.Unequal.{Unequal}
 use Rattle.replay.specs.declared.comparison.Comparison.{Comparison}
 use Rattle.replay.specs.Comparison.{Takes, outcome}

@@ -4,7 +4,7 @@ use Rattle.std.proofs.lemmas.Bool.{cases_eq}
 use Rattle.std.proofs.lemmas.List.{get_or-map, get_or-set_same, get_or-set_other, get_or_append_left, get_or_push, length-map, length-set, length_push, map-set, set-get_or}
 use Rattle.port_traits.specs.declared.source.Source as sources
 use Rattle.port_traits.specs.Faults.{Rose}
-use Rattle.lane.specs.declared.port.Port.{Port}
+use Rattle.store_history.specs.declared.port.Port.{Port}
 use Rattle.replay.specs.Reading.{IsReadOut, IsTooLong, ReadsOut, HasReadCause}
 use Rattle.replay.specs.declared.reading.Unread.{Unread}
 use Rattle.replay.specs.declared.reading.Unread.TheVariants as unread

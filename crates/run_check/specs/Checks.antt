@@ -10,7 +10,7 @@ use Rattle.store_model.specs.Store.{Store}
 use Rattle.store_model.specs.Weave.{told_by_input, woven}
 use Rattle.plain_snapshots.specs.Loading.{has_damaged}
 use Rattle.plain_store.specs.Frees.{frees}
-use Rattle.lane.specs.declared.port.Port.{Port}
+use Rattle.store_history.specs.declared.port.Port.{Port}
 use Rattle.replay.specs.Compare.{compare, line}
 use Rattle.replay.specs.Orders.{faultless_order}
 use Rattle.run_check.specs.declared.checking.Compared.{Compared}

@@ -3,7 +3,7 @@ use Rattle.std.specs.Prelude.{◌≡◌, ◌≢◌, ℕ, ◌+◌, ◌*◌, ◌^�
 use Rattle.port_traits.specs.declared.source.Source as sources
 use Rattle.port_traits.specs.Bytes.{TakesFrom}
 use Rattle.port_traits.specs.Faults.{Rose}
-use Rattle.lane.specs.declared.port.Port.{Port}
+use Rattle.store_history.specs.declared.port.Port.{Port}
 use Rattle.replay.specs.Reading.{IsAtEnd, IsTooLong, ReadsOut, HasReadCause}
 use Rattle.replay.specs.declared.reading.Unread.{Unread}
 

@@ -3,7 +3,7 @@ use Rattle.std.specs.Prelude.{◌≡◌, ◌≢◌, ℕ, ◌/◌, List, length, 
 use Rattle.std.specs.declared.alloc.Global.{Global}
 use Rattle.port_traits.specs.declared.source.Source as sources
 use Rattle.store_types.specs.declared.order.Entry.{Entry}
-use Rattle.lane.specs.declared.port.Port.{Port}
+use Rattle.store_history.specs.declared.port.Port.{Port}
 use Rattle.replay.specs.declared.difference.Unequal.{Unequal}
 use Rattle.replay.specs.declared.comparison.Comparison.{Comparison}
 use Rattle.replay.specs.Comparison.{outcome}

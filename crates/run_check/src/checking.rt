@@ -11,10 +11,10 @@ use crate::disks::{load_remote, load_root};
 use crate::fault::CheckFault;
 use crate::ports::{compare_outs, read_at, read_inputs};
 use disk_trait::Disk;
-use lane::Port;
 use port_traits::Source;
 use replay::{Unequal, line, read_faultless, replay};
 use std::alloc::Global;
+use store_history::Port;
 use store_types::Entry;
 
 /// The order of so many sessions that the first port has.

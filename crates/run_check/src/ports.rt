@@ -7,10 +7,10 @@ ghost use Rattle.run_check.specs.Ports.{Keeps, ReadsAt};
 ghost use Rattle.run_check.specs.Sessions.{TellsInputs, TellsOuts};
 
 use crate::fault::CheckFault;
-use lane::Port;
 use port_traits::Source;
 use replay::{Comparison, Unequal, Unread, read_out};
 use std::alloc::{AllocError, Global};
+use store_history::Port;
 use store_types::Bytes;
 
 /// All that the port at this place has.

@@ -6,12 +6,12 @@ use crate::plan::Plan;
 use crate::session::{Asked, Disks, serve_check, words};
 use crate::words::{same, text_of};
 use crate::woven::Plains;
-use lane::Port;
 use port_traits::{MemSink, MemSource};
 use std::alloc::{AllocError, Global};
 use std::mem;
 use std::sync::Wait;
 use std::thread::Threads;
+use store_history::Port;
 
 /// A run that was checked.
 #[derive(Drop)]

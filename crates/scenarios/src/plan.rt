@@ -6,9 +6,9 @@ use crate::gate::{Event, GateHandle, LineGate, Step};
 use crate::session::Left;
 use crate::talk::Talk;
 use crate::words::{number_of, numbers_of};
-use lane::Port;
 use port_traits::{MemSink, MemSource, SetClock};
 use std::alloc::{AllocError, Global};
+use store_history::Port;
 
 /// Sessions that are to be served at once, one on each lane.
 #[derive(Drop)]

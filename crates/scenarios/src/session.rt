@@ -7,12 +7,13 @@ use crate::taken::TakenDisk;
 use crate::words::{push_number, same};
 use core_opening::OpenFault;
 use disk_trait::{Disk, FailingDisk, MemoryDisk};
-use lane::{Ending, Port};
+use lane::Ending;
 use pbs_server::{RunReport, Served, Status, serve};
 use port_traits::{MemSink, MemSource};
 use std::alloc::{AllocError, Global};
 use std::sync::{Arc, Wait};
 use std::thread::Threads;
+use store_history::Port;
 use store_types::Entry;
 
 /// Both disks.

@@ -4,9 +4,9 @@ use crate::bytes::{bytes_of, shown};
 use crate::differs::Differs;
 use crate::gate::Event;
 use crate::words::{number_of, split};
-use lane::Port;
 use port_traits::{MemSink, MemSource};
 use std::alloc::{AllocError, Global};
+use store_history::Port;
 
 /// A reply that is wanted, and the line that says so.
 #[derive(Drop)]

@@ -8,11 +8,12 @@ use crate::rules::read;
 use crate::session::{Disks, Left, copy_of, serve_plan};
 use crate::words::same;
 use disk_trait::MemoryDisk;
-use lane::{Ending, LaneReport};
+use lane::Ending;
 use plain_store::Plain;
 use std::alloc::{AllocError, Global};
 use std::sync::Wait;
 use std::thread::Threads;
+use store_history::LaneReport;
 use store_types::{Bytes, LANES, Rows};
 
 /// The plain copies of the datastore and the remote, before a run.

@@ -14,13 +14,14 @@ mod words;
 
 use crate::asserts::{must, same, same_numbers};
 use disk_trait::{Disk, MemoryDisk};
-use lane::{Ending, LaneReport, Port};
+use lane::Ending;
 use pbs_server::{Served, Status, serve};
 use port_traits::{FreeGate, MemSink, MemSource, SetClock};
 use std::alloc::{AllocError, Global};
 use std::process::Abort;
 use std::sync::Wait;
 use std::thread::Threads;
+use store_history::{LaneReport, Port};
 
 /// How a session was served.
 type Run = Served<MemoryDisk, MemoryDisk>;

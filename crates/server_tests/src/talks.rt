@@ -8,12 +8,13 @@ ghost use Rattle.server_tests.specs.Seats.{ComesBackIdle};
 
 use crate::asserts::same;
 use crate::stores::{Place, Store};
-use lane::{Ending, Port, run_with};
+use lane::{Ending, run_with};
 use port_traits::{Gate, MemSink, MemSource};
 use std::alloc::{AllocError, Global};
 use std::process::Abort;
 use std::sync::Wait;
 use std::thread::{Threads, join_mut};
+use store_history::Port;
 
 /// What a lane is sent and is to be told, and what it was told and how it ended.
 #[derive(Drop)]

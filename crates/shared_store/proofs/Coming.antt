@@ -1,7 +1,7 @@
 -- A core comes to one event after another.
 use Rattle.disk_trait.specs.declared.disk.Disk.{Ghosts}
 use Rattle.disk_trait.specs.Disk.{Rose}
-use Rattle.std.proofs.Common.{◌≡◌, ◌≤◌, ◌<◌, ◌^◌, ◌⊎◌, inl, inr, ℕ, Bool, true, false, ◌==◌, List, [], ◌∷◌, ◌++◌, length, if◌then◌else◌, Option, Some, None, IsSome, refl, sym, ap, subst, ◌∙◌, arith}
+use Rattle.std.proofs.Common.{◌≡◌, ◌≤◌, ◌<◌, ◌^◌, ◌↔◌, ◌⊎◌, inl, inr, ℕ, Bool, true, false, ◌==◌, List, [], ◌∷◌, ◌++◌, length, if◌then◌else◌, Option, Some, None, IsSome, refl, sym, ap, subst, ◌∙◌, arith}
 use Rattle.std.proofs.lemmas.Bool.{eqb-true}
 use Rattle.std.proofs.lemmas.List.{length-append, length-map, map-append}
 use mathlib.Core.List.{IsPrefix}
@@ -15,9 +15,10 @@ use Rattle.store_history.specs.History.{entry, entries}
 use Rattle.turn_lock.specs.State.{SeatState, seat_after_pass}
 use Rattle.core_state.specs.declared.parts.Parts.{Parts}
 use Rattle.core_state.specs.declared.state.Core.{Core}
-use Rattle.core_state.specs.Answers.{IsAnswered, fault_after}
+use Rattle.core_state.specs.Answers.{IsAnswered}
+use Rattle.store_history.specs.Answered.{fault_after, fault_in}
 use Rattle.core_state.specs.History.{History, event_of}
-use Rattle.core_state.specs.Records.{Reaches, fault_in}
+use Rattle.core_state.specs.Records.{Reaches}
 use Rattle.core_state.proofs.Reaching.{reaches_first, reaches_more}
 use Rattle.shared_store.specs.Applied.{ActsOn, HasActed, HasApplied}
 use Rattle.shared_store.specs.Comes.{AreAnswered, ComesTo, IsFresh, SameCore, last_calls, with_events}
@@ -49,6 +50,7 @@ comes_first d e clock is_first core is fresh = record {
   short = omega arith;
   entries_are = (fresh.recorded).entries ∙ ap entries fresh.none;
   reaches = λ h r none. subst (λ k. Reaches d e clock.readings core h core k) (sym (no_events h none)) (reaches_first d e clock.readings core h r);
+  kept = (λ h. h, λ h. h);
   count = omega arith;
   fault = λ some. absurd (none_some core.fault ((fresh.recorded).fault ∙ ap (λ es. fault_in 0 None es) fresh.none) some);
   at_rest = refl;
@@ -95,6 +97,7 @@ comes_room {D} d e clock is_first old new es same c =
       short = c.short;
       entries_are = (same.entries).entries ∙ c.entries_are;
       reaches = λ h r none. reserved_reaches d e clock.readings old new same c.first h (with_events h es) (c.reaches h r none);
+      kept = subst (λ (p : Parts D). d.honest (c.first.parts).disk ↔ d.honest p.disk) (sym same.parts) c.kept;
       count = let was = c.count in omega (arith, was, disk);
       fault = λ some. subst (λ n. Rose (d.faults (c.first.parts).disk) n) (sym disk) (c.fault (subst IsSome same.fault some));
       at_rest = ap (λ (p : Parts D). d.calls p.disk) same.parts ∙ c.at_rest;
@@ -115,6 +118,7 @@ comes_act d e clock is_first old new es lane act answer lt below x c =
       short = let n = ap length c.entries_are in omega (arith, n, below, length-map es entry, length-append es (v ∷ []));
       entries_are = is.entries ∙ ap (λ xs. xs ++ answer.entry ∷ []) c.entries_are ∙ sym (entries_more es v);
       reaches = λ h r none. reaches_more d e clock c.first h old new lane act answer lt x.applies x.alone x.keeps (with_events h es) (c.reaches h r none);
+      kept = (λ h. (is.kept).0 ((c.kept).0 h), λ h. (c.kept).1 ((is.kept).1 h));
       count = let was = c.count in let on = is.count in omega (arith, was, on);
       fault = rises d old new lane answer (d.faults (c.first.parts).disk) is c.count c.fault;
       at_rest = sym (calls_last (d.calls (c.first.parts).disk) es v);

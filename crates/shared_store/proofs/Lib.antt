@@ -1,6 +1,3 @@
-mod Damages
-mod Asking
-mod Answering
 pub mod Reserving
 mod Coming
 mod Listing

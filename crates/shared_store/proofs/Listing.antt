@@ -6,19 +6,18 @@ use Rattle.std.specs.declared.alloc.Global.{Global}
 use Rattle.std.specs.declared.vec.Vec.{Vec}
 use Rattle.store_types.specs.declared.names.SnapshotKey.{SnapshotKey}
 use Rattle.store_types.specs.Names.{key_lt, same_key}
-use Rattle.wire_commands.specs.declared.command.Command.TheVariants.{Finish, Forget}
 use Rattle.wire_commands.specs.declared.rows.ListRow.{ListRow}
 use Rattle.wire_commands.specs.declared.reply.Reply.{Reply}
 use Rattle.wire_commands.specs.declared.reply.Reply.TheVariants.{Done}
 use Rattle.store_history.specs.declared.act.Act.{Act}
-use Rattle.store_history.specs.declared.act.Act.TheVariants.{Plain}
 use Rattle.store_history.specs.declared.act.Answer.{Answer}
+use Rattle.store_history.specs.Profile.{OnList, is_other_list, lists, profile, same_list, takes_out}
 use Rattle.core_state.specs.declared.kept.Listed.{Listed}
 use Rattle.core_state.specs.declared.kept.Session.{Session}
 use Rattle.core_state.specs.declared.state.Core.{Core}
-use Rattle.core_state.specs.Catalogue.{Lists, closed_by, forgotten_by, insert_listed, listed_by, without_listed}
+use Rattle.core_state.specs.Catalogue.{Lists, closed_by, forgotten_by, insert_listed, listed_by, listed_on, without_listed}
 use Rattle.core_state.specs.Found.{is_behind as is_kept_behind}
-use Rattle.core_state.specs.Wanted.{session_at}
+use Rattle.core_state.specs.Kept.{KeptAt, kept_at}
 use Rattle.core_admin.specs.Listings.{row_of as list_row_of, rows_behind as listed_behind}
 use Rattle.listing_views.specs.declared.chunk.Chunk.{Chunk}
 use Rattle.listing_views.specs.declared.listed.Listed as shown
@@ -97,10 +96,13 @@ forgotten_same snapshot None xs e = refl
 forgotten_same snapshot (Some Done) xs e = true_false e
 forgotten_same snapshot (Some r) xs e = refl
 
-pub listed_same : (act : Act) (o : Option Reply) (n : ℕ) (session : Session) (xs : List Listed) → (is_listing act && is_done o) ≡ false → listed_by act o n session xs ≡ xs
-listed_same (Plain Finish) o n session xs e = closed_same o n session xs e
-listed_same (Plain (Forget snapshot)) o n session xs e = forgotten_same snapshot o xs e
-listed_same act o n session xs e = refl
+same_on : (list : OnList) (o : Option Reply) (n : ℕ) (k : KeptAt) → (is_other_list list && is_done o) ≡ false → listed_on list o n k ≡ k.catalogue
+same_on same_list o n k e = refl
+same_on lists o n k e = closed_same o n k.session k.catalogue e
+same_on (takes_out snapshot) o n k e = forgotten_same snapshot o k.catalogue e
+
+pub listed_same : (act : Act) (o : Option Reply) (n : ℕ) (k : KeptAt) → (is_listing act && is_done o) ≡ false → listed_by act o n k ≡ k.catalogue
+listed_same act o n k e = same_on (profile act).list o n k e
 
 and_none : (a b : Bool) → b ≡ false → (a && b) ≡ false
 and_none true b e = e
@@ -109,9 +111,9 @@ and_none false b e = refl
 none_and : (a b : Bool) → a ≡ false → (a && b) ≡ false
 none_and a b e = ap (λ t. t && b) e
 
-module _ {D E C : Type 0} (old new : Core D E C) (lane : ℕ) (act : Act) (answer : Answer) (lists : Lists old new lane act answer) where
+module _ {D E C : Type 0} (old new : Core D E C) (lane : ℕ) (act : Act) (answer : Answer) (changed : Lists old new lane act answer) where
   left : (is_listing act && is_done answer.reply) ≡ false → IsActedOn old new act answer None
-  left quiet = (quiet, lists ∙ listed_same act answer.reply answer.place (session_at old.parts lane) (old.parts).catalogue.listed quiet)
+  left quiet = (quiet, changed ∙ listed_same act answer.reply answer.place (kept_at old.parts lane) quiet)
 
   -- it was not done
   pub acted_not : is_done answer.reply ≡ false → IsActedOn old new act answer None
@@ -122,7 +124,7 @@ module _ {D E C : Type 0} (old new : Core D E C) (lane : ℕ) (act : Act) (answe
   acted_done None none finished = left (none_and (is_listing act) (is_done answer.reply) none)
   acted_done (Some next) some finished =
       some answer.place
-      ∙ ap rows_of (ap (λ o. listed_by act o answer.place (session_at old.parts lane) (old.parts).catalogue.listed) (sym (done_is answer.reply finished)) ∙ sym lists)
+      ∙ ap rows_of (ap (λ o. listed_by act o answer.place (kept_at old.parts lane)) (sym (done_is answer.reply finished)) ∙ sym changed)
 
 -- ---- of what a call gives
 

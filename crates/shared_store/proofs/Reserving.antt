@@ -9,16 +9,17 @@ use Rattle.atime_book.specs.Touches.{NoneAfter}
 use Rattle.store_history.specs.LastTouches.{SameTouches}
 use Rattle.core_state.specs.declared.parts.Parts.{Parts}
 use Rattle.core_state.specs.declared.state.Core.{Core}
-use Rattle.core_state.specs.Chunks.{HoldsOnly}
+use Rattle.store_history.specs.ChunkFiles.{HoldsOnly}
 use Rattle.core_state.specs.Collectors.{open_in}
-use Rattle.core_state.specs.Foreign.{KeepsForeign}
+use Rattle.store_history.specs.Foreign.{KeepsForeign}
 use Rattle.core_state.specs.History.{History, KeepsTime, StandsFor, pieces_of, world}
 use Rattle.core_state.specs.Holds.{IsOnDisk, Shows}
 use Rattle.core_state.specs.KeepsTouches.{KeepsTouches, swept_of, touches_of_history}
 use Rattle.core_state.specs.Numbers.{AreNumbered}
 use Rattle.core_state.specs.Records.{Reaches, Records}
 use Rattle.core_state.specs.Recovers.{Recovers}
-use Rattle.core_state.specs.Remotes.{RemoteServes, RemoteStays, failed_reads, faults_of}
+use Rattle.core_state.specs.Remotes.{RemoteServes}
+use Rattle.store_history.specs.RemoteDisk.{RemoteStays, failed_reads, faults_of}
 use Rattle.core_state.specs.Sweeps.{ShowsOpen}
 use Rattle.core_state.specs.Upkeeps.{touches_kept}
 use Rattle.core_state.proofs.RemoteLemmas.{serves_then, stays_same}

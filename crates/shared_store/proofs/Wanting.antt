@@ -1,40 +1,30 @@
 -- A FINISH or a FORGET that is answered by want of memory before it is done.
-use Rattle.std.proofs.Common.{◌≡◌, ◌∙◌, ◌<◌, ℕ, true, false, List, Option, None, refl, sym, ap, subst, arith}
+use Rattle.std.proofs.Common.{◌≡◌, ◌∙◌, ◌<◌, ℕ, true, false, refl, sym, ap, subst}
 use Rattle.std.specs.Prelude.{IfSome}
 use Rattle.disk_trait.specs.declared.disk.Disk.{Ghosts}
 use Rattle.port_traits.specs.declared.clock.Clock as clocks
-use Rattle.store_types.specs.declared.order.TheConstants.{COMMAND_KIND, MEMORY_KIND}
 use Rattle.wire_commands.specs.declared.command.Command.TheVariants.{Finish, Forget}
 use Rattle.wire_commands.specs.HasText.{ReplyHasText}
 use Rattle.store_history.specs.declared.act.Act.{Act}
 use Rattle.store_history.specs.declared.act.Act.TheVariants.{Plain, Short}
 use Rattle.store_history.specs.declared.act.Answer.{Answer}
-use Rattle.store_history.specs.declared.act.Family.TheVariants.{Reads}
-use Rattle.store_history.specs.Acts.{IsWellFormed, class_of, family_of, stepping}
-use Rattle.core_state.specs.declared.collector.Collector.{Collector}
-use Rattle.core_state.specs.declared.kept.Listed.{Listed}
+use Rattle.store_history.specs.Acts.{IsWellFormed, class_of, stepping}
 use Rattle.core_state.specs.declared.kept.Session.{Session}
 use Rattle.core_state.specs.declared.state.Core.{Core}
 use Rattle.core_state.specs.declared.entering.Admitted.TheVariants.{Answered}
-use Rattle.core_state.specs.declared.indexes.Indexes.{Indexes}
-use Rattle.core_state.specs.Indexed.{row_at}
 use Rattle.core_state.specs.Applies.{ActApplies, ActKeeps}
 use Rattle.core_state.specs.Begins.{AdmittedHasText, IsNotShort, IsShort, Refuses, short}
 use Rattle.core_state.specs.Closing.{closes, is_closing}
-use Rattle.core_state.specs.Commands.{is_remotes}
-use Rattle.core_state.specs.Stops.{ended_by}
-use Rattle.core_state.specs.Unreadables.{TellsUnreadable}
+use Rattle.store_history.specs.RemoteDisk.{is_remotes}
+use Rattle.core_state.specs.Commands.{is_collectors}
 use Rattle.core_state.specs.Wanted.{session_at}
 use Rattle.core_state.proofs.Applying.{closes_none, refused_applies, refused_keeps_all}
 use Rattle.core_state.proofs.RemoteReads.{applies_beside}
+use Rattle.core_state.proofs.Telling.{refused_tells}
 use Rattle.core_state.proofs.Texts.{no_memory_has_text}
-use Rattle.shared_store.specs.AnsweredBy.{CoreAnswersBy}
 use Rattle.shared_store.specs.Applied.{HasApplied}
-use Rattle.shared_store.specs.Asked.{asked}
-use Rattle.shared_store.specs.Notes.{Notes}
 use Rattle.shared_store.specs.Views.{is_listing}
-use Rattle.shared_store.proofs.Answering.{no_open}
-use Rattle.shared_store.proofs.Damages.{short_asks_none, tells_whole}
+use Rattle.shared_store.specs.Words.{words_of}
 
 off : {P : Type 0} → false ≡ true → P
 off e = absurd (apart e)
@@ -59,41 +49,15 @@ at_home (Plain Finish) is = refl
 at_home (Plain (Forget snapshot)) is = refl
 at_home act is = off is
 
-no_reads : (act : Act) → is_listing act ≡ true → family_of act ≡ Reads → ⊥
-no_reads (Plain Finish) is reads = cc
-no_reads (Plain (Forget snapshot)) is reads = cc
-no_reads act is reads = off is
+uncollected : (act : Act) → is_listing act ≡ true → is_collectors act ≡ false
+uncollected (Plain Finish) is = refl
+uncollected (Plain (Forget snapshot)) is = refl
+uncollected act is = off is
 
 no_short : {P : Type 0} (act : Act) → is_listing act ≡ true → act ≡ Short → P
 no_short act is wants = off (sym (ap is_listing wants) ∙ is)
 
-asks_none : (row : Indexes) (act : Act) (lane : ℕ) (collector : Option Collector) (session : Session) (catalogue : List Listed) → is_listing act ≡ true → asked row act lane collector session catalogue ≡ None
-asks_none row (Plain Finish) lane collector session catalogue is = refl
-asks_none row (Plain (Forget snapshot)) lane collector session catalogue is = refl
-asks_none row act lane collector session catalogue is = off is
-
-no_command : {P : Type 0} (kind : ℕ) → kind ≡ MEMORY_KIND → kind ≡ COMMAND_KIND → P
-no_command kind two none = absurd (apart (sym two ∙ none))
-  where
-    apart : MEMORY_KIND ≡ COMMAND_KIND → ⊥
-    apart e = omega (arith, e)
-
 module _ {D E C : Type 0} (d : Ghosts D) (e : Ghosts E) (clock : clocks.Ghosts C) (old new : Core D E C) (lane : ℕ) (answer : Answer) (is : IsShort d clock.readings old new lane answer) where
-  kind : (answer.entry).kind ≡ MEMORY_KIND
-  kind = ap (λ x. x.kind) (is.entered).entry
-
-  -- no test of its own was made
-  answers : (act : Act) → is_listing act ≡ true → CoreAnswersBy d old new lane act answer
-  answers (Plain Finish) listing = off
-  answers (Plain (Forget snapshot)) listing = λ admin done. no_command (answer.entry).kind kind done
-  answers act listing = off listing
-
-  -- and nothing is noted
-  none_noted : (act : Act) → is_listing act ≡ true → Notes d old.parts new.parts lane act (ended_by answer.reply)
-  none_noted (Plain Finish) listing = tt
-  none_noted (Plain (Forget snapshot)) listing = tt
-  none_noted act listing = off listing
-
   pub wanted : (act : Act) → lane < 64 → IsWellFormed act → is_listing act ≡ true → HasApplied d e clock old new lane act answer
   wanted act lt formed listing =
       let refuses : Refuses d clock.readings old new lane answer = short is in
@@ -105,13 +69,8 @@ module _ {D E C : Type 0} (d : Ghosts D) (e : Ghosts E) (clock : clocks.Ghosts C
         applies = applies_beside d e clock old new lane act answer (at_home act listing) applies keeps;
         alone = λ alone. applies;
         keeps = keeps;
-        unreadable = λ alone.
-            subst (λ a. TellsUnreadable d (old.parts).disk a (answer.entry).kind answer.reply) (sym (asks_none (row_at old.parts lane) act lane old.collector (session_at old.parts lane) (old.parts).catalogue.listed listing))
-            (short_asks_none d old new (old.parts).disk answer (is.entered).reply_is);
-        damaged = λ alone. tells_whole d old new lane act answer (no_reads act listing) alone applies.cause;
-        from_state = answers act listing;
+        tells = λ alone. refused_tells (words_of act old.collector) d clock.readings old new lane answer refuses;
+        collects = λ collects. off (sym (uncollected act listing) ∙ collects);
         by_remote = λ remotes. off (sym (at_home act listing) ∙ remotes);
-        notes = none_noted act listing;
-        opened = no_open new lane act answer (no_reads act listing);
         short = no_short act listing;
       }

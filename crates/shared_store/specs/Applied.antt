@@ -9,20 +9,15 @@ use Rattle.store_history.specs.declared.act.Act.TheVariants.{Short}
 use Rattle.store_history.specs.declared.act.Answer.{Answer}
 use Rattle.store_history.specs.declared.act.Event.{Event}
 use Rattle.core_state.specs.declared.state.Core.{Core}
-use Rattle.core_state.specs.Indexed.{row_at}
 use Rattle.core_state.specs.Applies.{ActApplies, ActKeeps, CoreApplies}
-use Rattle.core_state.specs.Commands.{is_remotes}
+use Rattle.core_state.specs.Commands.{is_collectors}
+use Rattle.store_history.specs.RemoteDisk.{is_remotes, reads_remote}
 use Rattle.core_state.specs.History.{event_of}
-use Rattle.core_state.specs.Remotes.{reads_remote}
-use Rattle.core_state.specs.Stops.{ended_by}
-use Rattle.core_state.specs.Unreadables.{CoreUnreadable}
-use Rattle.core_reader.specs.Damages.{CoreDamaged}
-use Rattle.core_reader.specs.ReaderActs.{CoreOpens}
-use Rattle.core_remote.specs.RemoteActs.{RemoteGives}
-use Rattle.shared_store.specs.AnsweredBy.{CoreAnswersBy}
-use Rattle.shared_store.specs.Asked.{asked}
+use Rattle.core_state.specs.Tells.{CoreTells}
+use Rattle.core_remote.specs.RemoteActs.{RemoteGives, RemoteTells}
+use Rattle.core_collect.specs.Acts.{CoreAnswersBy}
 use Rattle.shared_store.specs.Comes.{ComesTo}
-use Rattle.shared_store.specs.Notes.{Notes}
+use Rattle.shared_store.specs.Words.{words_of}
 
 pub record HasApplied {D E C : Type 0} (d : Ghosts D) (e : Ghosts E) (clock : clocks.Ghosts C) (old new : Core D E C) (lane : ℕ) (act : Act) (answer : Answer) : Type 0 where
   -- the core stands for each history that it stood for with this act's event more, beside a remote that stands for that of the
@@ -33,19 +28,13 @@ pub record HasApplied {D E C : Type 0} (d : Ghosts D) (e : Ghosts E) (clock : cl
   -- what it leaves of disk, catalogue, sessions, reserve, and of what each lane keeps of indexes, by the act and its reply; what a crash
   -- leaves
   pub keeps : ActKeeps d old new lane act answer
-  -- of the store's own files and chunks; those of the remote see below
-  pub unreadable : is_remotes act ≡ false → CoreUnreadable d (asked (row_at old.parts lane) act lane old.collector) old lane answer
-  pub damaged : is_remotes act ≡ false → CoreDamaged d old lane act answer
-  -- on any disk and any remote OPEN_WRITER, OPEN_READER, the tests of a command on the store as a whole and of a read of the
-  -- remote, and a collector's acts answer what the core keeps; of FILES, whether there is such a snapshot. On an honest disk,
-  -- whatever it holds, FILES and a VERIFY's reads answer what stands there
-  pub from_state : CoreAnswersBy d old new lane act answer
-  -- of an honest remote, whatever it holds
-  pub by_remote : is_remotes act ≡ true → RemoteGives e old act answer
-  -- what the lane keeps of indexes then: a PREVIOUS, a RANGE and a VERIFY's read of a chunk alone change it, beside a session's end; and
-  -- what its session notes of an index that was downloaded
-  pub notes : Notes d old.parts new.parts lane act (ended_by answer.reply)
-  pub opened : CoreOpens new lane act answer
+  -- by its words, on any disk and beside any remote: what it answers, which file and chunk it tells to be unreadable or damaged, how often it
+  -- calls the disk, and what it leaves of what its lane keeps of indexes and notes
+  pub tells : is_remotes act ≡ false → CoreTells (words_of act old.collector) d old new lane answer
+  -- a collector's: what refuses it, which collector opens, goes on or ends
+  pub collects : is_collectors act ≡ true → CoreAnswersBy d old new lane act answer
+  -- on any remote: what refuses the read; and of an honest one, whatever it holds, what it gives
+  pub by_remote : is_remotes act ≡ true → RemoteTells old new lane act answer × RemoteGives e old act answer
   pub short : act ≡ Short → (answer.entry).kind ≡ MEMORY_KIND
 
 -- One act behind the turn: it found a core that had come to this history, and left it one that has come to that with the act's event more.

@@ -1,7 +1,7 @@
 -- What a core behind the turn stands for, on any disk.
 use Rattle.disk_trait.specs.declared.disk.Disk.{Ghosts}
 use Rattle.disk_trait.specs.Disk.{Rose}
-use Rattle.std.specs.Prelude.{ℕ, ◌≡◌, ◌≤◌, ◌<◌, ◌^◌, false, List, [], ◌∷◌, ◌++◌, length, map, Option, None, Some, IsSome}
+use Rattle.std.specs.Prelude.{ℕ, ◌≡◌, ◌≤◌, ◌<◌, ◌^◌, ◌↔◌, false, List, [], ◌∷◌, ◌++◌, length, map, Option, None, Some, IsSome}
 use Rattle.port_traits.specs.declared.clock.Clock as clocks
 use Rattle.turn_lock.specs.State.{SeatState, TableId}
 use Rattle.store_history.specs.declared.act.Event.{Event}
@@ -14,7 +14,8 @@ use Rattle.listing_views.specs.Rows.{rows_behind}
 use Rattle.store_types.specs.declared.names.SnapshotKey.{SnapshotKey}
 use Rattle.core_admin.specs.Listings.{rows_behind as listed_behind}
 use Rattle.shared_store.specs.Views.{AreQuiet, list_row, rows_of}
-use Rattle.core_state.specs.Records.{AreKept, Reaches, Records}
+use Rattle.core_state.specs.Records.{Reaches, Records}
+use Rattle.store_history.specs.Answered.{AreKept}
 
 -- the seat is of this turn, and does not have it
 abbrev pub CanAct : TableId → SeatState Event → Type 0
@@ -30,7 +31,7 @@ last_calls calls (v ∷ vs) = last_calls v.calls vs
 
 -- From a first core, which recorded a history without events, the core came to these events. Whatever history without events the first core
 -- recorded, the core reaches that one with these events: it records it, and stands for it where the first core stood for its own. The
--- disk has failed only where its count of faults rose, and was called by these events alone.
+-- disk has failed only where its count of faults rose, is honest where it was, and was called by these events alone.
 pub record ComesTo {D E C : Type 0} (d : Ghosts D) (e : Ghosts E) (clock : clocks.Ghosts C) (is_first : Core D E C → Type 0) (core : Core D E C) (events : List Event) : Type 0 where
   pub first : Core D E C
   pub is : is_first first
@@ -40,6 +41,7 @@ pub record ComesTo {D E C : Type 0} (d : Ghosts D) (e : Ghosts E) (clock : clock
   pub short : length events < 2 ^ 63
   pub entries_are : (core.journal).entries.items ≡ entries events
   pub reaches : (h : History) → Records clock.readings first h → h.events ≡ [] → Reaches d e clock.readings first h core (with_events h events)
+  pub kept : d.honest (first.parts).disk ↔ d.honest (core.parts).disk
   pub count : d.faults (first.parts).disk ≤ d.faults (core.parts).disk
   pub fault : IsSome core.fault → Rose (d.faults (first.parts).disk) (d.faults (core.parts).disk)
   pub at_rest : d.calls (core.parts).disk ≡ last_calls (d.calls (first.parts).disk) events

@@ -1,6 +1,4 @@
-pub mod Asked
-pub mod AnsweredBy
+pub mod Words
 pub mod Comes
-pub mod Notes
 pub mod Applied
 pub mod Views

@@ -8,20 +8,19 @@ use Rattle.std.specs.declared.vec.Vec.{Vec}
 use Rattle.left_right.specs.Sides.{view}
 use Rattle.turn_lock.specs.State.{SeatState}
 use Rattle.store_types.specs.Names.{key_text}
-use Rattle.wire_commands.specs.declared.command.Command.TheVariants.{Finish, Forget}
 use Rattle.wire_commands.specs.declared.rows.ListRow.{ListRow}
 use Rattle.wire_commands.specs.declared.reply.Reply.{Reply}
 use Rattle.wire_commands.specs.declared.reply.Reply.TheVariants.{Done}
 use Rattle.store_history.specs.declared.act.Act.{Act}
-use Rattle.store_history.specs.declared.act.Act.TheVariants.{Plain}
 use Rattle.store_history.specs.declared.act.Answer.{Answer}
 use Rattle.store_history.specs.declared.act.Event.{Event}
+use Rattle.store_history.specs.Profile.{is_other_list, profile}
 use Rattle.core_state.specs.declared.kept.Kept.{Kept}
 use Rattle.core_state.specs.declared.kept.Listed.{Listed}
 use Rattle.core_state.specs.declared.state.Core.{Core}
 use Rattle.core_state.specs.Catalogue.{listed_by}
-use Rattle.core_state.specs.Wanted.{session_at}
-use Rattle.core_admin.specs.Listings.{files_counted}
+use Rattle.core_state.specs.Kept.{kept_at}
+use Rattle.core_state.specs.ListedRows.{files_counted}
 use Rattle.listing_views.specs.declared.chunk.Chunk.{Chunk}
 use Rattle.listing_views.specs.declared.listed.Listed as shown
 use Rattle.listing_views.specs.declared.poster.Poster.{Poster}
@@ -45,11 +44,8 @@ posted poster = option_map (λ p. (view p.writer.desk.place, rows p.writer.desk.
 
 -- ---- acts that change the listing
 
--- a FINISH or a FORGET
 abbrev pub is_listing : Act → Bool
-is_listing (Plain Finish) = true
-is_listing (Plain (Forget snapshot)) = true
-is_listing act = false
+is_listing act = is_other_list (profile act).list
 
 abbrev pub is_done : Option Reply → Bool
 is_done (Some Done) = true
@@ -72,7 +68,7 @@ IsQuietFrom from to events = (k : ℕ) (e : Event) → from ≤ k → k < to →
 abbrev pub IsNextAfter : {D E C : Type 0} → Core D E C → ℕ → Act → Option (Arc (Vec (Arc Chunk Global) Global) Global) → Type 0
 IsNextAfter core lane act None = is_listing act ≡ false
 IsNextAfter core lane act (Some next) =
-    (place : ℕ) → all_rows (arc_value next).items ≡ rows_of (listed_by act (Some Done) place (session_at core.parts lane) (core.parts).catalogue.listed)
+    (place : ℕ) → all_rows (arc_value next).items ≡ rows_of (listed_by act (Some Done) place (kept_at core.parts lane))
 
 -- ---- notes
 

@@ -3,37 +3,27 @@
 ghost use Rattle.std.specs.Prelude.{◌≡◌, ◌≤◌, [], length, take, IfOk, IsTrue};
 ghost use Rattle.std.specs.List.{list_all};
 ghost use Rattle.left_right.specs.Sides.{view};
-ghost use Rattle.core_admin.specs.Listings.{files_counted};
 ghost use Rattle.listing_views.specs.Listings.{rows};
 ghost use Rattle.shared_store.specs.Comes.{IsFresh};
 ghost use Rattle.shared_store.specs.Views.{row_of as row_of_kept, rows_of as rows_of_all};
 
 use crate::known::{Came, Origin};
 use crate::view::Place;
-use core_state::{Core, Kept, Listed as Finished};
+use core_state::{Core, Kept, Listed as Finished, ListedRow};
 use disk_trait::Disk;
 use listing_views::{Listed, Poster, Viewer};
 use port_traits::Clock;
 use std::alloc::{AllocError, Global};
 use std::sync::Wait;
 
-/// How many files are told of a snapshot: of a damaged one none.
-fn file_count(kept: &Kept) -> u8
-    ensures { result ≡ files_counted kept.now }
-{
-    if kept.unreadable.is_some() {
-        return 0;
-    }
-    kept.files.as_slice().len().min(255) as u8
-}
-
 fn row_of(kept: &Kept) -> Result<Listed, AllocError>
     ensures { IfOk result (λ row. row ≡ row_of_kept kept.now) }
 {
+    let row = ListedRow::of(kept);
     Ok(Listed {
         key: kept.key.clone()?,
-        damaged: kept.unreadable.is_some(),
-        files: file_count(kept),
+        damaged: row.damaged,
+        files: row.files,
     })
 }
 

@@ -9,7 +9,7 @@ ghost use Rattle.listing_views.specs.Listings.{rows};
 ghost use Rattle.listing_views.specs.Rows.{all_rows};
 ghost use Rattle.shared_store.specs.Views.{IsNextAfter, is_done as is_done_by, is_listing, row_of as row_of_kept, rows_of};
 
-use core_state::{Act, Answer, Core, Session, Writing};
+use core_state::{Act, Answer, Core, ListedRow, Session, Writing};
 use listing_views::{Chunks, Listed, Listing};
 use std::alloc::{AllocError, Global};
 use std::sync::Arc;
@@ -20,10 +20,11 @@ use wire_commands::{Command, Reply};
 fn row_of(writing: &Writing) -> Result<Listed, AllocError>
     ensures { IfOk result (λ row. row ≡ row_of_kept (listed_of 0 writing.now).kept) }
 {
+    let row = ListedRow::whole(writing.files.as_slice());
     Ok(Listed {
         key: writing.session.key().clone()?,
-        damaged: false,
-        files: writing.files.as_slice().len().min(255) as u8,
+        damaged: row.damaged,
+        files: row.files,
     })
 }
 

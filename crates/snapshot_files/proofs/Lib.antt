@@ -23,3 +23,12 @@ pub mod Mapped
 pub mod Contents
 mod FileLists
 pub mod Loading
+pub mod Endings
+pub mod Slashes
+pub mod Telling
+pub mod Orphans
+pub mod Names
+pub mod Leavers
+pub mod Listed
+pub mod Answering
+pub mod Openings

@@ -7,3 +7,6 @@ pub mod Calls
 pub mod Scanned
 pub mod Standing
 pub mod Grouped
+pub mod Leaving
+pub mod Opened
+pub mod Removed

@@ -7,7 +7,7 @@ use Rattle.store_types.specs.declared.refusal.Refusal.{Refusal}
 use Rattle.store_types.specs.FileNames.{manifest_name}
 use Rattle.std.proofs.lemmas.List.{length-map, take_all}
 use Rattle.std.proofs.lemmas.List.Elements.{All-cons, All-filter, All-head, All-nil, All-tail, All-take}
-use Rattle.store_types.specs.Names.{IsKey, group_of, group_of_key, key_text, same_group}
+use Rattle.store_types.specs.Names.{IsKey, group_of_key, key_text, same_group}
 use Rattle.store_types.proofs.KeyLaws.{keys}
 use Rattle.store_files.specs.Archive.{Snapshot}
 use Rattle.wire_commands.specs.declared.command.Command.{Command}
@@ -16,7 +16,8 @@ use Rattle.wire_commands.specs.declared.reply.Reply.TheVariants.{Refused}
 use Rattle.store_model.specs.Job.{Pull, Asking, is_sync, beginning, sending, aborting as job_aborting, Job, asking}
 use Rattle.store_model.specs.Lanes.{sync}
 use Rattle.store_model.specs.Stands.{group_limit}
-use Rattle.store_model.specs.Store.{Store, session, want_idle, in_group, keys_in}
+use Rattle.store_model.specs.Store.{Store, in_group, keys_in}
+use Rattle.store_model.specs.Heads.{idle_group}
 use Rattle.store_model.specs.SyncJob.{is_later as job_later, next_command, next_snapshot, new_index}
 use Rattle.store_model.specs.AdminSteps.{group_texts}
 use Rattle.store_history.specs.Acts.{Class, stepping, reaching, class_of, act_of_command}
@@ -55,9 +56,8 @@ pub record Waits (R : Option (List Snapshot)) (s : Store) (k : ℕ) (p : Positio
   pub is : q ≡ bare p
   pub next : next_at (bare p) ≡ ahead (sync group left)
   pub there : R ≡ Some list
-  pub named : group_of group ≡ Some key
+  pub begins : idle_group s k group ≡ Ok key
   pub texts : remote ≡ texts_of (in_group key list)
-  pub idle : want_idle (session s k) ≡ Ok tt
 
 -- Its job is open.
 pub record Pulls (R : Option (List Snapshot)) (p : Position) (x : Pulling) (q : Position) : Type 0 where
@@ -177,18 +177,18 @@ asks_no_other (finishing c) h = h
 -- ---- after an answer
 
 -- the position that `weave` has goes on with the lane's own
-pub besides : (R : Option (List Snapshot)) (s : Store) (k : ℕ) (L : List Snapshot) (p : Position) (j : Asking) (next : SyncJob) (job : Job) (left : List ℕ) (is_out_of_memory is_spent : Bool)
+pub besides : (R : Option (List Snapshot)) (s : Store) (k : ℕ) (L : List Snapshot) (p : Position) (j : Asking) (next : SyncJob) (job : Job) (left : List ℕ) (is_spent : Bool)
     → R ≡ Some L → ShowsJob L next job
-    → Beside R s k (record (pulls_on p left next) { is_out_of_memory = is_out_of_memory; is_spent = is_spent }) (record (goes_on (shown p j) left job) { is_out_of_memory = is_out_of_memory; is_spent = is_spent })
+    → Beside R s k (record (pulls_on p left next) { is_unheld = false; is_spent = is_spent }) (record (goes_on (shown p j) left job) { is_unheld = false; is_spent = is_spent })
 unfolding pulls_on goes_on
-besides R s k L p j (reports r) job left is_out_of_memory is_spent there h =
-    ap (λ (y : Job). record (goes_on (shown p j) left y) { is_out_of_memory = is_out_of_memory; is_spent = is_spent }) h
-besides R s k L p j (asks x) job left is_out_of_memory is_spent there h =
+besides R s k L p j (reports r) job left is_spent there h =
+    ap (λ (y : Job). record (goes_on (shown p j) left y) { is_unheld = false; is_spent = is_spent }) h
+besides R s k L p j (asks x) job left is_spent there h =
     inr (record {
       list = L;
       job = h.0;
       there = there;
-      is = ap (λ (y : Job). record (goes_on (shown p j) left y) { is_out_of_memory = is_out_of_memory; is_spent = is_spent }) h.1;
+      is = ap (λ (y : Job). record (goes_on (shown p j) left y) { is_unheld = false; is_spent = is_spent }) h.1;
       shows = h.2;
     })
 

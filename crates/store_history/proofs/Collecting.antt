@@ -1,5 +1,5 @@
 -- What a lane's loop needs of its collector: where its acts lead.
-use Rattle.std.proofs.Common.{◌≡◌, ℕ, ◌-◌, Bool, true, false, ◌||◌, List, [], ◌∷◌, ◌++◌, length, Option, Some, None, refl, sym, ap, subst, ◌∙◌, ◌==◌, if◌then◌else◌}
+use Rattle.std.proofs.Common.{◌≡◌, ℕ, ◌-◌, Bool, true, false, ◌||◌, List, [], ◌∷◌, ◌++◌, length, Option, Some, None, sym, ap, subst, ◌∙◌, ◌==◌, if◌then◌else◌}
 use Rattle.store_types.specs.declared.order.TheConstants.{MEMORY_KIND, START_KIND}
 use Rattle.wire_commands.specs.declared.reply.Reply.{Reply}
 use Rattle.store_model.specs.Lanes.{collect, collecting}
@@ -8,48 +8,28 @@ use Rattle.store_history.specs.declared.act.Answer.{Answer}
 use Rattle.store_history.specs.declared.act.Event.{Event}
 use Rattle.store_history.specs.Acts.{class_of}
 use Rattle.store_history.specs.History.{kind, reply}
-use Rattle.store_history.specs.LaneRun.{Task, steps, pulls, sweeps, ahead, ahead_by, Position, next_at, tells, wants, heard_at, heard, Asks}
+use Rattle.store_history.specs.LaneRun.{Task, sweeps, ahead, ahead_by, Position, next_at, tells, heard_at, heard, Asks}
 use Rattle.store_history.specs.SoFar.{Follows, Leads}
 use Rattle.store_history.proofs.Growing.{leads_more}
+use Rattle.store_history.proofs.Unheld.{flagged}
 
 -- ---- what an answer leaves
 
-abbrev pub flag : Answer → Bool → Position → Position
-flag a b q = record q { is_out_of_memory = b; is_spent = a.last || q.is_spent }
-
--- where a GC is next, none is open
-wants_gc : (p : Position) (left : List ℕ) (n : ℕ) → next_at p ≡ ahead (collect left) → wants n p.task ≡ (n == MEMORY_KIND)
-unfolding next_at
-wants_gc p left n is = by_task p.task is
-  where
-    by_task : (t : Option Task) → ahead_by t (p.size - length p.left) p.left ≡ ahead (collect left) → wants n t ≡ (n == MEMORY_KIND)
-    by_task None is = refl
-    by_task (Some (steps i)) is = refl
-    by_task (Some (pulls x)) is = refl
-    by_task (Some (sweeps b)) is = cc
-
 -- a GC whose collector opens
 pub heard_start : (p : Position) (left : List ℕ) (a : Answer) → next_at p ≡ ahead (collect left) → a.reply ≡ None → (a.entry).kind ≡ START_KIND
-    → heard p a ≡ record p { left = left; task = Some (sweeps false); is_out_of_memory = false; is_spent = a.last || p.is_spent }
+    → heard p a ≡ record p { left = left; task = Some (sweeps false); is_unheld = false; is_spent = a.last || p.is_spent }
 unfolding heard heard_at
 heard_start p left a is none three =
-    ap (λ x. flag a (wants (a.entry).kind p.task) (heard_at p (a.entry).kind a.reply x)) is
-    ∙ ap (λ (x : Option Reply). flag a (wants (a.entry).kind p.task) (heard_at p (a.entry).kind x (ahead (collect left)))) none
-    ∙ ap (λ b. flag a b (heard_at p (a.entry).kind None (ahead (collect left)))) (wants_gc p left (a.entry).kind is)
-    ∙ ap (λ n. flag a (n == MEMORY_KIND) (heard_at p n None (ahead (collect left)))) three
+    ap (λ x. flagged a (heard_at p (a.entry).kind a.reply x)) is
+    ∙ ap (λ (x : Option Reply). flagged a (heard_at p (a.entry).kind x (ahead (collect left)))) none
+    ∙ ap (λ n. flagged a (heard_at p n None (ahead (collect left)))) three
 
 -- one that is refused, or for which memory was wanting
 pub heard_gc : (p : Position) (left : List ℕ) (a : Answer) (r : Reply) → next_at p ≡ ahead (collect left) → a.reply ≡ Some r
-    → heard p a ≡ record p { left = left; task = None; is_out_of_memory = (a.entry).kind == MEMORY_KIND; is_spent = a.last || p.is_spent; told = p.told ++ r ∷ [] }
+    → heard p a ≡ record p { left = left; task = None; is_unheld = false; is_spent = a.last || p.is_spent; told = p.told ++ r ∷ [] }
 unfolding heard heard_at
 heard_gc p left a r is says =
-    ap (λ x. flag a (wants (a.entry).kind p.task) (heard_at p (a.entry).kind a.reply x)) is
-    ∙ ap (λ (x : Option Reply). flag a (wants (a.entry).kind p.task) (heard_at p (a.entry).kind x (ahead (collect left)))) says
-    ∙ ap (λ b. flag a b (tells p left r)) (wants_gc p left (a.entry).kind is)
-
-wants_is : (n : ℕ) (b : Bool) → (n == 2) ≡ false → wants n (Some (sweeps b)) ≡ b
-wants_is n true h = refl
-wants_is n false h = h
+    ap (λ x. flagged a (heard_at p (a.entry).kind a.reply x)) is ∙ ap (λ (x : Option Reply). flagged a (heard_at p (a.entry).kind x (ahead (collect left)))) says
 
 pub next_collecting : (p : Position) (b : Bool) → p.task ≡ Some (sweeps b) → next_at p ≡ ahead (collecting b)
 unfolding next_at
@@ -57,14 +37,12 @@ next_collecting p b is = ap (λ (t : Option Task). ahead_by t (p.size - length p
 
 -- the collector's end, also by a fault
 pub heard_close : (p : Position) (b : Bool) (a : Answer) (r : Reply) → p.task ≡ Some (sweeps b) → a.reply ≡ Some r → ((a.entry).kind == MEMORY_KIND) ≡ false
-    → heard p a ≡ record p { task = None; is_out_of_memory = b; is_spent = a.last || p.is_spent; told = p.told ++ r ∷ [] }
+    → heard p a ≡ record p { task = None; is_unheld = false; is_spent = a.last || p.is_spent; told = p.told ++ r ∷ [] }
 unfolding heard heard_at
 heard_close p b a r on says other =
-    ap (λ x. flag a (wants (a.entry).kind p.task) (heard_at p (a.entry).kind a.reply x)) (next_collecting p b on)
-    ∙ ap (λ (x : Option Reply). flag a (wants (a.entry).kind p.task) (heard_at p (a.entry).kind x (ahead (collecting b)))) says
-    ∙ ap (λ (t : Option Task). flag a (wants (a.entry).kind t) (heard_at p (a.entry).kind (Some r) (ahead (collecting b)))) on
-    ∙ ap (λ t. flag a (wants (a.entry).kind (Some (sweeps b))) (if t then record p { task = Some (sweeps true) } else tells p p.left r)) other
-    ∙ ap (λ s. flag a s (tells p p.left r)) (wants_is (a.entry).kind b other)
+    ap (λ x. flagged a (heard_at p (a.entry).kind a.reply x)) (next_collecting p b on)
+    ∙ ap (λ (x : Option Reply). flagged a (heard_at p (a.entry).kind x (ahead (collecting b)))) says
+    ∙ ap (λ t. flagged a (if t then record p { task = Some (sweeps true) } else tells p p.left r)) other
 
 -- ---- one more act
 
@@ -77,20 +55,20 @@ follows_step p b v on asks = subst (λ c. Follows c p v) (sym (ap class_of asks)
 -- the lane's GC opened its collector
 pub leads_start : (vs : List Event) (p q : Position) (left : List ℕ) (v : Event) → Leads p vs q → q.is_spent ≡ false → next_at q ≡ ahead (collect left)
     → v.act ≡ acts.Start → reply v ≡ None → kind v ≡ START_KIND
-    → Leads p (vs ++ v ∷ []) (record q { left = left; task = Some (sweeps false); is_out_of_memory = false; is_spent = (v.answer).last || q.is_spent })
+    → Leads p (vs ++ v ∷ []) (record q { left = left; task = Some (sweeps false); is_unheld = false; is_spent = (v.answer).last || q.is_spent })
 leads_start vs p q left v led on is asks none three =
     subst (λ x. Leads p (vs ++ v ∷ []) x) (heard_start q left v.answer is none three) (leads_more vs p q v led (follows_start q left v on is asks))
 
 -- or was told something
 pub leads_gc : (vs : List Event) (p q : Position) (left : List ℕ) (v : Event) (r : Reply) → Leads p vs q → q.is_spent ≡ false → next_at q ≡ ahead (collect left)
     → v.act ≡ acts.Start → reply v ≡ Some r
-    → Leads p (vs ++ v ∷ []) (record q { left = left; task = None; is_out_of_memory = kind v == MEMORY_KIND; is_spent = (v.answer).last || q.is_spent; told = q.told ++ r ∷ [] })
+    → Leads p (vs ++ v ∷ []) (record q { left = left; task = None; is_unheld = false; is_spent = (v.answer).last || q.is_spent; told = q.told ++ r ∷ [] })
 leads_gc vs p q left v r led on is asks says =
     subst (λ x. Leads p (vs ++ v ∷ []) x) (heard_gc q left v.answer r is says) (leads_more vs p q v led (follows_start q left v on is asks))
 
 -- the collector's end
 pub leads_close : (vs : List Event) (p q : Position) (b : Bool) (v : Event) (r : Reply) → Leads p vs q → q.task ≡ Some (sweeps b) → v.act ≡ acts.Step → reply v ≡ Some r
     → (kind v == MEMORY_KIND) ≡ false
-    → Leads p (vs ++ v ∷ []) (record q { task = None; is_out_of_memory = b; is_spent = (v.answer).last || q.is_spent; told = q.told ++ r ∷ [] })
+    → Leads p (vs ++ v ∷ []) (record q { task = None; is_unheld = false; is_spent = (v.answer).last || q.is_spent; told = q.told ++ r ∷ [] })
 leads_close vs p q b v r led on asks says other =
     subst (λ x. Leads p (vs ++ v ∷ []) x) (heard_close q b v.answer r on says other) (leads_more vs p q v led (follows_step q b v on asks))

@@ -4,7 +4,7 @@ use Rattle.std.proofs.lemmas.Bool.{eq-eqb, eqb-true}
 use Rattle.store_types.specs.declared.refusal.Refusal.{Refusal}
 use Rattle.store_types.specs.declared.refusal.Refusal.TheVariants.{CollectorBusy}
 use Rattle.store_types.specs.Chain.Refusing.{◌>>=◌, if_none}
-use Rattle.store_model.specs.Store.{session, want_idle}
+use Rattle.store_model.specs.Heads.{idle_in}
 use Rattle.store_model.specs.Lanes.{Collecting, collects}
 use Rattle.store_model.specs.Weave.{want_collector}
 use Rattle.store_history.specs.Acts.{Class, sweeping}
@@ -110,4 +110,4 @@ none_open (Err refusal) c h = cc
 
 pub may_open_none : (w : World) (k : ℕ) → may_open w k ≡ Ok tt → w.collecting ≡ None
 unfolding want_collector
-may_open_none w k h = none_open (want_idle (session w.store k)) w.collecting h
+may_open_none w k h = none_open (idle_in w.store k) w.collecting h

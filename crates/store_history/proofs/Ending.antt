@@ -1,7 +1,7 @@
 -- What a lane's loop needs: what is next by the front of its input, what an answer leaves, and how the lane ends.
 -- `next_job`, `next_plain`, `next_bye`, `next_no_command`, `next_too_long`, `plain_act` and `leads_short` wait for several lanes: nothing names them yet.
 use Rattle.std.specs.Result.{is_ok}
-use Rattle.std.proofs.Common.{◌≡◌, ◌≢◌, ℕ, ◌-◌, Bool, true, false, ◌||◌, List, [], ◌∷◌, ◌++◌, length, Option, Some, None, Result, Ok, Err, refl, sym, ap, subst, ◌∙◌, arith, ◌==◌, if◌then◌else◌, is_none}
+use Rattle.std.proofs.Common.{◌≡◌, ◌≢◌, ℕ, ◌-◌, Bool, true, false, ◌&&◌, ◌||◌, List, [], ◌∷◌, ◌++◌, length, Option, Some, None, Result, Ok, Err, refl, sym, ap, subst, ◌∙◌, arith, ◌==◌, if◌then◌else◌, is_none}
 use Rattle.store_types.specs.declared.refusal.Refusal.{Refusal}
 use Rattle.store_types.specs.declared.refusal.Refusal.TheVariants.{BadFrame, TooLong}
 use Rattle.store_types.specs.declared.refusal.Refusal.TheVariants.{BadBlob as BadBlobOf}
@@ -23,25 +23,15 @@ use Rattle.store_history.specs.declared.act.Answer.{Answer}
 use Rattle.store_history.specs.declared.act.Event.{Event}
 use Rattle.store_history.specs.Acts.{IsPlain, IsChecked, IsWellFormed, check_blob, act_of_command, class_of}
 use Rattle.store_history.specs.History.{kind, reply}
-use Rattle.store_history.specs.LaneRun.{Task, steps, pulls, sweeps, Ahead, ahead, pull, ahead_by, job_in, Position, next_at, tells, goes_on, wants, heard_at, heard, heard_as, last_words, end_faulted, end_heard, position_after, Asks, may_want, IsShut, EndsSo, Does, Runs}
+use Rattle.store_history.specs.LaneRun.{Task, Ahead, ahead, pull, ahead_by, job_in, Position, next_at, goes_on, heard_at, heard, heard_as, last_words, end_faulted, end_heard, position_after, Asks, may_want, IsShut, EndsSo, Does, Runs}
 use Rattle.store_history.specs.SoFar.{goes_further, Follows, Leads}
 use Rattle.store_history.proofs.Checking.{is_checked_chunk}
 use Rattle.store_history.proofs.Events.{command_class}
 use Rattle.store_history.proofs.Growing.{leads_more, heard_at_over}
-use Rattle.store_history.proofs.Placed.{sweep_in, open_at, open_is}
+use Rattle.store_history.proofs.Unheld.{flagged}
 use Rattle.store_history.proofs.Wanting.{may_on, wants_frame}
 
 -- ---- what is next
-
--- where what is next is no act of a collector, the lane's is not open
-pub wants_shut : (p : Position) (x : Ahead) (n : ℕ) → next_at p ≡ x → open_at x ≡ None → wants n p.task ≡ (n == MEMORY_KIND)
-wants_shut p x n is shut = by_task p.task (sym (open_is p) ∙ ap open_at is ∙ shut)
-  where
-    by_task : (t : Option Task) → sweep_in t ≡ None → wants n t ≡ (n == MEMORY_KIND)
-    by_task None none = refl
-    by_task (Some (steps j)) none = refl
-    by_task (Some (pulls y)) none = refl
-    by_task (Some (sweeps b)) none = cc
 
 -- where nothing is open
 pub next_is : (p : Position) (f : InputFront) → p.task ≡ None → front p.left ≡ f → next_at p ≡ ahead (front_next (p.size - length p.left) f)
@@ -153,25 +143,20 @@ is_formed c h = tt
 -- ---- one more command
 
 pub heard_plain : (p : Position) (c : Command) (left : List ℕ) (a : Answer) (r : Reply) → next_at p ≡ ahead (plain c left) → a.reply ≡ Some r
-    → heard p a ≡ record p { left = left; task = None; is_out_of_memory = (a.entry).kind == MEMORY_KIND; is_spent = a.last || p.is_spent; told = p.told ++ r ∷ [] }
+    → heard p a ≡ record p { left = left; task = None; is_unheld = false; is_spent = a.last || p.is_spent; told = p.told ++ r ∷ [] }
 unfolding heard heard_at
 heard_plain p c left a r is says =
-    let flag : Bool → Position → Position = λ b q. record q { is_out_of_memory = b; is_spent = a.last || q.is_spent } in
-    ap (λ x. flag (wants (a.entry).kind p.task) (heard_at p (a.entry).kind a.reply x)) is
-    ∙ ap (λ (x : Option Reply). flag (wants (a.entry).kind p.task) (heard_at p (a.entry).kind x (ahead (plain c left)))) says
-    ∙ ap (λ b. flag b (tells p left r)) (wants_shut p (ahead (plain c left)) (a.entry).kind is refl)
+    ap (λ x. flagged a (heard_at p (a.entry).kind a.reply x)) is ∙ ap (λ (x : Option Reply). flagged a (heard_at p (a.entry).kind x (ahead (plain c left)))) says
 
 -- what is no command is used up
 pub heard_broken : (p : Position) (refusal : Refusal) (a : Answer) (r : Reply) → next_at p ≡ ahead (broken refusal) → a.reply ≡ Some r → (a.entry).kind ≡ MEMORY_KIND
-    → heard p a ≡ record p { left = []; task = None; is_out_of_memory = true; is_spent = true; told = p.told ++ r ∷ [] }
+    → heard p a ≡ record p { left = []; task = None; is_unheld = false; is_spent = true; told = p.told ++ r ∷ [] }
 unfolding heard heard_at
 heard_broken p refusal a r is says two =
-    let flag : Bool → Position → Position = λ b q. record q { is_out_of_memory = b; is_spent = a.last || q.is_spent } in
-    ap (λ x. flag (wants (a.entry).kind p.task) (heard_at p (a.entry).kind a.reply x)) is
-    ∙ ap (λ (x : Option Reply). flag (wants (a.entry).kind p.task) (heard_at p (a.entry).kind x (ahead (broken refusal)))) says
-    ∙ ap (λ b. flag b (heard_at p (a.entry).kind (Some r) (ahead (broken refusal)))) (wants_shut p (ahead (broken refusal)) (a.entry).kind is refl)
-    ∙ ap (λ n. flag (n == MEMORY_KIND) (heard_at p n (Some r) (ahead (broken refusal)))) two
-    ∙ ap (λ b. record p { left = []; task = None; is_out_of_memory = true; is_spent = b; told = p.told ++ r ∷ [] }) (or_true a.last)
+    ap (λ x. flagged a (heard_at p (a.entry).kind a.reply x)) is
+    ∙ ap (λ (x : Option Reply). flagged a (heard_at p (a.entry).kind x (ahead (broken refusal)))) says
+    ∙ ap (λ n. flagged a (heard_at p n (Some r) (ahead (broken refusal)))) two
+    ∙ ap (λ b. record p { left = []; task = None; is_unheld = false; is_spent = b; told = p.told ++ r ∷ [] }) (or_true a.last)
   where
     or_true : (b : Bool) → (b || true) ≡ true
     or_true true = refl
@@ -185,7 +170,7 @@ follows_command p c left v on is asks =
 -- the lane went on by a command, which was answered
 pub leads_command : (vs : List Event) (p q : Position) (c : Command) (left : List ℕ) (v : Event) (r : Reply) → Leads p vs q → q.is_spent ≡ false
     → next_at q ≡ ahead (plain c left) → v.act ≡ act_of_command c → reply v ≡ Some r
-    → Leads p (vs ++ v ∷ []) (record q { left = left; task = None; is_out_of_memory = kind v == MEMORY_KIND; is_spent = (v.answer).last || q.is_spent; told = q.told ++ r ∷ [] })
+    → Leads p (vs ++ v ∷ []) (record q { left = left; task = None; is_unheld = false; is_spent = (v.answer).last || q.is_spent; told = q.told ++ r ∷ [] })
 leads_command vs p q c left v r led on is asks says =
     subst (λ x. Leads p (vs ++ v ∷ []) x) (heard_plain q c left v.answer r is says) (leads_more vs p q v led (follows_command q c left v on is asks))
 
@@ -193,10 +178,14 @@ leads_command vs p q c left v r led on is asks says =
 
 -- memory was wanting, for a frame that is no command or not yet known
 pub short_runs : (e : Ending) (q : Position) (v : Event) (vs : List Event) (told : List Reply) → q.is_over ≡ false → q.is_spent ≡ false → q.task ≡ None → may_want q.left ≡ true
-    → v.act ≡ acts.Short → Runs e (heard q v.answer) vs told → Runs e q (v ∷ vs) told
+    → v.act ≡ acts.Short → kind v ≡ MEMORY_KIND → Runs e (record (heard q v.answer) { is_unheld = true }) vs told → Runs e q (v ∷ vs) told
 unfolding position_after
-short_runs e q v vs told off on none may asks runs =
-    subst (λ c. (q.is_over ≡ false) × Does c e q v vs × Runs e (heard_as c e q v.answer) vs told) (sym (ap class_of asks)) (off, (on, wants_frame q none may), runs)
+short_runs e q v vs told off on none may asks two runs =
+    subst (λ c. (q.is_over ≡ false) × Does c e q v vs × Runs e (heard_as c e q v.answer) vs told) (sym (ap class_of asks))
+    (off, (on, wants_frame q none may), subst (λ b. Runs e (record (heard q v.answer) { is_unheld = b }) vs told) (sym is_unheld) runs)
+  where
+    is_unheld : (is_none q.task && (kind v == MEMORY_KIND)) ≡ true
+    is_unheld = ap (λ (t : Option Task). is_none t && (kind v == MEMORY_KIND)) none ∙ ap (λ n. n == MEMORY_KIND) two
 
 -- the lane's end
 pub end_runs : (e : Ending) (q : Position) (v : Event) → q.is_over ≡ false → IsShut q.task → v.act ≡ acts.End → kind v ≡ END_KIND → EndsSo e q (next_at q)

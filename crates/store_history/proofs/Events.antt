@@ -15,7 +15,9 @@ use Rattle.store_model.specs.WriterSteps.{put_blob, checked_blob, want_data}
 use Rattle.store_model.specs.ArchiveSteps.{put_chunk, checked_chunk}
 use Rattle.std.specs.List.{last_or}
 use Rattle.store_model.specs.Stands.{group_limit}
-use Rattle.store_model.specs.Store.{Store, ended, session, want_idle, in_group, keys_in}
+use Rattle.store_model.specs.Store.{Store, ended, in_group, keys_in}
+use Rattle.store_model.specs.Heads.{idle_group}
+use Rattle.store_model.proofs.HeadLemmas.{idle_group_found}
 use Rattle.store_model.specs.Steps.{outcome, answered, step}
 use Rattle.store_types.specs.declared.names.GroupKey.{GroupKey}
 use Rattle.store_types.specs.Names.{group_of}
@@ -34,7 +36,7 @@ use Rattle.store_history.specs.declared.act.Act.TheVariants as acts
 use Rattle.store_history.specs.declared.act.Answer.{Answer}
 use Rattle.store_history.specs.declared.act.Event.{Event}
 use Rattle.blob_codec.specs.Blob.{data_of}
-use Rattle.store_types.specs.declared.refusal.Refusal.TheVariants.{BadBlob, BadName, NoRemote, RemoteFault}
+use Rattle.store_types.specs.declared.refusal.Refusal.TheVariants.{BadBlob, NoRemote, RemoteFault}
 use Rattle.store_types.specs.declared.order.TheConstants.{FAULT_KIND}
 use Rattle.store_history.specs.Acts.{act_of_command, act_of_step, check_blob, Class, stepping, reaching, starting, sweeping, wanting, ending, class_of}
 use Rattle.store_history.specs.History.{World, open_on, new_collecting, cut_on, halted_on, data_in, act_outcome, moved, EntryKind, kind_of, step_kind, pass_kind, short_kind, start_kind, close_kind, fault_kind, end_kind, remote_kind, no_kind, lane, moment, kind, reply}
@@ -212,21 +214,20 @@ reads_of (Some L) group r h = h
 
 module _ (from : GroupKey → List Snapshot → List Snapshot) where
   -- where all its tests pass, the group is named and there is a remote
-  pub tests_pass : (idle : Result (Unit {0}) Refusal) (group : Option GroupKey) (R : Option (List Snapshot))
-      → (idle >>= λ _. or_else BadName group >>= λ g. or_else NoRemote R >>= λ snapshots. Ok (from g snapshots)) >>= (λ x. fine) ≡ fine
-      → (idle ≡ fine) × ((g : GroupKey) × (group ≡ Some g)) × ((L : List Snapshot) × (R ≡ Some L))
-  tests_pass (Err refusal) group R h = cc
-  tests_pass (Ok done) None R h = cc
-  tests_pass (Ok done) (Some g) None h = cc
-  tests_pass (Ok tt) (Some g) (Some L) h = (refl, (g, refl), (L, refl))
+  pub tests_pass : (group : Result GroupKey Refusal) (R : Option (List Snapshot))
+      → (group >>= λ g. or_else NoRemote R >>= λ snapshots. Ok (from g snapshots)) >>= (λ x. fine) ≡ fine
+      → ((g : GroupKey) × (group ≡ Ok g)) × ((L : List Snapshot) × (R ≡ Some L))
+  tests_pass (Err refusal) R h = cc
+  tests_pass (Ok g) None h = cc
+  tests_pass (Ok g) (Some L) h = ((g, refl), (L, refl))
 
 -- what the remote has of it
 pub keys_told : (R : Option (List Snapshot)) (s : Store) (k : ℕ) (group : List ℕ) (r : Option Reply) → may_read R s k (acts.RemoteList (commands.Sync group)) ≡ Ok tt
     → ReadsIn R (acts.RemoteList (commands.Sync group)) r → (texts : List (List ℕ)) × (r ≡ Some (Keys texts))
 unfolding to_pull
 keys_told R s k group r may reads =
-    let h = tests_pass (λ g snapshots. filter (is_later (last_or None (take group_limit (keys_in g s.snapshots)))) (in_group g snapshots)) (want_idle (session s k)) (group_of group) R may in
-    by_list R (group_of group) h.1.0 h.2.0 h.1.1 h.2.1 (reads_of R group r reads)
+    let h = tests_pass (λ g snapshots. filter (is_later (last_or None (take group_limit (keys_in g s.snapshots)))) (in_group g snapshots)) (idle_group s k group) R may in
+    by_list R (group_of group) h.0.0 h.1.0 (idle_group_found s k group h.0.0 h.0.1).1 h.1.1 (reads_of R group r reads)
   where
     by_list : (o : Option (List Snapshot)) (n : Option GroupKey) (g : GroupKey) (L : List Snapshot) → n ≡ Some g → o ≡ Some L
         → ReadsOf o n r → (texts : List (List ℕ)) × (r ≡ Some (Keys texts))
@@ -773,7 +774,9 @@ module _ (R : Option (List Snapshot)) (w : World) (ps : List Position) (k m : �
         → enter (x.entry).kind ≡ Some (run_of R (moved R w k m a (kind_of (x.entry).kind)) (slice_set ps k (heard_as (class_of a) e p x)))
     acted acts.End x v vs idle is does cut right = over (x.entry).kind x.reply does.2 does.0 cut right
     acted acts.Short x v vs idle is does cut right =
-        wanted (x.entry).kind x.reply idle does.1 right ∙ ap Some (heard_is (moved R w k m acts.Short (kind_of (x.entry).kind)) x idle)
+        wanted (x.entry).kind x.reply idle does.1 right
+        ∙ ap Some (heard_is (moved R w k m acts.Short (kind_of (x.entry).kind)) x idle
+        ∙ same_lane R (moved R w k m acts.Short (kind_of (x.entry).kind)) ps k (heard p x) (heard_as wanting e p x) refl)
     acted acts.Start x v vs idle is does cut right =
         asked (x.entry).kind acts.Start x.reply (asks_here v acts.Start idle is does.1) cut right
         ∙ ap Some (heard_is (moved R w k m acts.Start (kind_of (x.entry).kind)) x idle)

@@ -23,7 +23,7 @@ use Rattle.store_history.specs.History.{Opening, World, act_outcome, moved, afte
 use Rattle.store_history.specs.Legal.{IsLegal, IsRight, closes}
 use Rattle.store_types.specs.FileNames.{manifest_name}
 use Rattle.store_history.specs.Pulling.{Pulling, next_snapshot as next_pulled, sought, compared, started, manifest_told, take}
-use Rattle.store_history.specs.LaneRun.{LaneRan, text, next_at, goes_on, pulls_on, heard_at, heard, last_words, position_after, may_want, may_want_at}
+use Rattle.store_history.specs.LaneRun.{Task, LaneRan, text, next_at, goes_on, pulls_on, heard_at, heard, last_words, position_after, may_want, may_want_at}
 
 abbrev event : Act → ℕ → Option Reply → ℕ → Bool → Event
 event a kind r place last = record { act = a; answer = record { reply = r; entry = record { lane = 0; moment = 5; kind = kind }; place = place; last = last }; calls = 3 }
@@ -256,11 +256,14 @@ verify_cut : LaneRan (sent (Verify [] ∷ Finish ∷ [])) endings.NoMemory
 unfolding on_histories
 verify_cut = (refl, (refl, refl), (refl, (refl, refl), (refl, (refl, refl), (refl, ((refl, refl), (λ five. cc), tt), (refl, refl)))))
 
+none_open : (t : Task) → Some t ≡ None → ⊥
+none_open t e = cc
+
 -- it does not end with its reader open
 not_left_reading : LaneRan (sent (Verify [] ∷ Finish ∷ [])) endings.NoMemory
     (opens_reader ∷ event (acts.Plain (FilesOf [])) 2 short 1 true ∷ end 2 ∷ []) [] → ⊥
 unfolding on_histories
-not_left_reading ran = let is : true ≡ false = ((((ran.2).2).1).0).1 in cc
+not_left_reading ran = none_open _ ((((ran.2).2).1).0).1
 
 -- no memory is wanting for the step that closes its reader
 not_short_closing : LaneRan (sent (Verify [] ∷ Finish ∷ [])) endings.NoMemory

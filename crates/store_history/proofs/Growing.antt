@@ -1,5 +1,5 @@
 -- What a lane did stays as it is while more of its input comes, and goes on to a run of its program.
-use Rattle.std.proofs.Common.{◌≡◌, ℕ, ◌+◌, ◌-◌, ◌≤◌, Bool, true, false, ◌&&◌, ◌||◌, List, [], ◌∷◌, ◌++◌, length, take, Option, Some, None, is_none, refl, sym, ap, subst, ◌∙◌, arith, if◌then◌else◌, ◌==◌, nat_le}
+use Rattle.std.proofs.Common.{◌≡◌, ℕ, ◌+◌, ◌-◌, ◌≤◌, Bool, true, false, ◌&&◌, ◌||◌, List, [], ◌∷◌, ◌++◌, length, take, Option, Some, None, refl, sym, ap, subst, ◌∙◌, arith, if◌then◌else◌, ◌==◌, nat_le}
 use Rattle.std.specs.Int.{w32, from_le_bytes}
 use Rattle.std.proofs.lemmas.List.{take-append-le, length-append}
 use Rattle.std.proofs.lemmas.Bool.{eqb-true}
@@ -12,16 +12,17 @@ use Rattle.wire_commands.specs.declared.reply.Reply.{Reply}
 use Rattle.wire_commands.specs.CommandText.{command_of}
 use Rattle.wire_commands.specs.Inputs.{InputFront, nothing, next, over_limit, no_command, front, cut_front, body_front}
 use Rattle.store_model.specs.declared.ending.Ending.{Ending}
-use Rattle.store_model.specs.Job.{Asking, Job, over, asking}
+use Rattle.store_model.specs.Job.{Job, over, asking}
 use Rattle.store_model.specs.Jobs.{take as job_take}
 use Rattle.store_model.specs.Lanes.{Next, job_step, plain, sync, collect, collecting, bye, broken, end, front_next, command_next}
 use Rattle.store_history.specs.declared.act.Answer.{Answer}
 use Rattle.store_history.specs.declared.act.Event.{Event}
 use Rattle.store_history.specs.Acts.{Class, stepping, reaching, starting, sweeping, wanting, ending, class_of}
-use Rattle.store_history.specs.LaneRun.{Task, steps, pulls, sweeps, Ahead, ahead, pull, pull_ahead, ahead_by, Position, next_at, tells, wants, wants_by, heard_at, heard, heard_as, goes_on, pulls_on, used_up, position_after, Asks, may_want, may_want_at, Does, Runs}
+use Rattle.store_history.specs.LaneRun.{Task, steps, pulls, sweeps, Ahead, ahead, pull, pull_ahead, ahead_by, Position, next_at, tells, wants_by, heard_at, heard, goes_on, pulls_on, used_up, position_after, Asks, may_want, may_want_at, Does, Runs}
 use Rattle.store_history.specs.Pulling as model
 use Rattle.store_history.specs.Pulling.{Pulling, comparing, SyncJob, sought, take as pull_take}
 use Rattle.store_history.specs.SoFar.{goes_further, Follows, Leads, grown}
+use Rattle.store_history.proofs.Unheld.{flagged, follows_runs}
 
 -- ---- a command stays at the front
 
@@ -143,8 +144,7 @@ heard_at_grown more p n r (ahead end) h = cc
 heard_stays : (more : List ℕ) (p : Position) (a : Answer) → goes_further (next_at p) ≡ true → heard (grown more p) a ≡ grown more (heard p a)
 unfolding heard
 heard_stays more p a h =
-    let flag : Position → Position = λ q. record q { is_out_of_memory = wants (a.entry).kind p.task; is_spent = a.last || q.is_spent } in
-    ap (λ x. flag (heard_at (grown more p) (a.entry).kind a.reply x)) (next_stays more p h) ∙ ap flag (heard_at_grown more p (a.entry).kind a.reply (next_at p) h)
+    ap (λ x. flagged a (heard_at (grown more p) (a.entry).kind a.reply x)) (next_stays more p h) ∙ ap (flagged a) (heard_at_grown more p (a.entry).kind a.reply (next_at p) h)
 
 asks_grown : (more : List ℕ) (x : Ahead) (v : Event) → Asks x v.act → Asks (next_grown more x) v.act
 unfolding next_grown
@@ -346,10 +346,6 @@ follows_does sweeping e p v vs h = h
 follows_does wanting e p v vs h = (h.0, h.1)
 follows_does ending e p v vs h = absurd h
 
-follows_heard : (c : Class) (e : Ending) (p : Position) (v : Event) → Follows c p v → heard_as c e p v.answer ≡ heard p v.answer
-follows_heard ending e p v h = absurd h
-follows_heard c e p v h = refl
-
 -- what was done so far, and a run from there on, are a run
 pub leads_runs : (e : Ending) (vs us : List Event) (p q : Position) (told : List Reply) → p.is_over ≡ false → Leads p vs q → Runs e q us told → Runs e p (vs ++ us) told
 unfolding position_after
@@ -357,6 +353,5 @@ leads_runs e [] us p q told off h runs = subst (λ x. Runs e x us told) (sym h) 
 leads_runs e (v ∷ vs) us p q told off h runs = (
   off,
   follows_does (class_of v.act) e p v (vs ++ us) h.0,
-  subst (λ x. Runs e x (vs ++ us) told) (sym (follows_heard (class_of v.act) e p v h.0))
-      (leads_runs e vs us (heard p v.answer) q told (heard_over p v.answer ∙ off) h.1 runs),
+  follows_runs (class_of v.act) e p v (vs ++ us) told h.0 (leads_runs e vs us (heard p v.answer) q told (heard_over p v.answer ∙ off) h.1 runs),
 )

@@ -1,6 +1,6 @@
 -- What a lane's loop needs of a job: the acts that it makes, and where each step of it leads.
 -- `leads_step` and `leads_step_short` wait for several lanes: nothing names them yet.
-use Rattle.std.proofs.Common.{◌≡◌, ℕ, ◌+◌, ◌-◌, Bool, true, false, not, ◌||◌, List, [], ◌∷◌, ◌++◌, length, nat_lt, Option, Some, None, refl, sym, ap, subst, ◌∙◌, ◌==◌, if◌then◌else◌}
+use Rattle.std.proofs.Common.{◌≡◌, ℕ, ◌+◌, ◌-◌, Bool, true, false, ◌||◌, List, [], ◌∷◌, ◌++◌, length, nat_lt, Option, Some, None, refl, sym, ap, subst, ◌∙◌, ◌==◌, if◌then◌else◌}
 use Rattle.std.specs.Option.{option_or}
 use Rattle.wire_commands.specs.declared.command.Command.{Command}
 use Rattle.wire_commands.specs.declared.command.Command.TheVariants as commands
@@ -11,7 +11,6 @@ use Rattle.wire_commands.specs.declared.rows.PruneRow.{PruneRow}
 use Rattle.store_types.specs.declared.names.Keep.{Keep}
 use Rattle.store_types.specs.declared.refusal.Refusal.{Refusal}
 use Rattle.store_types.specs.declared.refusal.Refusal.TheVariants.{SnapshotBusy, NoSnapshot, Damaged, Unreadable, NoMemory, RemoteFault, DiskFault, Halted}
-use Rattle.store_types.specs.declared.order.TheConstants.{MEMORY_KIND}
 use Rattle.wire_commands.specs.declared.rows.FileRow.{FileRow}
 use Rattle.wire_commands.specs.declared.rows.FileFault.{FileFault}
 use Rattle.wire_commands.specs.declared.rows.FileFault.TheVariants as faults
@@ -28,10 +27,11 @@ use Rattle.store_history.specs.declared.act.Event.{Event}
 use Rattle.store_history.specs.Acts.{IsWellFormed, act_of_step, class_of}
 use Rattle.store_history.specs.Begun.{IsBegun}
 use Rattle.store_history.specs.History.{kind, reply}
-use Rattle.store_history.specs.LaneRun.{Task, steps, pulls, sweeps, ahead, ahead_by, Position, next_at, goes_on, wants, heard_at, heard, Asks, is_stopping, may_want_at, may_step}
+use Rattle.store_history.specs.LaneRun.{steps, ahead, Position, next_at, goes_on, heard_at, heard, Asks, is_stopping, may_want_at, may_step}
 use Rattle.store_history.specs.SoFar.{goes_further, Follows, Leads}
 use Rattle.store_history.proofs.Events.{step_class}
 use Rattle.store_history.proofs.Growing.{goes_on_spent, leads_more}
+use Rattle.store_history.proofs.Unheld.{flagged}
 use Rattle.store_history.proofs.Wanting.{wants_open}
 
 -- ---- the acts of its steps
@@ -170,56 +170,43 @@ step_formed j h = absurd h
 -- ---- one more step of a job
 
 -- the lane where its job has come to this, and so much of its input is left
-abbrev pub at_job : Position → List ℕ → Job → Bool → Bool → Position
-at_job p left j is_out_of_memory is_spent = record (goes_on p left j) { is_out_of_memory = is_out_of_memory; is_spent = is_spent }
-
--- what a job's step is next, no collector is open
-wants_step : (p : Position) (j : Asking) (left : List ℕ) (n : ℕ) → next_at p ≡ ahead (job_step j left) → wants n p.task ≡ (n == MEMORY_KIND)
-unfolding next_at
-wants_step p j left n is = by_task p.task is
-  where
-    by_task : (t : Option Task) → ahead_by t (p.size - length p.left) p.left ≡ ahead (job_step j left) → wants n t ≡ (n == MEMORY_KIND)
-    by_task None is = refl
-    by_task (Some (steps i)) is = refl
-    by_task (Some (pulls x)) is = refl
-    by_task (Some (sweeps b)) is = cc
+abbrev pub at_job : Position → List ℕ → Job → Bool → Position
+at_job p left j is_spent = record (goes_on p left j) { is_unheld = false; is_spent = is_spent }
 
 pub heard_job : (p : Position) (j : Asking) (left : List ℕ) (a : Answer) (r : Reply) → next_at p ≡ ahead (job_step j left) → a.reply ≡ Some r
-    → heard p a ≡ at_job p left (job_take j r) ((a.entry).kind == MEMORY_KIND) (a.last || p.is_spent)
+    → heard p a ≡ at_job p left (job_take j r) (a.last || p.is_spent)
 unfolding heard heard_at
 heard_job p j left a r is says =
-    let flag : Bool → Position → Position = λ b q. record q { is_out_of_memory = b; is_spent = a.last || q.is_spent } in
-    ap (λ x. flag (wants (a.entry).kind p.task) (heard_at p (a.entry).kind a.reply x)) is
-    ∙ ap (λ (x : Option Reply). flag (wants (a.entry).kind p.task) (heard_at p (a.entry).kind x (ahead (job_step j left)))) says
-    ∙ ap (λ b. flag b (goes_on p left (job_take j r))) (wants_step p j left (a.entry).kind is)
-    ∙ ap (λ b. at_job p left (job_take j r) ((a.entry).kind == MEMORY_KIND) (a.last || b)) (goes_on_spent p left (job_take j r))
+    ap (λ x. flagged a (heard_at p (a.entry).kind a.reply x)) is
+    ∙ ap (λ (x : Option Reply). flagged a (heard_at p (a.entry).kind x (ahead (job_step j left)))) says
+    ∙ ap (λ b. at_job p left (job_take j r) (a.last || b)) (goes_on_spent p left (job_take j r))
 
 -- where it goes on, its next step is next, and memory may be wanting, unless it is stopping
-pub at_job_next : (p : Position) (left : List ℕ) (j : Asking) (s b : Bool) → next_at (at_job p left (asking j) s b) ≡ ahead (job_step j left)
+pub at_job_next : (p : Position) (left : List ℕ) (j : Asking) (b : Bool) → next_at (at_job p left (asking j) b) ≡ ahead (job_step j left)
 unfolding goes_on next_at
-at_job_next p left j s b = refl
+at_job_next p left j b = refl
 
-pub at_job_wants : (p : Position) (left : List ℕ) (j : Asking) (s b : Bool) → is_stopping j ≡ false → may_want_at (at_job p left (asking j) s b) ≡ true
+pub at_job_wants : (p : Position) (left : List ℕ) (j : Asking) (b : Bool) → is_stopping j ≡ false → may_want_at (at_job p left (asking j) b) ≡ true
 unfolding goes_on
-at_job_wants p left j s b on = wants_open (at_job p left (asking j) s b) j refl on
+at_job_wants p left j b on = wants_open (at_job p left (asking j) b) j refl on
 
 -- its next step may come where no answer was the last, or where it is stopping
-pub at_job_steps : (p : Position) (left : List ℕ) (j : Asking) (s b : Bool) → (b ≡ true → is_stopping j ≡ true) → may_step (at_job p left (asking j) s b) ≡ true
+pub at_job_steps : (p : Position) (left : List ℕ) (j : Asking) (b : Bool) → (b ≡ true → is_stopping j ≡ true) → may_step (at_job p left (asking j) b) ≡ true
 unfolding goes_on
-at_job_steps p left j s true stopping = stopping refl
-at_job_steps p left j s false stopping = refl
+at_job_steps p left j true stopping = stopping refl
+at_job_steps p left j false stopping = refl
 
 -- and where it comes from there is as from the lane before
-pub at_job_again : (p : Position) (left : List ℕ) (j : Asking) (s b : Bool) (k : Job) (t c : Bool) → at_job (at_job p left (asking j) s b) left k t c ≡ at_job p left k t c
+pub at_job_again : (p : Position) (left : List ℕ) (j : Asking) (b : Bool) (k : Job) (c : Bool) → at_job (at_job p left (asking j) b) left k c ≡ at_job p left k c
 unfolding goes_on
-at_job_again p left j s b (over report) t c = refl
-at_job_again p left j s b (asking k) t c = refl
+at_job_again p left j b (over report) c = refl
+at_job_again p left j b (asking k) c = refl
 
 -- where it is over, the lane was told its report
-pub at_job_over : (p : Position) (left : List ℕ) (r : Reply) (s b : Bool)
-    → at_job p left (over r) s b ≡ record p { left = left; task = None; is_out_of_memory = s; is_spent = b; told = p.told ++ r ∷ [] }
+pub at_job_over : (p : Position) (left : List ℕ) (r : Reply) (b : Bool)
+    → at_job p left (over r) b ≡ record p { left = left; task = None; is_unheld = false; is_spent = b; told = p.told ++ r ∷ [] }
 unfolding goes_on
-at_job_over p left r s b = refl
+at_job_over p left r b = refl
 
 pub follows_job : (p : Position) (j : Asking) (left : List ℕ) (v : Event) → may_step p ≡ true → next_at p ≡ ahead (job_step j left)
     → v.act ≡ act_of_step (step_of j) → Follows (class_of v.act) p v
@@ -233,13 +220,13 @@ follows_job_short p j left v on is may asks = subst (λ x. Follows x p v) (sym (
 -- the lane went on by a step of its job, which was answered
 pub leads_job : (vs : List Event) (p q : Position) (j : Asking) (left : List ℕ) (v : Event) (r : Reply) → Leads p vs q → may_step q ≡ true
     → next_at q ≡ ahead (job_step j left) → v.act ≡ act_of_step (step_of j) → reply v ≡ Some r
-    → Leads p (vs ++ v ∷ []) (at_job q left (job_take j r) (kind v == MEMORY_KIND) ((v.answer).last || q.is_spent))
+    → Leads p (vs ++ v ∷ []) (at_job q left (job_take j r) ((v.answer).last || q.is_spent))
 leads_job vs p q j left v r led on is asks says =
     subst (λ x. Leads p (vs ++ v ∷ []) x) (heard_job q j left v.answer r is says) (leads_more vs p q v led (follows_job q j left v on is asks))
 
 -- or memory was wanting for it
 pub leads_job_short : (vs : List Event) (p q : Position) (j : Asking) (left : List ℕ) (v : Event) (r : Reply) → Leads p vs q → q.is_spent ≡ false
     → next_at q ≡ ahead (job_step j left) → may_want_at q ≡ true → v.act ≡ acts.Short → reply v ≡ Some r
-    → Leads p (vs ++ v ∷ []) (at_job q left (job_take j r) (kind v == MEMORY_KIND) ((v.answer).last || q.is_spent))
+    → Leads p (vs ++ v ∷ []) (at_job q left (job_take j r) ((v.answer).last || q.is_spent))
 leads_job_short vs p q j left v r led on is may asks says =
     subst (λ x. Leads p (vs ++ v ∷ []) x) (heard_job q j left v.answer r is says) (leads_more vs p q v led (follows_job_short q j left v on is may asks))

@@ -9,6 +9,7 @@ use Rattle.store_model.specs.Store.{none, writer, Session, Writer, Store, sessio
 use Rattle.store_model.specs.WriterSteps.{snapshot_of}
 use Rattle.store_model.specs.Done.{Effect, IsNext, ends, opens, writes, enters, reads, Shape, same, turned, more, less}
 use Rattle.store_model.proofs.Done.{grown_key}
+use Rattle.store_model.proofs.HeadLemmas.{idle_key_found}
 use Rattle.store_history.specs.declared.act.Act.{Act}
 use Rattle.store_history.specs.History.{World, EntryKind, moved}
 use Rattle.store_history.proofs.ActShapes.{act_effect, moved_shape}
@@ -36,7 +37,7 @@ own_key s k v h runs = subst WriterKey runs (key_at s.sessions k h.writers)
 
 next_key : (s : Store) (k m : ℕ) (e : Effect) (x : Session) → HasKeys s → IsNext s k m e x → WriterKey x
 next_key s k m e x h (ends is) = subst WriterKey (sym is) tt
-next_key s k m e x h (opens text key named idle alone newer is) = subst WriterKey (sym is) (key_one text key named).0
+next_key s k m e x h (opens text key named alone newer is) = subst WriterKey (sym is) (key_one text key (idle_key_found s k text key named).1).0
 next_key s k m e x h (writes v w runs grows is) = subst WriterKey (sym is) (subst IsKey (sym (grown_key s v e w grows)) (own_key s k v h runs))
 next_key s k m e x h (enters y r there is) = subst WriterKey (sym is) tt
 next_key s k m e x h (reads q r reading kept is) = subst WriterKey (sym is) tt

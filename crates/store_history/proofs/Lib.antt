@@ -21,6 +21,7 @@ pub mod Opening
 pub mod Whole
 pub mod Rules
 pub mod Picking
+pub mod Unheld
 pub mod Growing
 pub mod Longer
 pub mod Ending

@@ -16,12 +16,11 @@ use Rattle.store_model.specs.Store.{Store}
 use Rattle.store_model.specs.Weave.{entered, is_cut_off, is_replied, known}
 use Rattle.store_history.specs.declared.act.Act.{Act}
 use Rattle.store_history.specs.declared.act.Act.TheVariants as acts
-use Rattle.store_history.specs.declared.act.Answer.{Answer}
 use Rattle.store_history.specs.declared.act.Event.{Event}
 use Rattle.store_history.specs.Acts.{Class, stepping, reaching, starting, sweeping, wanting, ending, class_of}
 use Rattle.store_history.specs.History.{World, open_on, moved, kind_of, lane, moment, kind, reply}
 use Rattle.store_history.specs.Legal.{Right}
-use Rattle.store_history.specs.LaneRun.{Task, steps, pulls, sweeps, Ahead, ahead, job_in, Position, lane_of, next_at, tells, used_up, goes_on, pulls_on, heard_at, heard, heard_as, last_words, end_faulted, end_heard, position_after, wants, Asks, Does, IsIdle}
+use Rattle.store_history.specs.LaneRun.{Task, steps, pulls, sweeps, Ahead, ahead, job_in, Position, lane_of, next_at, tells, used_up, goes_on, pulls_on, heard_at, heard, leaves_unheld, heard_as, last_words, end_faulted, end_heard, position_after, Asks, Does, IsIdle}
 use Rattle.store_history.specs.Pulling.{Pulling, sought}
 use Rattle.store_history.specs.Remote.{IsRemote}
 use Rattle.store_history.proofs.Beside.{BesideBy, bare, no_pull, pull_in}
@@ -29,6 +28,7 @@ use Rattle.store_history.proofs.Events.{cuts, noted, turned}
 use Rattle.store_history.proofs.Placed.{run_of, at, same_lane, sweep_in, model_next, model_is}
 use Rattle.store_history.proofs.Plainly.{ArePlain}
 use Rattle.store_history.proofs.Reaching.{Turns, begun_here}
+use Rattle.store_history.proofs.Unheld.{flagged, unheld}
 
 -- ---- which answer opens a SYNC
 
@@ -144,10 +144,6 @@ same_task (Some (sweeps b)) idle = refl
 itself : (R : Option (List Snapshot)) (s : Store) (k : ℕ) (p : Position) → IsIdle p.task → BesideBy R s k p (pull_in p.task) (bare p)
 itself R s k p idle = subst (λ (o : Option Pulling). BesideBy R s k p o (bare p)) (sym (none_pulled p.task idle)) (ap (λ (t : Option Task). record p { task = t }) (same_task p.task idle))
 
--- what the answer leaves beside what was heard
-abbrev flagged : Position → Answer → Position → Position
-flagged p a q = record q { is_out_of_memory = wants (a.entry).kind p.task; is_spent = a.last || q.is_spent }
-
 module _ (R : Option (List Snapshot)) (w : World) (qs : List Position) (k m : ℕ) (es : List Ending) (later : List Entry)
     (knows : sweep_in (at qs k).task ≡ open_on k w.collecting) (p : Position) (idle : IsIdle p.task) (same : at qs k ≡ p) (remote : IsRemote R) where
   abbrev e : Ending
@@ -172,32 +168,34 @@ module _ (R : Option (List Snapshot)) (w : World) (qs : List Position) (k m : �
       no_sweep h = cc
   begins_by ending v vs group left class other does next right one = absurd (other refl)
 
-  -- an answer that was heard
-  heard_beside : (c : Class) (v : Event) (vs : List Event) → c ≡ class_of v.act → (c ≡ ending → ⊥) → Does c e p v vs → Right R w k m v.act (reply v) c (kind_of (kind v))
-      → BesideBy R (moved R w k m v.act (kind_of (kind v))).store k (heard p v.answer) (pull_in (heard p v.answer).task) (bare (heard p v.answer))
-  unfolding moved heard
-  heard_beside c v vs class other does right =
-      subst (λ (p' : Position). BesideBy R (moved R w k m v.act (kind_of (kind v))).store k p' (pull_in p'.task) (bare p')) (ap (λ y. flagged p v.answer (heard_at p (kind v) (reply v) y)) (sym (model_is p idle)))
+  -- an answer that was heard of what is next
+  abbrev of : Bool → Event → Ahead → Position
+  of b v y = unheld b (flagged v.answer (heard_at p (kind v) (reply v) y))
+
+  heard_beside : (b : Bool) (c : Class) (v : Event) (vs : List Event) → c ≡ class_of v.act → (c ≡ ending → ⊥) → Does c e p v vs → Right R w k m v.act (reply v) c (kind_of (kind v))
+      → BesideBy R (moved R w k m v.act (kind_of (kind v))).store k (of b v (next_at p)) (pull_in (of b v (next_at p)).task) (bare (of b v (next_at p)))
+  unfolding moved
+  heard_beside b c v vs class other does right =
+      subst (λ (p' : Position). BesideBy R (moved R w k m v.act (kind_of (kind v))).store k p' (pull_in p'.task) (bare p')) (ap (of b v) (sym (model_is p idle)))
       (by_test (opens_sync (kind v) (model_next p)) refl)
     where
-      by_test : (b : Bool) → opens_sync (kind v) (model_next p) ≡ b
-          → BesideBy R (moved R w k m v.act (kind_of (kind v))).store k (flagged p v.answer (heard_at p (kind v) (reply v) (ahead (model_next p)))) (pull_in (heard_at p (kind v) (reply v) (ahead (model_next p))).task)
-          (bare (flagged p v.answer (heard_at p (kind v) (reply v) (ahead (model_next p)))))
+      by_test : (t : Bool) → opens_sync (kind v) (model_next p) ≡ t
+          → BesideBy R (moved R w k m v.act (kind_of (kind v))).store k (of b v (ahead (model_next p))) (pull_in (of b v (ahead (model_next p))).task) (bare (of b v (ahead (model_next p))))
       by_test false is =
-          itself R (moved R w k m v.act (kind_of (kind v))).store k (flagged p v.answer (heard_at p (kind v) (reply v) (ahead (model_next p)))) (stays_idle p (kind v) (reply v) (model_next p) idle is)
+          itself R (moved R w k m v.act (kind_of (kind v))).store k (of b v (ahead (model_next p))) (stays_idle p (kind v) (reply v) (model_next p) idle is)
       by_test true is =
           let x = sync_of (kind v) (model_next p) is in
-          subst (λ (s : Store). BesideBy R s k (flagged p v.answer (heard_at p (kind v) (reply v) (ahead (model_next p)))) (pull_in (heard_at p (kind v) (reply v) (ahead (model_next p))).task) (bare (flagged p v.answer (heard_at p (kind v) (reply v) (ahead (model_next p))))))
+          subst (λ (s : Store). BesideBy R s k (of b v (ahead (model_next p))) (pull_in (of b v (ahead (model_next p))).task) (bare (of b v (ahead (model_next p)))))
           (sym (ap (λ n. (moved R w k m v.act (kind_of n)).store) x.3))
-          (subst (λ (y : Next). BesideBy R w.store k (flagged p v.answer (heard_at p (kind v) (reply v) (ahead y))) (pull_in (heard_at p (kind v) (reply v) (ahead y)).task) (bare (flagged p v.answer (heard_at p (kind v) (reply v) (ahead y))))) (sym x.2)
+          (subst (λ (y : Next). BesideBy R w.store k (of b v (ahead y)) (pull_in (of b v (ahead y)).task) (bare (of b v (ahead y)))) (sym x.2)
           (begun_here R w qs k m es later knows p idle same remote v x.0 x.1 (reply v) (kind v) (model_is p idle ∙ ap ahead x.2) (begins_by c v vs x.0 x.1 class other does x.2 right x.3) x.3
-          (wants (kind v) p.task) ((v.answer).last || (heard_at p (kind v) (reply v) (ahead (sync x.0 x.1))).is_spent)))
+          b ((v.answer).last || (heard_at p (kind v) (reply v) (ahead (sync x.0 x.1))).is_spent)))
 
   -- an event of the lane
   pub turned_idle : (c : Class) (v : Event) (vs : List Event) → c ≡ class_of v.act → lane v ≡ k → moment v ≡ m → Does c e p v vs → ArePlain (job_in p.task)
       → (kind v ≡ FAULT_KIND → is_cut_off (run_of R w qs) k e later ≡ cuts c e p)
       → Right R w k m v.act (reply v) c (kind_of (kind v)) → Turns R w qs k m es later knows v.act (kind v) (position_after e p v)
-  unfolding position_after
+  unfolding position_after heard
   turned_idle c v vs class l t does kept cut right = (
     bare (position_after e p v),
     subst (λ (y : Position). IsIdle y.task → Does (class_of v.act) e y v vs → (kind v ≡ FAULT_KIND → is_cut_off (run_of R w qs) k e later ≡ cuts (class_of v.act) e y) → ArePlain (job_in y.task)
@@ -212,8 +210,8 @@ module _ (R : Option (List Snapshot)) (w : World) (qs : List Position) (k m : �
       by_class : (d : Class) → d ≡ class_of v.act → Does d e p v vs → Right R w k m v.act (reply v) d (kind_of (kind v))
           → BesideBy R (moved R w k m v.act (kind_of (kind v))).store k (heard_as d e p v.answer) (pull_in (heard_as d e p v.answer).task) (bare (heard_as d e p v.answer))
       by_class ending is does right = itself R (moved R w k m v.act (kind_of (kind v))).store k (end_heard e p (kind v) (reply v)) (over_idle e p (kind v) (reply v) idle)
-      by_class stepping is does right = heard_beside stepping v vs is (λ h. cc) does right
-      by_class reaching is does right = heard_beside reaching v vs is (λ h. cc) does right
-      by_class starting is does right = heard_beside starting v vs is (λ h. cc) does right
-      by_class sweeping is does right = heard_beside sweeping v vs is (λ h. cc) does right
-      by_class wanting is does right = heard_beside wanting v vs is (λ h. cc) does right
+      by_class stepping is does right = heard_beside false stepping v vs is (λ h. cc) does right
+      by_class reaching is does right = heard_beside false reaching v vs is (λ h. cc) does right
+      by_class starting is does right = heard_beside false starting v vs is (λ h. cc) does right
+      by_class sweeping is does right = heard_beside false sweeping v vs is (λ h. cc) does right
+      by_class wanting is does right = heard_beside (leaves_unheld p v.answer) wanting v vs is (λ h. cc) does right

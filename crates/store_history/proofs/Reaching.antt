@@ -1,13 +1,13 @@
 -- An event of a lane whose SYNC is open moves the run as the definitions say, and the lane stays beside the one that `weave` has.
-use Rattle.std.proofs.Common.{◌≡◌, ◌==◌, inl, inr, ℕ, zero, suc, ◌-◌, Bool, false, List, [], ◌∷◌, length, filter, Option, Some, None, Ok, Err, Result, refl, sym, ap, subst, ◌∙◌, ◌||◌, slice_index_or, slice_set, if◌then◌else◌, IfSome, IsSome, take as take_first}
+use Rattle.std.proofs.Common.{◌≡◌, ◌==◌, inl, inr, ℕ, zero, suc, ◌-◌, Bool, false, List, [], ◌∷◌, length, filter, Option, Some, None, is_none, Ok, Err, Result, refl, sym, ap, subst, ◌∙◌, ◌||◌, slice_index_or, slice_set, if◌then◌else◌, IfSome, IsSome, take as take_first}
 use Rattle.std.specs.List.{All, Contains, last_or}
 use Rattle.std.proofs.lemmas.List.Elements.{All-contains_itself, All-filter, All-weaker}
 use Rattle.store_types.specs.declared.names.GroupKey.{GroupKey}
 use Rattle.store_types.specs.declared.order.Entry.{Entry}
 use Rattle.store_types.specs.declared.refusal.Refusal.{Refusal}
-use Rattle.store_types.specs.declared.refusal.Refusal.TheVariants.{BadName, NoMemory, NoRemote, RemoteFault}
+use Rattle.store_types.specs.declared.refusal.Refusal.TheVariants.{NoMemory, NoRemote, RemoteFault}
 use Rattle.store_types.specs.Chain.Refusing.{◌>>=◌, or_else}
-use Rattle.store_types.specs.Names.{IsKey, group_of, group_of_key, same_group}
+use Rattle.store_types.specs.Names.{IsKey, group_of_key, same_group}
 use Rattle.store_files.specs.Archive.{Snapshot}
 use Rattle.wire_commands.specs.declared.command.Command.TheVariants as commands
 use Rattle.wire_commands.specs.declared.reply.Reply.{Reply}
@@ -21,7 +21,8 @@ use Rattle.store_model.specs.Lanes.{Run, Next, job_step, sync, collecting, end, 
 use Rattle.store_model.specs.AdminSteps.{group, group_texts}
 use Rattle.store_model.specs.Stands.{IsSnapshot, group_limit}
 use Rattle.store_model.specs.Steps.{answered, outcome}
-use Rattle.store_model.specs.Store.{Store, session, want_idle, in_group, keys_in}
+use Rattle.store_model.specs.Store.{Store, in_group, keys_in}
+use Rattle.store_model.specs.Heads.{group_in, idle_in, idle_group}
 use Rattle.store_model.specs.Weave.{begin_sync, go_on, tell, stepped as weave_stepped, passed, short, remote_failed, faulted, fault_refusal, is_cut_off, entered, known}
 use Rattle.store_history.specs.declared.act.Act.{Act}
 use Rattle.store_history.specs.declared.act.Act.TheVariants as acts
@@ -30,7 +31,7 @@ use Rattle.store_history.specs.declared.act.Event.{Event}
 use Rattle.store_history.specs.Acts.{Class, stepping, reaching, starting, sweeping, wanting, ending, class_of}
 use Rattle.store_history.specs.History.{World, open_on, halted_on, act_outcome, moved, EntryKind, kind_of, step_kind, pass_kind, short_kind, start_kind, close_kind, fault_kind, end_kind, remote_kind, no_kind, kind, reply}
 use Rattle.store_history.specs.Legal.{Right, Says, Refuses}
-use Rattle.store_history.specs.LaneRun.{Task, steps, pulls, sweeps, Ahead, ahead, pull, pull_ahead, ahead_by, job_in, Position, lane_of, next_at, tells, goes_on, pulls_on, heard_at, heard, heard_as, wants, Asks, Does, IsIdle, IsShut}
+use Rattle.store_history.specs.LaneRun.{Task, steps, pulls, sweeps, Ahead, ahead, pull, pull_ahead, ahead_by, job_in, Position, lane_of, next_at, tells, goes_on, pulls_on, heard_at, heard, leaves_unheld, heard_as, Asks, Does, IsIdle, IsShut}
 use Rattle.store_history.specs.Pulling as model
 use Rattle.store_history.specs.Pulling.{Pulling, comparing, SyncJob, act_of, compared, sought, take, is_ending}
 use Rattle.store_history.specs.Remote.{IsList, IsRemote, may_read, ReadsIn, Reads}
@@ -38,12 +39,22 @@ use Rattle.store_types.specs.FileNames.{manifest_name}
 use Rattle.store_types.specs.declared.order.TheConstants.{COMMAND_KIND, PART_KIND, MEMORY_KIND, FAULT_KIND}
 use Rattle.store_model.specs.SyncJob.{new_index, is_later as job_later, next_snapshot as job_next_snapshot, to_pull}
 use Rattle.store_history.proofs.Beside.{Beside, BesideBy, IsOther, Pulls, Waits, asks_no_other, at_plain, at_sync, bare, besides, is_at, no_pull, pull_in, all_keys, pulled_same, remote_texts, shown}
+use Rattle.store_model.proofs.Done.{passed as tested}
+use Rattle.store_model.proofs.HeadLemmas.{idle_group_found}
 use Rattle.store_history.proofs.Keyed.{HasKeys}
 use Rattle.store_history.proofs.Events.{Becomes, all_faulted, all_short, asked, at_next, end_halted, tests_pass, noted, nx, plainly}
 use Rattle.store_history.proofs.Meaning.{Shows, ShowsJob, texts_of, asked_alike, no_read, reads_on, shows_snapshots, taken, unread}
 use Rattle.store_history.proofs.Placed.{run_of, at, keep_is, same_lane, go_is, sweep_in, model_next, model_is, IsNoStep, no_job, open_at, open_model}
 use Rattle.store_history.proofs.Plainly.{ArePlain, IsPlainJob, take_plainly}
+use Rattle.store_history.proofs.Unheld.{flagged, heard_open}
 use Rattle.store_history.proofs.Wanting.{Goes}
+
+-- ---- how a SYNC begins
+
+-- its group is named, as GROUP's
+group_begins : (s : Store) (k : ℕ) (text : List ℕ) (g : GroupKey) → idle_group s k text ≡ Ok g → group_in s k text ≡ Ok g
+unfolding idle_group
+group_begins s k text g e = let (u, idle, named) = tested (idle_in s k) (λ _. group_in s k text) g e in named
 
 -- ---- what the positions have in common
 
@@ -84,18 +95,18 @@ front_sync (Some (pulls x)) offset left group behind idle e = absurd idle
 front_sync (Some (sweeps b)) offset left group behind idle e = cc
 
 -- the position that `weave` has goes on so too where the SYNC's command was next
-beside_bare : (R : Option (List Snapshot)) (s : Store) (k : ℕ) (L : List Snapshot) (p : Position) (next : SyncJob) (job : Job) (left : List ℕ) (is_out_of_memory is_spent : Bool)
+beside_bare : (R : Option (List Snapshot)) (s : Store) (k : ℕ) (L : List Snapshot) (p : Position) (next : SyncJob) (job : Job) (left : List ℕ) (is_spent : Bool)
     → R ≡ Some L → ShowsJob L next job
-    → Beside R s k (record (pulls_on p left next) { is_out_of_memory = is_out_of_memory; is_spent = is_spent }) (record (goes_on (bare p) left job) { is_out_of_memory = is_out_of_memory; is_spent = is_spent })
+    → Beside R s k (record (pulls_on p left next) { is_unheld = false; is_spent = is_spent }) (record (goes_on (bare p) left job) { is_unheld = false; is_spent = is_spent })
 unfolding pulls_on goes_on
-beside_bare R s k L p (model.reports r) job left is_out_of_memory is_spent there h =
-    ap (λ (y : Job). record (goes_on (bare p) left y) { is_out_of_memory = is_out_of_memory; is_spent = is_spent }) h
-beside_bare R s k L p (model.asks x) job left is_out_of_memory is_spent there h =
+beside_bare R s k L p (model.reports r) job left is_spent there h =
+    ap (λ (y : Job). record (goes_on (bare p) left y) { is_unheld = false; is_spent = is_spent }) h
+beside_bare R s k L p (model.asks x) job left is_spent there h =
     inr (record {
       list = L;
       job = h.0;
       there = there;
-      is = ap (λ (y : Job). record (goes_on (bare p) left y) { is_out_of_memory = is_out_of_memory; is_spent = is_spent }) h.1;
+      is = ap (λ (y : Job). record (goes_on (bare p) left y) { is_unheld = false; is_spent = is_spent }) h.1;
       shows = h.2;
     })
 
@@ -108,25 +119,23 @@ begins_plain pulled (x ∷ xs) = tt
 
 -- a SYNC's step or read with its reply
 abbrev pub pulled : Position → Answer → SyncJob → Position
-pulled p a next = record (pulls_on p p.left next) { is_out_of_memory = (a.entry).kind == MEMORY_KIND; is_spent = a.last || p.is_spent }
+pulled p a next = record (pulls_on p p.left next) { is_unheld = false; is_spent = a.last || p.is_spent }
 
 abbrev pub gone : Position → Position → Answer → Job → Position
-gone p q a job = record (goes_on q p.left job) { is_out_of_memory = (a.entry).kind == MEMORY_KIND; is_spent = a.last || p.is_spent }
+gone p q a job = record (goes_on q p.left job) { is_unheld = false; is_spent = a.last || p.is_spent }
 
 pulls_spent : (p : Position) (left : List ℕ) (next : SyncJob) → (pulls_on p left next).is_spent ≡ p.is_spent
 unfolding pulls_on
 pulls_spent p left (model.reports r) = refl
 pulls_spent p left (model.asks x) = refl
 
-heard_pulled : (p : Position) (x : Pulling) (left : List ℕ) (a : Answer) (y : Reply) → p.task ≡ Some (pulls x) → next_at p ≡ pull x left → a.reply ≡ Some y
-    → heard p a ≡ record (pulls_on p left (take x y)) { is_out_of_memory = (a.entry).kind == MEMORY_KIND; is_spent = a.last || p.is_spent }
+heard_pulled : (p : Position) (x : Pulling) (left : List ℕ) (a : Answer) (y : Reply) → next_at p ≡ pull x left → a.reply ≡ Some y
+    → heard p a ≡ record (pulls_on p left (take x y)) { is_unheld = false; is_spent = a.last || p.is_spent }
 unfolding heard heard_at
-heard_pulled p x left a y going next told =
-    let flag : Bool → Position → Position = λ b q. record q { is_out_of_memory = b; is_spent = a.last || q.is_spent } in
-    ap (λ z. flag (wants (a.entry).kind p.task) (heard_at p (a.entry).kind a.reply z)) next
-    ∙ ap (λ (r : Option Reply). flag (wants (a.entry).kind p.task) (heard_at p (a.entry).kind r (pull x left))) told
-    ∙ ap (λ (t : Option Task). flag (wants (a.entry).kind t) (pulls_on p left (take x y))) going
-    ∙ ap (λ b. record (pulls_on p left (take x y)) { is_out_of_memory = (a.entry).kind == MEMORY_KIND; is_spent = a.last || b }) (pulls_spent p left (take x y))
+heard_pulled p x left a y next told =
+    ap (λ z. flagged a (heard_at p (a.entry).kind a.reply z)) next
+    ∙ ap (λ (r : Option Reply). flagged a (heard_at p (a.entry).kind r (pull x left))) told
+    ∙ ap (λ b. record (pulls_on p left (take x y)) { is_unheld = false; is_spent = a.last || b }) (pulls_spent p left (take x y))
 
 -- ---- which refusal
 
@@ -216,8 +225,8 @@ module _ (R : Option (List Snapshot)) (w : World) (qs : List Position) (k m : �
     -- both have heard this
     both : (s : Store) (a : Answer) (y : Reply) (job : Job) → a.reply ≡ Some y → ShowsJob L (take x y) job → Beside R s k (heard p a) (gone p (shown p j) a job)
     both s a y job told shows =
-        subst (λ (p' : Position). Beside R s k p' (gone p (shown p j) a job)) (sym (heard_pulled p x p.left a y going (pull_is L x j p going b.shows) told))
-        (besides R s k L p j (take x y) job p.left ((a.entry).kind == MEMORY_KIND) (a.last || p.is_spent) b.there shows)
+        subst (λ (p' : Position). Beside R s k p' (gone p (shown p j) a job)) (sym (heard_pulled p x p.left a y (pull_is L x j p going b.shows) told))
+        (besides R s k L p j (take x y) job p.left (a.last || p.is_spent) b.there shows)
 
     -- the lane is the same
     gone_lane : (a : Answer) (n : ℕ) (y : Reply) → a.reply ≡ Some y → lane_of (heard_at q n a.reply (ahead (model_next q))) ≡ lane_of (gone p (shown p j) a (job_take j y))
@@ -371,19 +380,19 @@ module _ (R : Option (List Snapshot)) (w : World) (qs : List Position) (k m : �
 
     -- what is heard
     wait_heard : (a : Answer) (y : Reply) → a.reply ≡ Some y
-        → heard p a ≡ record (pulls_on p b.left (take (comparing b.group b.remote) y)) { is_out_of_memory = (a.entry).kind == MEMORY_KIND; is_spent = a.last || p.is_spent }
+        → heard p a ≡ record (pulls_on p b.left (take (comparing b.group b.remote) y)) { is_unheld = false; is_spent = a.last || p.is_spent }
     wait_heard a y told =
         let open_is = going ∙ ap (λ (z : Pulling). Some (pulls z)) b.state in
-        heard_pulled p (comparing b.group b.remote) b.left a y open_is (wait_is p b.group b.group b.left b.remote open_is b.next) told
+        heard_pulled p (comparing b.group b.remote) b.left a y (wait_is p b.group b.group b.left b.remote open_is b.next) told
 
     abbrev waited : Answer → Job → Position
-    waited a job = record (goes_on (bare p) b.left job) { is_out_of_memory = (a.entry).kind == MEMORY_KIND; is_spent = a.last || p.is_spent }
+    waited a job = record (goes_on (bare p) b.left job) { is_unheld = false; is_spent = a.last || p.is_spent }
 
     -- both have heard it
     wait_both : (s : Store) (a : Answer) (y : Reply) (job : Job) → a.reply ≡ Some y → ShowsJob b.list (take (comparing b.group b.remote) y) job → Beside R s k (heard p a) (waited a job)
     wait_both s a y job told shows =
         subst (λ (p' : Position). Beside R s k p' (waited a job)) (sym (wait_heard a y told))
-        (beside_bare R s k b.list p (take (comparing b.group b.remote) y) job b.left ((a.entry).kind == MEMORY_KIND) (a.last || p.is_spent) b.there shows)
+        (beside_bare R s k b.list p (take (comparing b.group b.remote) y) job b.left (a.last || p.is_spent) b.there shows)
 
     -- a refusal is told
     wait_refused : (act : Act) (a : Answer) (z : Refusal) → a.reply ≡ Some (Refused z)
@@ -431,14 +440,12 @@ module _ (R : Option (List Snapshot)) (w : World) (qs : List Position) (k m : �
     pulls_these : to_pull R w.store k b.group ≡ Ok later_there
     unfolding to_pull
     pulls_these =
-        ap (λ (o : Result (Unit {0}) Refusal). o >>= λ _. or_else BadName (group_of b.group) >>= λ g. or_else NoRemote R >>= λ snapshots. Ok (filter (job_later (last_or None (take_first group_limit (keys_in g here)))) (in_group g snapshots))) b.idle
-        ∙ ap (λ (o : Option GroupKey). or_else BadName o >>= λ g. or_else NoRemote R >>= λ snapshots. Ok (filter (job_later (last_or None (take_first group_limit (keys_in g here)))) (in_group g snapshots))) b.named
+        ap (λ (o : Result GroupKey Refusal). o >>= λ g. or_else NoRemote R >>= λ snapshots. Ok (filter (job_later (last_or None (take_first group_limit (keys_in g here)))) (in_group g snapshots))) b.begins
         ∙ ap (λ (o : Option (List Snapshot)). or_else NoRemote o >>= λ snapshots. Ok (filter (job_later (last_or None (take_first group_limit (keys_in b.key here)))) (in_group b.key snapshots))) b.there
 
     group_here : act_outcome R w k m (acts.Plain (commands.Group b.group)) ≡ Ok (w.store, Keys (group_texts b.key here))
     unfolding act_outcome outcome group
-    group_here =
-        ap (λ (o : Option GroupKey). or_else BadName o >>= λ g. Ok (w.store, Keys (group_texts g here))) b.named
+    group_here = ap (λ (o : Result GroupKey Refusal). o >>= λ g. Ok (w.store, Keys (group_texts g here))) (group_begins w.store k b.group b.key b.begins)
 
     compared_here : IsList b.list → HasKeys w.store → ShowsJob b.list (take (comparing b.group b.remote) (Keys (group_texts b.key here))) (job_next_snapshot [] later_there)
     unfolding take compared
@@ -509,6 +516,10 @@ module _ (R : Option (List Snapshot)) (w : World) (qs : List Position) (k m : �
         by_pull (comparing group remote) left n h = absurd h
         by_pull y left n h = h
 
+    -- memory was wanting for no frame
+    held : (v : Event) → Turns v.act (kind v) (heard p v.answer) → Turns v.act (kind v) (record (heard p v.answer) { is_unheld = leaves_unheld p v.answer })
+    held v turns = subst (Turns v.act (kind v)) (sym (heard_open p v.answer (ap is_none going))) turns
+
     pulled_by : (c : Class) (e : Ending) (v : Event) (vs : List Event) (b : Pulls R p x (at qs k)) → c ≡ class_of v.act → Does c e p v vs → Right R w k m v.act (reply v) c (kind_of (kind v))
         → (kind v ≡ FAULT_KIND → is_cut_off (run_of R w qs) k (slice_index_or es k endings.Clean) later ≡ false) → Turns v.act (kind v) (heard_as c e p v.answer)
     pulled_by stepping e v vs b class does right cut =
@@ -516,7 +527,7 @@ module _ (R : Option (List Snapshot)) (w : World) (qs : List Position) (k m : �
     pulled_by reaching e v vs b class does right cut =
         let is = asks_by v.act does.1 in
         read p x going b (kind v) v.answer v.act refl is (sym (ap class_of is) ∙ sym class) (list_of R b.list b.there remote) right cut
-    pulled_by wanting e v vs b class does right cut = want p x going b (kind v) v.answer v.act refl right
+    pulled_by wanting e v vs b class does right cut = held v (want p x going b (kind v) v.answer v.act refl right)
     pulled_by starting e v vs b class does right cut = absurd (asks_no_other x (subst IsOther (class ∙ ap class_of (asks_by v.act does.1)) tt))
     pulled_by sweeping e v vs b class does right cut = absurd (asks_no_other x (subst IsOther (class ∙ ap class_of (asks_by v.act does)) tt))
     pulled_by ending e v vs b class does right cut = absurd (subst IsShut going does.2)
@@ -527,7 +538,7 @@ module _ (R : Option (List Snapshot)) (w : World) (qs : List Position) (k m : �
         let is : v.act ≡ acts.Plain (commands.Group b.group) = asks_by v.act does.1 ∙ ap act_of b.state in
         subst (λ a. Turns a (kind v) (heard p v.answer)) (sym is)
         (wait_step p x going b (kind v) v.answer refl (list_of R b.list b.there remote) named (subst (λ a. Right R w k m a (reply v) stepping (kind_of (kind v))) is right) cut)
-    waited_by wanting e v vs b class does right cut = wait_want p x going b (kind v) v.answer v.act refl right
+    waited_by wanting e v vs b class does right cut = held v (wait_want p x going b (kind v) v.answer v.act refl right)
     waited_by reaching e v vs b class does right cut = absurd (group_steps (class ∙ ap class_of (asks_by v.act does.1 ∙ ap act_of b.state)))
       where
         group_steps : (let c : Class = reaching in c) ≡ stepping → ⊥
@@ -547,21 +558,21 @@ module _ (R : Option (List Snapshot)) (w : World) (qs : List Position) (k m : �
   -- a SYNC opens by what the remote tells of its group
   module _ (p : Position) (idle : IsIdle p.task) (same : at qs k ≡ p) (remote : IsRemote R) where
     pub begun_here : (v : Event) (group left : List ℕ) (r : Option Reply) (n : ℕ) → next_at p ≡ ahead (sync group left) → Right R w k m (acts.RemoteList (commands.Sync group)) r reaching (kind_of n) → n ≡ 1
-        → (is_out_of_memory is_spent : Bool) → (let p' : Position = record (heard_at p n r (ahead (sync group left))) { is_out_of_memory = is_out_of_memory; is_spent = is_spent } in BesideBy R w.store k p' (pull_in p'.task) (bare p'))
+        → (is_unheld is_spent : Bool) → (let p' : Position = record (heard_at p n r (ahead (sync group left))) { is_unheld = is_unheld; is_spent = is_spent } in BesideBy R w.store k p' (pull_in p'.task) (bare p'))
     unfolding to_pull heard_at pulls_on sought next_at
-    begun_here v group left r n next right one is_out_of_memory is_spent =
+    begun_here v group left r n next right one is_unheld is_spent =
         let h = subst (λ i. Right R w k m (acts.RemoteList (commands.Sync group)) r reaching (kind_of i)) one right in
-        let tests = tests_pass (λ g snapshots. filter (job_later (last_or None (take_first group_limit (keys_in g (w.store).snapshots)))) (in_group g snapshots)) (want_idle (session w.store k)) (group_of group) R h.1 in
-        let key = (tests.1).0 in
-        let list = (tests.2).0 in
-        let fine = list_of R list (tests.2).1 remote in
+        let tests = tests_pass (λ g snapshots. filter (job_later (last_or None (take_first group_limit (keys_in g (w.store).snapshots)))) (in_group g snapshots)) (idle_group w.store k group) R h.1 in
+        let key = (tests.0).0 in
+        let list = (tests.1).0 in
+        let fine = list_of R list (tests.1).1 remote in
         let told : r ≡ Some (Keys (group_texts key list)) =
-        subst (λ (o : Option GroupKey). IfSome o (λ g. r ≡ Some (Keys (group_texts g list)))) (tests.1).1 (reads_here R list (acts.RemoteList (commands.Sync group)) r (tests.2).1 h.2) in
+        subst (λ (o : Option GroupKey). IfSome o (λ g. r ≡ Some (Keys (group_texts g list)))) (idle_group_found w.store k group key (tests.0).1).1 (reads_here R list (acts.RemoteList (commands.Sync group)) r (tests.1).1 h.2) in
         let texts : filter model.is_key (group_texts key list) ≡ texts_of (in_group key list) =
         ap (filter model.is_key) (remote_texts key list (fine.groups key))
         ∙ all_keys (in_group key list) (All-filter (λ y. same_group (group_of_key y.key) key) (λ y. IsKey y.key) list (All-weaker IsSnapshot (λ y. IsKey y.key) (λ y g. g.key) list fine.each)) in
-        subst (λ i. let p' : Position = record (heard_at p i r (ahead (sync group left))) { is_out_of_memory = is_out_of_memory; is_spent = is_spent } in BesideBy R w.store k p' (pull_in p'.task) (bare p')) (sym one)
-        (subst (λ (o : Option Reply). let p' : Position = record (heard_at p 1 o (ahead (sync group left))) { is_out_of_memory = is_out_of_memory; is_spent = is_spent } in BesideBy R w.store k p' (pull_in p'.task) (bare p')) (sym told)
+        subst (λ i. let p' : Position = record (heard_at p i r (ahead (sync group left))) { is_unheld = is_unheld; is_spent = is_spent } in BesideBy R w.store k p' (pull_in p'.task) (bare p')) (sym one)
+        (subst (λ (o : Option Reply). let p' : Position = record (heard_at p 1 o (ahead (sync group left))) { is_unheld = is_unheld; is_spent = is_spent } in BesideBy R w.store k p' (pull_in p'.task) (bare p')) (sym told)
         (inl (record {
           group = group;
           remote = filter model.is_key (group_texts key list);
@@ -571,8 +582,7 @@ module _ (R : Option (List Snapshot)) (w : World) (qs : List Position) (k m : �
           state = refl;
           is = refl;
           next = front_sync p.task (p.size - length p.left) p.left group left idle next;
-          there = (tests.2).1;
-          named = (tests.1).1;
+          there = (tests.1).1;
+          begins = (tests.0).1;
           texts = texts;
-          idle = tests.0;
         })))

@@ -119,7 +119,7 @@ pub goes_on : (p : Position) (v : Event) → p.is_over ≡ false → (heard p v.
 goes_on p v off = heard_over p v.answer ∙ off
 
 once : (c : Class) (e : Ending) (p : Position) (v : Event) (vs : List Event) (told : List Reply) → Does c e p v vs → KindIs c (kind v) → p.is_over ≡ false
-    → Runs e (heard_as c e p v.answer) vs told → (Runs e (heard p v.answer) vs told → (heard p v.answer).is_over ≡ false → ends_once (map entry vs) ≡ true)
+    → Runs e (heard_as c e p v.answer) vs told → ((q : Position) → Runs e q vs told → q.is_over ≡ false → ends_once (map entry vs) ≡ true)
     → ends_once (map entry (v ∷ vs)) ≡ true
 unfolding KindIs
 once ending e p v vs told does is off runs ih = by_kind (kind v == FAULT_KIND) refl
@@ -139,13 +139,13 @@ once ending e p v vs told does is off runs ih = by_kind (kind v == FAULT_KIND) r
         let six : kind v ≡ END_KIND = is (λ x. clash (sym (eq-eqb (kind v) 5 x) ∙ five)) in
         alone vs six (subst (λ n. Runs e (end_heard e p n (reply v)) vs told) six runs)
 once c e p v [] told does is off runs ih = absurd (clash (sym runs.0 ∙ goes_on p v off))
-once c e p v (u ∷ vs) told does is off runs ih = ap (λ b. not b && ends_once (map entry (u ∷ vs))) is ∙ ih runs (goes_on p v off)
+once c e p v (u ∷ vs) told does is off runs ih = ap (λ b. not b && ends_once (map entry (u ∷ vs))) is ∙ ih (heard_as c e p v.answer) runs (goes_on p v off)
 
 runs_once : (vs : List Event) (e : Ending) (p : Position) (told : List Reply) → Runs e p vs told → KindsAre vs → p.is_over ≡ false → ends_once (map entry vs) ≡ true
 unfolding KindsAre position_after
 runs_once [] e p told runs kinds off = absurd (clash (sym runs.0 ∙ off))
 runs_once (v ∷ vs) e p told runs kinds off =
-    once (class_of v.act) e p v vs told runs.1 kinds.0 off runs.2 (λ rest over. runs_once vs e (heard p v.answer) told rest kinds.1 over)
+    once (class_of v.act) e p v vs told runs.1 kinds.0 off runs.2 (λ q rest over. runs_once vs e q told rest kinds.1 over)
 
 in_range : (f : ℕ → Bool) (a n : ℕ) → ((k : ℕ) → a ≤ k → k < a + n → f k ≡ true) → list_all f (range_with_len a n) ≡ true
 in_range f a zero h = refl

@@ -1,5 +1,5 @@
 -- A legal history whose lanes run their programs is what `weave` gives.
-use Rattle.std.proofs.Common.{◌≡◌, ◌≢◌, ◌⊎◌, inl, inr, ℕ, suc, ◌+◌, ◌-◌, ◌<◌, Bool, true, false, List, [], ◌∷◌, map, length, cond, Option, Some, None, Ok, Err, Result, refl, sym, ap, subst, ◌∙◌, arith, ◌==◌, ◌&&◌, ◌||◌, not, is_none, is_some, slice_index_or, slice_set}
+use Rattle.std.proofs.Common.{◌≡◌, ◌≢◌, ◌⊎◌, inl, inr, ℕ, zero, suc, ◌+◌, ◌-◌, ◌<◌, Bool, true, false, List, [], ◌∷◌, map, length, cond, Option, Some, None, Ok, Err, Result, refl, sym, ap, subst, ◌∙◌, arith, ◌==◌, ◌&&◌, ◌||◌, not, is_none, is_some, slice_index_or, slice_set}
 use Rattle.std.specs.List.{find}
 use Rattle.std.proofs.lemmas.Bool.{eq-eqb, eqb-true}
 use Rattle.std.proofs.Math.ListN.{get_or-map}
@@ -13,7 +13,11 @@ use Rattle.store_model.specs.declared.ending.Ending.{Ending}
 use Rattle.store_model.specs.declared.ending.Ending.TheVariants as endings
 use Rattle.store_model.specs.Lanes.{Run, Next, job_step, plain, sync, collect, collecting, bye, broken, end, collects, lane_next, front_next, new_lane, new_run}
 use Rattle.store_model.proofs.LaneLemmas.{is_act, lane_no_act}
+use Rattle.store_types.specs.declared.refusal.Refusal.TheVariants.{BadName}
+use Rattle.store_types.specs.Chain.Refusing.{◌>>=◌, or_else}
+use Rattle.store_types.specs.Names.{group_of}
 use Rattle.store_model.specs.Store.{Store, session, want_idle}
+use Rattle.store_model.specs.Heads.{group_in, idle_in, idle_group}
 use Rattle.store_model.specs.Weave.{is_cut_off, is_end, run_from, known, misfit, Misfit, entered, weave, woven, woven_of, Woven}
 use Rattle.store_history.specs.declared.act.Act.{Act}
 use Rattle.store_history.specs.declared.act.Event.{Event}
@@ -21,7 +25,7 @@ use Rattle.store_history.specs.Acts.{Class, stepping, reaching, starting, sweepi
 use Rattle.store_history.specs.declared.act.Answer.{Answer}
 use Rattle.store_history.specs.History.{Opening, World, opened, open_on, kind_of, entry, lane, moment, kind, reply, entries, own, after, after_all}
 use Rattle.store_history.specs.Legal.{Right, IsRight, IsLegal}
-use Rattle.store_history.specs.LaneRun.{text, plain_text, Task, steps, pulls, sweeps, Ahead, ahead, pull_ahead, ahead_by, job_in, Position, begin, lane_of, next_at, wants, heard_at, heard, heard_as, position_after, stops, may_step, Asks, Does, EndFollows, Runs, IsIdle, IsShut}
+use Rattle.store_history.specs.LaneRun.{text, plain_text, Task, steps, pulls, sweeps, pull_ahead, ahead_by, job_in, Position, begin, lane_of, next_at, heard_at, heard, heard_as, position_after, stops, may_step, Asks, Does, EndFollows, Runs, IsIdle, IsShut}
 use Rattle.store_history.specs.Pulling.{Pulling, comparing, take}
 use Rattle.store_history.specs.Remote.{IsRemote}
 use Rattle.store_history.specs.Woven.{AreLanes, ending_at, IsServed, IsWoven}
@@ -36,6 +40,7 @@ use Rattle.store_history.proofs.Plainly.{ArePlain}
 use Rattle.store_model.specs.Job.{Asking}
 use Rattle.store_history.proofs.Events.{none_swept, IsEnding, FitsNext, asks_class, ending_is, right_end, cuts}
 use Rattle.store_history.proofs.Growing.{heard_at_spent}
+use Rattle.store_history.proofs.Unheld.{heard_open}
 use Rattle.store_history.proofs.Keeping.{NoStart, others_keep, own_keeps, own_plain, pull_keeps, pulls_plain}
 
 clash : true ≡ false → ⊥
@@ -44,14 +49,14 @@ clash h = cc
 some_job : (j : Asking) → Some j ≡ None → ⊥
 some_job j h = cc
 
--- what is heard of an act that is no lane's end
-pub heard_other : (c : Class) (e : Ending) (p : Position) (a : Answer) → (c ≡ ending → ⊥) → heard_as c e p a ≡ heard p a
-heard_other ending e p a other = absurd (other refl)
-heard_other stepping e p a other = refl
-heard_other reaching e p a other = refl
-heard_other starting e p a other = refl
-heard_other sweeping e p a other = refl
-heard_other wanting e p a other = refl
+-- what is heard of an act that is no lane's end, while something is open
+pub heard_other : (c : Class) (e : Ending) (p : Position) (a : Answer) → is_none p.task ≡ false → (c ≡ ending → ⊥) → heard_as c e p a ≡ heard p a
+heard_other ending e p a opened other = absurd (other refl)
+heard_other stepping e p a opened other = refl
+heard_other reaching e p a opened other = refl
+heard_other starting e p a opened other = refl
+heard_other sweeping e p a opened other = refl
+heard_other wanting e p a opened other = heard_open p a opened
 
 -- ---- a lane's own events
 
@@ -92,7 +97,7 @@ legal_own R w k (v ∷ vs) legal = by_test (lane v == k) (legal_own R (after R w
 -- ---- which fault is not told
 
 -- where want of memory ended the lane, a command that met a fault is not its last event
-told_first : (q : Position) (vs : List Event) (told : List Reply) → (q.is_out_of_memory || q.is_spent) ≡ false
+told_first : (q : Position) (vs : List Event) (told : List Reply) → (q.is_unheld || q.is_spent) ≡ false
     → Runs endings.NoMemory q vs told → EndsRight vs → is_end (head_entry vs) ≡ false
 unfolding EndsRight head_entry
 told_first q [] told off runs right = refl
@@ -126,19 +131,12 @@ shut_sweeps p fits shut = fits_shut (lane_next (lane_of p)) (lane_no_act (lane_o
     fits_shut end unlike h = h
 
 -- an answer of a fault is no want of memory, and not the last
-not_short : (p : Position) (v : Event) → sweep_in p.task ≡ None → p.is_spent ≡ false → ((v.answer).last ≡ true → kind v ≡ MEMORY_KIND) → kind v ≡ FAULT_KIND
-    → ((heard p v.answer).is_out_of_memory || (heard p v.answer).is_spent) ≡ false
+not_short : (p : Position) (v : Event) → p.is_spent ≡ false → ((v.answer).last ≡ true → kind v ≡ MEMORY_KIND) → kind v ≡ FAULT_KIND
+    → ((heard p v.answer).is_unheld || (heard p v.answer).is_spent) ≡ false
 unfolding heard
-not_short p v shut on last is =
-    ap (λ b. b || (heard p v.answer).is_spent) (wants_none p.task shut ∙ ap (λ n. n == 2) is)
-    ∙ ap (λ b. b || (heard_at p (kind v) (reply v) (next_at p)).is_spent) (not_last (v.answer).last last) ∙ stays_on
+not_short p v on last is =
+    ap (λ b. b || (heard_at p (kind v) (reply v) (next_at p)).is_spent) (not_last (v.answer).last last) ∙ stays_on
   where
-    wants_none : (t : Option Task) → sweep_in t ≡ None → wants (kind v) t ≡ (kind v == 2)
-    wants_none None none = refl
-    wants_none (Some (steps j)) none = refl
-    wants_none (Some (pulls x)) none = refl
-    wants_none (Some (sweeps b)) none = cc
-
     not_last : (b : Bool) → (b ≡ true → kind v ≡ MEMORY_KIND) → b ≡ false
     not_last true h = let no : ⊥ = omega (arith, h refl, is) in absurd no
     not_last false h = refl
@@ -225,7 +223,7 @@ module _ (R : Option (List Snapshot)) (w : World) (qs : List Position) (k : ℕ)
     no_end_first c v vs told class other last (inr busy) does is runs right shut idle = absurd (busy idle)
     no_end_first c v vs told class other last (inl stops) does is runs right shut idle =
         let on = on_here c endings.NoMemory p v (own k vs) does class other (alike ∙ shut) stops in
-        told_first (heard p v.answer) (own k vs) told (not_short p v (alike ∙ shut) on last is) runs right
+        told_first (heard p v.answer) (own k vs) told (not_short p v on last is) runs right
 
     -- an act that is no lane's end
     told_here : (c : Class) (e : Ending) (v : Event) (vs : List Event) (told : List Reply) → c ≡ class_of v.act → (c ≡ ending → ⊥) → ((v.answer).last ≡ true → kind v ≡ MEMORY_KIND)
@@ -264,13 +262,13 @@ module _ (R : Option (List Snapshot)) (w : World) (qs : List Position) (k : ℕ)
 
     -- where no SYNC is open
     cut_idle : (c : Class) (e : Ending) (v : Event) (vs : List Event) (told : List Reply) → p ≡ at qs k → IsIdle p.task → c ≡ class_of v.act → ((v.answer).last ≡ true → kind v ≡ MEMORY_KIND)
-        → Does c e p v (own k vs) → Runs e (heard_as c e p v.answer) (own k vs) told → EndsRight (own k vs) → kind v ≡ FAULT_KIND → is_cut_off (run_of R w qs) k e (entries vs) ≡ cuts c e p
-    cut_idle ending e v vs told same idle class last does runs right is = end_cut e v vs same does is
-    cut_idle stepping e v vs told same idle class last does runs right is = told_here stepping e v vs told class (λ h. cc) last (stops_or same idle) does is runs right
-    cut_idle reaching e v vs told same idle class last does runs right is = told_here reaching e v vs told class (λ h. cc) last (stops_or same idle) does is runs right
-    cut_idle starting e v vs told same idle class last does runs right is = told_here starting e v vs told class (λ h. cc) last (stops_or same idle) does is runs right
-    cut_idle sweeping e v vs told same idle class last does runs right is = told_here sweeping e v vs told class (λ h. cc) last (stops_or same idle) does is runs right
-    cut_idle wanting e v vs told same idle class last does runs right is = told_here wanting e v vs told class (λ h. cc) last (stops_or same idle) does is runs right
+        → (c ≡ wanting → kind v ≡ MEMORY_KIND) → Does c e p v (own k vs) → Runs e (heard_as c e p v.answer) (own k vs) told → EndsRight (own k vs) → kind v ≡ FAULT_KIND → is_cut_off (run_of R w qs) k e (entries vs) ≡ cuts c e p
+    cut_idle ending e v vs told same idle class last short does runs right is = end_cut e v vs same does is
+    cut_idle stepping e v vs told same idle class last short does runs right is = told_here stepping e v vs told class (λ h. cc) last (stops_or same idle) does is runs right
+    cut_idle reaching e v vs told same idle class last short does runs right is = told_here reaching e v vs told class (λ h. cc) last (stops_or same idle) does is runs right
+    cut_idle starting e v vs told same idle class last short does runs right is = told_here starting e v vs told class (λ h. cc) last (stops_or same idle) does is runs right
+    cut_idle sweeping e v vs told same idle class last short does runs right is = told_here sweeping e v vs told class (λ h. cc) last (stops_or same idle) does is runs right
+    cut_idle wanting e v vs told same idle class last short does runs right is = let no : ⊥ = omega (arith, short refl, is) in absurd no
 
 -- ---- a lane beside the one that `weave` has
 
@@ -286,6 +284,11 @@ told_alike R s k p q None is = ap (λ (y : Position). y.told) is
 told_alike R s k p q (Some x) (inl b) = ap (λ (y : Position). y.told) b.is
 told_alike R s k p q (Some x) (inr b) = ap (λ (y : Position). y.told) b.is
 
+-- a head looks at no other lane's session
+begins_alike : (s s' : Store) (k : ℕ) (text : List ℕ) → session s' k ≡ session s k → idle_group s' k text ≡ idle_group s k text
+unfolding idle_group idle_in group_in
+begins_alike s s' k text same = ap (λ x. want_idle x >>= λ _. or_else BadName (group_of text)) same
+
 -- another lane's act leaves it so
 pub beside_stays : (R : Option (List Snapshot)) (s s' : Store) (k : ℕ) (p q : Position) (o : Option Pulling) → session s' k ≡ session s k → BesideBy R s k p o q → BesideBy R s' k p o q
 beside_stays R s s' k p q None same is = is
@@ -300,9 +303,8 @@ beside_stays R s s' k p q (Some x) same (inl b) =
       is = b.is;
       next = b.next;
       there = b.there;
-      named = b.named;
+      begins = begins_alike s s' k b.group same ∙ b.begins;
       texts = b.texts;
-      idle = ap want_idle same ∙ b.idle;
     })
 beside_stays R s s' k p q (Some x) same (inr b) = inr b
 
@@ -391,6 +393,18 @@ module _ (R : Option (List Snapshot)) (remote : IsRemote R) (es : List Ending) (
     pub knows : sweep_in (at qs (lane v)).task ≡ open_on (lane v) w.collecting
     knows = sym alike ∙ here.0
 
+    -- memory was wanting
+    is_short : (n : ℕ) → Right R w (lane v) (moment v) v.act (reply v) wanting (kind_of n) → n ≡ MEMORY_KIND
+    is_short (suc (suc zero)) h = refl
+    is_short zero h = absurd h
+    is_short (suc zero) h = absurd h
+    is_short (suc (suc (suc zero))) h = absurd h
+    is_short (suc (suc (suc (suc zero)))) h = absurd h
+    is_short (suc (suc (suc (suc (suc zero))))) h = absurd h
+    is_short (suc (suc (suc (suc (suc (suc zero)))))) h = absurd h
+    is_short (suc (suc (suc (suc (suc (suc (suc zero))))))) h = absurd h
+    is_short (suc (suc (suc (suc (suc (suc (suc (suc n)))))))) h = absurd h
+
     runs_heard : Runs (ending_at es (lane v)) (heard_as (class_of v.act) (ending_at es (lane v)) p v.answer) (own (lane v) vs) (told (lane v))
     unfolding position_after
     runs_heard = rest
@@ -399,7 +413,7 @@ module _ (R : Option (List Snapshot)) (remote : IsRemote R) (es : List Ending) (
     turn_idle : IsIdle p.task → at qs (lane v) ≡ p → Turns R w qs (lane v) (moment v) es (entries vs) knows v.act (kind v) (next ps v)
     turn_idle idle same =
         turned_idle R w qs (lane v) (moment v) es (entries vs) knows p idle same remote (class_of v.act) v (own (lane v) vs) refl refl refl does here.1
-        (λ five. cut_idle R w qs (lane v) knows p alike (class_of v.act) (ending_at es (lane v)) v vs (told (lane v)) (sym same) idle refl right.last does runs_heard ends five)
+        (λ five. cut_idle R w qs (lane v) knows p alike (class_of v.act) (ending_at es (lane v)) v vs (told (lane v)) (sym same) idle refl right.last (λ is. is_short (kind v) (subst (λ c. Right R w (lane v) (moment v) v.act (reply v) c (kind_of (kind v))) is right.says)) does runs_heard ends five)
         right.says
 
     turn_by : (t : Option Task) → p.task ≡ t → BesideBy R w.store (lane v) p (pull_in t) (at qs (lane v))
@@ -424,7 +438,8 @@ module _ (R : Option (List Snapshot)) (remote : IsRemote R) (es : List Ending) (
         heard_runs reaching is other h = h
         heard_runs starting is other h = h
         heard_runs sweeping is other h = h
-        heard_runs wanting is other h = h
+        heard_runs wanting is other h =
+            subst (λ y. Runs (ending_at es (lane v)) y (own (lane v) vs) (told (lane v))) (heard_open p v.answer (ap is_none going)) h
 
     pub turn : Turns R w qs (lane v) (moment v) es (entries vs) knows v.act (kind v) (next ps v)
     turn = turn_by p.task refl here.2
@@ -438,7 +453,7 @@ module _ (R : Option (List Snapshot)) (remote : IsRemote R) (es : List Ending) (
     unfolding position_after after
     collects_next (Some (pulls x)) going =
         let is = sync_class p x (class_of v.act) (ending_at es (lane v)) v (own (lane v) vs) going refl does in
-        ap (λ (y : Position). sweep_in y.task) (heard_other (class_of v.act) (ending_at es (lane v)) p v.answer is.1)
+        ap (λ (y : Position). sweep_in y.task) (heard_other (class_of v.act) (ending_at es (lane v)) p v.answer (ap is_none going) is.1)
         ∙ pull_keeps R w (lane v) (moment v) (ending_at es (lane v)) p x v.act v.answer (class_of v.act) refl is.0 going here.0 right.says
     collects_next None is = collects_idle (subst IsIdle (sym is) tt)
     collects_next (Some (steps j)) is = collects_idle (subst IsIdle (sym is) tt)
@@ -452,7 +467,7 @@ module _ (R : Option (List Snapshot)) (remote : IsRemote R) (es : List Ending) (
     unfolding position_after
     plain_next (Some (pulls x)) going =
         let is = sync_class p x (class_of v.act) (ending_at es (lane v)) v (own (lane v) vs) going refl does in
-        subst (λ (y : Position). ArePlain (job_in y.task)) (sym (heard_other (class_of v.act) (ending_at es (lane v)) p v.answer is.1)) (sync_plain p x v.answer going here.1)
+        subst (λ (y : Position). ArePlain (job_in y.task)) (sym (heard_other (class_of v.act) (ending_at es (lane v)) p v.answer (ap is_none going) is.1)) (sync_plain p x v.answer going here.1)
     plain_next None is = plain_idle (subst IsIdle (sym is) tt)
     plain_next (Some (steps j)) is = plain_idle (subst IsIdle (sym is) tt)
     plain_next (Some (sweeps b)) is = plain_idle (subst IsIdle (sym is) tt)

@@ -1,5 +1,5 @@
 -- The acts of a lane.
-use Rattle.std.specs.Prelude.{ℕ, ◌≡◌, Bool, true, false, List, Result, Ok, Err, IsOk, IsSome}
+use Rattle.std.specs.Prelude.{ℕ, ◌≡◌, Bool, true, false, List, Option, Some, None, Result, Ok, Err, IsOk, IsSome}
 use Rattle.store_types.specs.declared.refusal.Refusal.{Refusal}
 use Rattle.store_types.specs.declared.refusal.Refusal.TheVariants.{BadBlob, WrongSize, WrongDigest}
 use Rattle.store_types.specs.declared.names.Digest32.{Digest32}
@@ -114,6 +114,12 @@ pub data Class : Type 0 where
   ending : Class
 
 abbrev pub class_of : Act → Class
+class_of (acts.Plain c) = stepping
+class_of (acts.JobGroup c) = stepping
+class_of (acts.Blob name checked) = stepping
+class_of (acts.Chunk digest checked) = stepping
+class_of (acts.ReadFile name offset) = stepping
+class_of (acts.ReadChunk name entry) = stepping
 class_of (acts.RemoteList c) = reaching
 class_of (acts.RemoteFile snapshot name offset) = reaching
 class_of (acts.RemoteChunk digest) = reaching
@@ -121,7 +127,22 @@ class_of acts.Start = starting
 class_of acts.Step = sweeping
 class_of acts.Short = wanting
 class_of acts.End = ending
-class_of a = stepping
+
+-- the chunk that it sends: its digest, and what the check of its bytes gave
+abbrev pub sent_chunk : Act → Option (Digest32 × Result (List ℕ) Refusal)
+sent_chunk (acts.Plain c) = None
+sent_chunk (acts.JobGroup c) = None
+sent_chunk (acts.Blob name checked) = None
+sent_chunk (acts.Chunk digest checked) = Some (digest, checked)
+sent_chunk (acts.ReadFile name offset) = None
+sent_chunk (acts.ReadChunk name entry) = None
+sent_chunk (acts.RemoteList c) = None
+sent_chunk (acts.RemoteFile snapshot name offset) = None
+sent_chunk (acts.RemoteChunk digest) = None
+sent_chunk acts.Start = None
+sent_chunk acts.Step = None
+sent_chunk acts.Short = None
+sent_chunk acts.End = None
 
 -- ---- which part of the core does it
 
@@ -152,6 +173,10 @@ family_of acts.Start = Collects
 family_of acts.Step = Collects
 family_of acts.Short = Wants
 family_of acts.End = Ends
+
+abbrev pub is_sweeping : Class → Bool
+is_sweeping sweeping = true
+is_sweeping class = false
 
 abbrev pub is_managing : Family → Bool
 is_managing Manages = true

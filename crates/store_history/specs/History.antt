@@ -2,6 +2,7 @@
 use Rattle.std.specs.Prelude.{zero, suc, ℕ, ◌+◌, Bool, true, false, List, [], ◌∷◌, map, filter, ◌==◌, if◌then◌else◌, Option, Some, None, Result, Ok, Err}
 use Rattle.std.specs.List.{flat_map}
 use Rattle.store_types.specs.declared.order.Entry.{Entry}
+use Rattle.store_types.specs.declared.names.Digest32.{Digest32}
 use Rattle.store_types.specs.declared.refusal.Refusal.{Refusal}
 use Rattle.store_types.specs.declared.refusal.Refusal.TheVariants.{NoMemory}
 use Rattle.store_files.specs.Archive.{Snapshot}
@@ -18,7 +19,7 @@ use Rattle.store_model.specs.Weave.{first_fault}
 use Rattle.store_history.specs.declared.act.Act.{Act}
 use Rattle.store_history.specs.declared.act.Act.TheVariants as acts
 use Rattle.store_history.specs.declared.act.Event.{Event}
-use Rattle.store_history.specs.Acts.{Class, sweeping, class_of}
+use Rattle.store_history.specs.Acts.{Class, sweeping, class_of, sent_chunk}
 
 -- ---- events
 
@@ -126,9 +127,12 @@ act_outcome remote w k m acts.End = Ok (ended w.store k, Done)
 -- ---- the pieces that were sent
 
 -- a piece that an act sends under its digest
+abbrev pub pieces_of_chunk : Option (Digest32 × Result (List ℕ) Refusal) → List (List ℕ)
+pieces_of_chunk None = []
+pieces_of_chunk (Some c) = elim (data_in c.1) [ Ok piece ↦ piece ∷ [] | Err refusal ↦ [] ]
+
 abbrev pub sent_by : Act → List (List ℕ)
-sent_by (acts.Chunk digest checked) = elim (data_in checked) [ Ok piece ↦ piece ∷ [] | Err refusal ↦ [] ]
-sent_by _ = []
+sent_by act = pieces_of_chunk (sent_chunk act)
 
 abbrev pub sent : List Event → List (List ℕ)
 sent h = flat_map (λ e. sent_by e.act) h

@@ -46,13 +46,14 @@ pub data Task : Type 0 where
   pulls : Pulling → Task
   sweeps : Bool → Task
 
--- The input's size and what is left of it; what is open; whether want of memory was the last that was told, or is to be; whether it ended the
--- lane, so that only the lane's end may come, behind that of its collector or of its job's session; what was told; whether the lane is over.
+-- The input's size and what is left of it; what is open; whether memory was wanting, as the last that was told, while nothing was open, as it
+-- is where a frame can't be held; whether an answer was the last, so that only the lane's end may come, behind that of its collector or of its
+-- job's session; what was told; whether the lane is over.
 pub record Position : Type 0 where
   pub size : ℕ
   pub left : List ℕ
   pub task : Option Task
-  pub is_out_of_memory : Bool
+  pub is_unheld : Bool
   pub is_spent : Bool
   pub told : List Reply
   pub is_over : Bool
@@ -62,7 +63,7 @@ begin input = record {
   size = length input;
   left = input;
   task = None;
-  is_out_of_memory = false;
+  is_unheld = false;
   is_spent = false;
   told = [];
   is_over = false;
@@ -132,16 +133,11 @@ heard_at p kind (Some r) (ahead (broken refusal)) = if kind == MEMORY_KIND then 
 heard_at p kind (Some r) (pull x left) = pulls_on p left (pull_take x r)
 heard_at p kind _ _ = p
 
--- want of memory was the answer, or ended the collector
-abbrev pub wants : ℕ → Option Task → Bool
-wants kind (Some (sweeps true)) = true
-wants kind _ = kind == MEMORY_KIND
-
 -- an answer whose entry was the reserve's is the last but for the end of the collector or of a job's session, and that of the lane
 unfoldable pub heard : Position → Answer → Position
 heard p a =
     let q = heard_at p (a.entry).kind a.reply (next_at p) in
-    record q { is_out_of_memory = wants (a.entry).kind p.task; is_spent = a.last || q.is_spent }
+    record q { is_unheld = false; is_spent = a.last || q.is_spent }
 
 -- The lane's end. Its reply is that of BYE, or of what is no command.
 unfoldable pub last_words : Ending → Position → Ahead → Position
@@ -157,9 +153,14 @@ end_faulted _ p r = heard_at p 5 r (next_at p)
 abbrev pub end_heard : Ending → Position → ℕ → Option Reply → Position
 end_heard e p kind r = if kind == FAULT_KIND then end_faulted e p r else record (last_words e p (next_at p)) { is_over = true }
 
+-- want of memory while nothing is open: a frame could not be held
+abbrev pub leaves_unheld : Position → Answer → Bool
+leaves_unheld p a = is_none p.task && ((a.entry).kind == MEMORY_KIND)
+
 -- the lane after one of its answers
 abbrev pub heard_as : Class → Ending → Position → Answer → Position
 heard_as ending e p a = end_heard e p (a.entry).kind a.reply
+heard_as wanting e p a = record (heard p a) { is_unheld = leaves_unheld p a }
 heard_as _ e p a = heard p a
 
 unfoldable pub position_after : Ending → Position → Event → Position
@@ -207,9 +208,9 @@ may_want_at p = wants_by p.task p.left
 abbrev pub may_step : Position → Bool
 may_step p = not p.is_spent || stops p.task
 
--- How a lane may end where this is next. Want of memory ended it where that was the last answer, or one behind which no more than its job's
--- session was closed: a job that was refused has closed its session. Where the source failed or gave too much, no job is open, and only a part of
--- a frame is left without an answer.
+-- How a lane may end where this is next. Want of memory ended it where a frame could not be held, or an answer was the last: no other answer
+-- of want of memory ends a lane, and nothing is open then. Where the source failed or gave too much, no job is open, and only a part of a frame
+-- is left without an answer.
 abbrev pub EndsSo : Ending → Position → Ahead → Type 0
 EndsSo endings.Clean p (ahead bye) = p.is_spent ≡ false
 EndsSo endings.Clean p (ahead end) = p.is_spent ≡ false
@@ -217,7 +218,7 @@ EndsSo (endings.Broken place) p (ahead (broken refusal)) = (p.is_spent ≡ false
 EndsSo endings.SourceFault p n = (p.is_spent ≡ false) × (p.task ≡ None) × (cut p.left ≡ short)
 EndsSo endings.SourceTooLong p n = (p.is_spent ≡ false) × (p.task ≡ None) × (cut p.left ≡ short)
 EndsSo endings.SinkFault p n = Unit {0}
-EndsSo endings.NoMemory p n = ((p.is_out_of_memory || p.is_spent) ≡ true) × (stops p.task ≡ false)
+EndsSo endings.NoMemory p n = ((p.is_unheld || p.is_spent) ≡ true) × (p.task ≡ None)
 EndsSo _ p n = ⊥
 
 -- the lane's end, and no other event, follows

@@ -10,26 +10,28 @@ use Rattle.port_traits.specs.Readings.{Readings, reading_at, readings_after}
 use Rattle.store_files.specs.Archive.{Snapshot}
 use Rattle.wire_commands.specs.declared.reply.Reply.{Reply}
 use Rattle.wire_commands.specs.declared.reply.Reply.TheVariants.{Collected, Refused}
-use Rattle.wire_commands.specs.declared.command.Command.TheVariants as commands
 use Rattle.store_model.specs.Store.{Session, none, writer, reader, session, lane_count}
 use Rattle.store_model.specs.Steps.{answered}
 use Rattle.store_model.specs.Lanes.{Run}
 use Rattle.store_model.specs.Weave.{want_collector, fault_refusal}
 use Rattle.store_history.specs.declared.act.Act.{Act}
-use Rattle.store_history.specs.declared.act.Act.TheVariants as acts
 use Rattle.store_history.specs.declared.act.Event.{Event}
 use Rattle.store_history.specs.Acts.{IsWellFormed, Class, stepping, reaching, starting, sweeping, wanting, ending, class_of}
 use Rattle.store_history.specs.History.{World, open_on, act_outcome, after, lane, moment, kind, reply, EntryKind, kind_of, step_kind, pass_kind, short_kind, start_kind, close_kind, fault_kind, end_kind, remote_kind}
+use Rattle.store_history.specs.Profile.{OnSessions, ends_writer, ends_reader, profile}
 use Rattle.store_history.specs.Remote.{may_read, ReadsIn}
 
 abbrev pub Says : Option (List Snapshot) → World → ℕ → ℕ → Act → Option Reply → Type 0
 Says remote w k m a r = r ≡ Some (answered w.store (act_outcome remote w k m a)).1
 
 -- an ABORT ends a writer, a CLOSE_READER a reader
+abbrev pub is_ended : OnSessions → Session → Bool
+is_ended ends_writer (writer w) = true
+is_ended ends_reader (reader r) = true
+is_ended sessions session = false
+
 abbrev pub closes : Act → Session → Bool
-closes (acts.Plain commands.Abort) (writer w) = true
-closes (acts.Plain commands.CloseReader) (reader r) = true
-closes _ session = false
+closes act session = is_ended (profile act).sessions session
 
 -- A command ends the lane's session, and no fault was before. Its entry is in reserve, so it is not answered by want of memory.
 abbrev pub IsClosing : World → ℕ → Act → Type 0

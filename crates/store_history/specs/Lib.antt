@@ -1,4 +1,5 @@
 pub mod Acts
+pub mod Profile
 pub mod History
 pub mod Remote
 pub mod Pulling
@@ -13,3 +14,9 @@ pub mod LastTouches
 pub mod Sweeping
 pub mod Saved
 pub mod Touches
+pub mod Replies
+pub mod ChunkFiles
+pub mod Foreign
+pub mod Answered
+pub mod RemoteDisk
+pub mod Opened

@@ -1,12 +1,13 @@
 -- The sweep of an open collector in the course of a history: what it marks, which chunks it visits, and which of them it takes out.
-use Rattle.std.specs.Prelude.{◌≡◌, ℕ, ◌+◌, Bool, true, false, not, min, List, [], ◌∷◌, ◌++◌, map, filter, length, take, drop, if◌then◌else◌, Option, Some, None, option_map, is_some, unwrap_or, IsSomeAnd}
+use Rattle.std.specs.Prelude.{◌≡◌, ℕ, ◌+◌, Bool, true, false, not, min, List, [], ◌∷◌, ◌++◌, map, filter, length, take, drop, if◌then◌else◌, Option, Some, None, option_map, is_some, unwrap_or, IsSomeAnd, Result}
 use Rattle.std.specs.List.{flat_map}
 use Rattle.std.specs.Str.{bytes_eq}
 use Rattle.sha2.specs.Sha256.{sha256}
+use Rattle.store_types.specs.declared.names.Digest32.{Digest32}
 use Rattle.store_types.specs.declared.names.SnapshotKey.{SnapshotKey}
+use Rattle.store_types.specs.declared.refusal.Refusal.{Refusal}
 use Rattle.store_types.specs.Names.{same_key, key_of, name_lt}
 use Rattle.store_files.specs.Archive.{Content, Snapshot, pieces_of}
-use Rattle.wire_commands.specs.declared.command.Command.TheVariants.{Forget}
 use Rattle.wire_commands.specs.declared.reply.Reply.{Reply}
 use Rattle.wire_commands.specs.declared.reply.Reply.TheVariants.{Done, Collected}
 use Rattle.store_model.specs.Store.{Session, writer, Store}
@@ -14,12 +15,12 @@ use Rattle.store_model.specs.Lanes.{Collecting}
 use Rattle.atime_book.specs.Touches.{cutoff_of, is_stale}
 use Rattle.atime_book.specs.Counts.{is_since}
 use Rattle.store_history.specs.declared.act.Act.{Act}
-use Rattle.store_history.specs.declared.act.Act.TheVariants.{Plain, Chunk}
 use Rattle.store_history.specs.declared.act.Event.{Event}
-use Rattle.store_history.specs.Acts.{Class, starting, sweeping, class_of}
+use Rattle.store_history.specs.Acts.{Class, starting, sweeping, class_of, sent_chunk}
 use Rattle.store_history.specs.History.{World, Opening, opened, after, after_all, lane, moment, kind, reply, EntryKind, kind_of, pass_kind, start_kind, close_kind}
 use Rattle.store_history.specs.Legal.{collecting_on}
 use Rattle.store_history.specs.LastTouches.{LastTouches, is_one_of, touches_at_opening, touched, touches_after}
+use Rattle.store_history.specs.Profile.{OnList, takes_out, profile}
 
 -- ---- what is to be marked
 
@@ -197,9 +198,12 @@ without None touches = touches
 without (Some digest) touches = record touches { last = λ d. if bytes_eq digest d then None else touches.last d }
 
 -- a CHUNK that was done has sent its chunk
+abbrev pub known_with : Option (Digest32 × Result (List ℕ) Refusal) → Option Reply → List (List ℕ) → List (List ℕ)
+known_with (Some c) (Some Done) known = insert_digest (c.0).0 known
+known_with c reply known = known
+
 abbrev pub known_after : Act → Option Reply → List (List ℕ) → List (List ℕ)
-known_after (Chunk digest checked) (Some Done) known = insert_digest digest.0 known
-known_after act reply known = known
+known_after act reply known = known_with (sent_chunk act) reply known
 
 -- the text names the snapshot
 abbrev pub names_key : Option SnapshotKey → SnapshotKey → Bool
@@ -207,9 +211,12 @@ names_key None key = false
 names_key (Some named) key = same_key key named
 
 -- a FORGET of the snapshot was done
+abbrev pub takes_key : OnList → Option Reply → SnapshotKey → Bool
+takes_key (takes_out text) (Some Done) key = names_key (key_of text) key
+takes_key other reply key = false
+
 abbrev pub forgets : Act → Option Reply → SnapshotKey → Bool
-forgets (Plain (Forget text)) (Some Done) key = names_key (key_of text) key
-forgets act reply key = false
+forgets act reply key = takes_key (profile act).list reply key
 
 -- the indexes of a snapshot that was forgotten are passed over
 abbrev pub spared : Act → Option Reply → Sweep → Sweep

@@ -6,13 +6,14 @@ use Rattle.store_types.specs.declared.refusal.Refusal.{Refusal}
 use Rattle.store_types.specs.declared.refusal.Refusal.TheVariants.{BadName, GroupBusy, SnapshotBusy, TooMany, NoFile, NoSnapshot, BadRange, NotAllowed}
 use Rattle.store_types.specs.Chain.Refusing.{◌>>=◌, unless, or_else, if_none}
 use Rattle.store_types.specs.FileNames.{is_blob_name, is_file_name, is_index_name, is_fixed_name, is_dynamic_name}
-use Rattle.store_types.specs.Names.{key_of, group_of, group_of_key}
+use Rattle.store_types.specs.Names.{group_of_key}
 use Rattle.store_files.specs.Archive.{dynamic, fixed, Content, archive, blob, file_text, file_named, pieces_of, piece_with, content_of, csum_by}
 use Rattle.wire_commands.specs.declared.command.Command.{Command}
 use Rattle.wire_commands.specs.declared.command.Command.TheVariants as commands
 use Rattle.wire_commands.specs.declared.reply.Reply.{Reply}
 use Rattle.wire_commands.specs.declared.reply.Reply.TheVariants as replies
-use Rattle.store_model.specs.Store.{with_session, none, Writer, writer, Reader, reader, Session, Store, Outcome, session, want_writer, want_reader, want_idle, group_holder, snapshot_holder, in_group, latest_in, snapshot_named}
+use Rattle.store_model.specs.Store.{with_session, none, Writer, writer, Reader, reader, Session, Store, Outcome, session, want_writer, want_reader, group_holder, snapshot_holder, in_group, latest_in, snapshot_named}
+use Rattle.store_model.specs.Heads.{key_in, group_in, after_in, idle_key, idle_group}
 use Rattle.store_model.specs.Uploads.{want_room}
 use Rattle.store_model.specs.Archives.{new_archive, want_sizes, want_number, want_entries, pieces_named, want_facts}
 use Rattle.store_model.specs.Manifests.{finish_check}
@@ -20,7 +21,7 @@ use Rattle.store_model.specs.WriterSteps.{goes_on, open_writer, want_newer, base
 use Rattle.store_model.specs.WriterCalls as calls
 use Rattle.store_model.specs.ArchiveSteps.{new_fixed, new_dynamic, check_chunk, checked_chunk, put_chunk, named, append, close_index}
 use Rattle.store_model.specs.ReaderSteps.{open_reader, reader_files, is_noted, note, download, noted_pieces, get_chunk, range_of, range, read_file, read_chunk, close_reader}
-use Rattle.store_model.specs.AdminSteps.{want_after, list, files, want_free, forget, group, counts_fit, prune_group}
+use Rattle.store_model.specs.AdminSteps.{list, files, want_free, forget, group, counts_fit, prune_group}
 use Rattle.store_model.specs.Steps.{outcome, answered}
 use Rattle.store_model.specs.Done.{IsBlobDone, IsChunkDone, IsDone, IsAnswer, Effect, nothing, sends, appends, finishes, forgets, effect_of, IsGrown, taken, sent, begun, appended, filed, stored, IsNext, ends, opens, writes, enters, reads, Shape, same, turned, more, less, Leaves}
 
@@ -33,7 +34,7 @@ pub err_ok : {A : Type 0} (refusal : Refusal) (x : A) → ◌≡◌ {A = Result 
 err_ok refusal x e = cc
 
 -- what the first test gave, and what the rest made of it
-passed : {A B : Type 0} (x : Result A Refusal) (f : A → Result B Refusal) (b : B) → (x >>= f) ≡ Ok b → (a : A) × (x ≡ Ok a) × (f a ≡ Ok b)
+pub passed : {A B : Type 0} (x : Result A Refusal) (f : A → Result B Refusal) (b : B) → (x >>= f) ≡ Ok b → (a : A) × (x ≡ Ok a) × (f a ≡ Ok b)
 passed (Ok a) f b e = (a, refl, e)
 passed (Err refusal) f b e = absurd (err_ok refusal b e)
 
@@ -62,11 +63,6 @@ reading (reader r) f b e = (r, refl, e)
 free_alone : {A : Type 0} (refusal : A → Refusal) (o : Option A) (u : Unit {0}) → if_none refusal o ≡ Ok u → o ≡ None
 free_alone refusal None u e = refl
 free_alone refusal (Some x) u e = absurd (err_ok (refusal x) u e)
-
-idling : {B : Type 0} (x : Session) (f : Unit {0} → Result B Refusal) (b : B) → (want_idle x >>= f) ≡ Ok b → (x ≡ none) × (f tt ≡ Ok b)
-idling none f b e = (refl, e)
-idling (writer v) f b e = absurd (err_ok _ b e)
-idling (reader r) f b e = absurd (err_ok _ b e)
 
 -- ---- what a command that was done has found
 
@@ -127,12 +123,11 @@ module _ (s : Store) (k : ℕ) where
   walk : (m : ℕ) (c : Command) (after : Store × Reply) → outcome s k m c ≡ Ok after → IsDone s k m c after
   unfolding outcome open_writer previous new_fixed new_dynamic put_chunk append close_index goes_on put_blob finish abort open_reader download get_chunk range close_reader list files want_free forget group prune_group
   walk m (commands.OpenWriter text) after e =
-      let (idle, e1) = idling (session s k) _ after e in
-      let (key, is, e2) = found BadName (key_of text) _ after e1 in
-      let (alone, e3) = free GroupBusy (group_holder s (group_of_key key)) _ after e2 in
-      let (u, newer, e4) = passed (want_newer key.time (latest_in (group_of_key key) s.snapshots)) _ after e3 in
-      let (few, e5) = holds (TooMany 4096) (nat_lt (length (in_group (group_of_key key) s.snapshots)) 4096) _ after e4 in
-      (key, idle, is, alone, newer, few, sym (ok_same _ after e5))
+      let (key, is, e1) = passed (idle_key s k text) _ after e in
+      let (alone, e2) = free GroupBusy (group_holder s (group_of_key key)) _ after e1 in
+      let (u, newer, e3) = passed (want_newer key.time (latest_in (group_of_key key) s.snapshots)) _ after e2 in
+      let (few, e4) = holds (TooMany 4096) (nat_lt (length (in_group (group_of_key key) s.snapshots)) 4096) _ after e3 in
+      (key, is, alone, newer, few, sym (ok_same _ after e4))
   walk m (commands.Previous name offset) after e =
       let (v, runs, e1) = writing (session s k) _ after e in
       let (named, e2) = holds BadName (is_file_name name) _ after e1 in
@@ -164,10 +159,9 @@ module _ (s : Store) (k : ℕ) where
       (v, listing, runs, right, sym (ok_same _ after e2))
   walk m commands.Abort after e = let (v, runs, e1) = writing (session s k) _ after e in (v, runs, sym (ok_same _ after e1))
   walk m (commands.OpenReader text) after e =
-      let (idle, e1) = idling (session s k) _ after e in
-      let (key, is, e2) = found BadName (key_of text) _ after e1 in
-      let (x, there, e3) = found NoSnapshot (snapshot_named key s.snapshots) _ after e2 in
-      (key, x, idle, is, there, sym (ok_same _ after e3))
+      let (key, is, e1) = passed (idle_key s k text) _ after e in
+      let (x, there, e2) = found NoSnapshot (snapshot_named key s.snapshots) _ after e1 in
+      (key, x, is, there, sym (ok_same _ after e2))
   walk m (commands.Download name offset) after e =
       let (r, opened, e1) = reading (session s k) _ after e in
       let (named, e2) = holds BadName (is_file_name name) _ after e1 in
@@ -185,26 +179,24 @@ module _ (s : Store) (k : ℕ) where
       let (bytes, within, e4) = passed (range_of (reader_files s r) r name offset len) _ after e3 in
       (r, f, bytes, opened, named, has, within, sym (ok_same _ after e4))
   walk m commands.CloseReader after e = let (r, opened, e1) = reading (session s k) _ after e in (r, opened, sym (ok_same _ after e1))
-  walk m (commands.List text) after e = let (from, is, e1) = passed (want_after text) _ after e in (from, is, sym (ok_same _ after e1))
+  walk m (commands.List text) after e = let (from, is, e1) = passed (after_in s k text) _ after e in (from, is, sym (ok_same _ after e1))
   walk m (commands.Files text) after e =
-      let (key, is, e1) = found BadName (key_of text) _ after e in
+      let (key, is, e1) = passed (key_in s k text) _ after e in
       let (x, there, e2) = found NoSnapshot (snapshot_named key s.snapshots) _ after e1 in
       (key, x, is, there, sym (ok_same _ after e2))
   walk m (commands.Forget text) after e =
-      let (idle, e1) = idling (session s k) _ after e in
-      let (key, is, e2) = found BadName (key_of text) _ after e1 in
-      let (u, frees, e3) = passed (want_free s key) _ after e2 in
-      let (x, there, e4) = found NoSnapshot (snapshot_named key s.snapshots) _ u frees in
-      (key, x, idle, is, there, free_alone SnapshotBusy (snapshot_holder s key) u e4, sym (ok_same _ after e3))
+      let (key, is, e1) = passed (idle_key s k text) _ after e in
+      let (u, frees, e2) = passed (want_free s key) _ after e1 in
+      let (x, there, e3) = found NoSnapshot (snapshot_named key s.snapshots) _ u frees in
+      (key, x, is, there, free_alone SnapshotBusy (snapshot_holder s key) u e3, sym (ok_same _ after e2))
   walk m (commands.Prune name keep dry) after e =
-      let (idle, e1) = idling (session s k) _ after e in
-      let (g, is, e2) = found BadName (group_of name) _ after e1 in
-      let (few, e3) = holds (TooMany 1000) (counts_fit keep) _ after e2 in
-      (g, idle, is, few, sym (ok_same _ after e3))
+      let (g, is, e1) = passed (idle_group s k name) _ after e in
+      let (few, e2) = holds (TooMany 1000) (counts_fit keep) _ after e1 in
+      (g, is, few, sym (ok_same _ after e2))
   walk m (commands.Verify text) after e = sym (ok_same _ after e)
   walk m (commands.Sync name) after e = sym (ok_same _ after e)
   walk m commands.Gc after e = sym (ok_same _ after e)
-  walk m (commands.Group name) after e = let (g, is, e1) = found BadName (group_of name) _ after e in (g, is, sym (ok_same _ after e1))
+  walk m (commands.Group name) after e = let (g, is, e1) = passed (group_in s k name) _ after e in (g, is, sym (ok_same _ after e1))
   walk m commands.Bye after e = sym (ok_same _ after e)
 
 pub done : (s : Store) (k m : ℕ) (c : Command) (after : Store × Reply) → outcome s k m c ≡ Ok after → IsDone s k m c after
@@ -243,7 +235,7 @@ module _ (s : Store) (k m : ℕ) (after : Store × Reply) where
   chunk_leaves checked d = goes sends d.0 _ _ d.4 tt d.2 (sent d.1 refl refl)
 
   pub shape : (c : Command) → IsDone s k m c after → Leaves s k m (effect_of c) after
-  shape (commands.OpenWriter text) d = turns nothing _ _ d.6 tt (opens text d.0 d.2 d.1 d.3 d.4 refl)
+  shape (commands.OpenWriter text) d = turns nothing _ _ d.5 tt (opens text d.0 d.1 d.2 d.3 refl)
   shape (commands.Previous name offset) d = goes nothing d.0 _ _ d.8 tt d.3 (taken d.1 name d.2 d.5 d.6 refl)
   shape (commands.NewFixed name size chunk_size) d = goes nothing d.0 _ _ d.6 tt d.1 (begun name (new_archive (fixed size chunk_size) 4016 (d.0).key name m) refl refl)
   shape (commands.NewDynamic name) d = goes nothing d.0 _ _ d.5 tt d.1 (begun name (new_archive dynamic 4032 (d.0).key name m) refl refl)
@@ -253,15 +245,15 @@ module _ (s : Store) (k m : ℕ) (after : Store × Reply) where
   shape (commands.Blob name bytes) d = blob_leaves nothing name (want_data bytes) d
   shape commands.Finish d = leaves finishes _ _ d.4 tt (more d.0 refl d.2 refl)
   shape commands.Abort d = turns nothing none _ d.2 tt (ends refl)
-  shape (commands.OpenReader text) d = turns nothing _ _ d.5 tt (enters d.1 _ d.4 refl)
+  shape (commands.OpenReader text) d = turns nothing _ _ d.4 tt (enters d.1 _ d.3 refl)
   shape (commands.Download name offset) d = turns nothing _ _ d.6 tt (reads d.0 _ d.2 (note_key name (d.1).content d.0) refl)
   shape (commands.GetChunk digest) d = stays nothing _ d.4 tt
   shape (commands.Range name offset len) d = stays nothing _ d.7 tt
   shape commands.CloseReader d = turns nothing none _ d.2 tt (ends refl)
   shape (commands.List text) d = stays nothing _ d.2 tt
   shape (commands.Files text) d = stays nothing _ d.4 tt
-  shape (commands.Forget text) d = leaves (forgets text) _ _ d.6 tt (less text d.0 refl d.3 d.5 refl)
-  shape (commands.Prune name keep dry) d = stays nothing _ d.4 tt
+  shape (commands.Forget text) d = leaves (forgets text) _ _ d.5 tt (less text d.0 refl d.2 d.4 refl)
+  shape (commands.Prune name keep dry) d = stays nothing _ d.3 tt
   shape (commands.Verify text) d = stays nothing _ d tt
   shape (commands.Sync name) d = stays nothing _ d tt
   shape commands.Gc d = stays nothing _ d tt

@@ -21,3 +21,4 @@ pub mod ManifestTexts
 pub mod EndingLemmas
 pub mod VerifyLemmas
 pub mod Done
+pub mod HeadLemmas

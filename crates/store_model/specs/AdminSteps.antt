@@ -1,15 +1,15 @@
 -- The commands on the store as a whole, with their refusals in order.
-use Rattle.std.specs.Prelude.{ℕ, Bool, true, false, List, [], map, length, filter, take, ◌==◌, nat_le, if◌then◌else◌, Option, Some, None, Result, Ok, Err}
+use Rattle.std.specs.Prelude.{ℕ, Bool, true, false, List, [], map, length, filter, take, nat_le, if◌then◌else◌, Option, Some, None, Result, Ok, Err}
 use Rattle.std.specs.Str.{bytes_eq}
 use Rattle.std.specs.List.{filter_map, list_all}
 use Rattle.store_types.specs.declared.names.Keep.{Keep}
 use Rattle.store_types.specs.declared.names.SnapshotKey.{SnapshotKey}
 use Rattle.store_types.specs.declared.names.GroupKey.{GroupKey}
 use Rattle.store_types.specs.declared.refusal.Refusal.{Refusal}
-use Rattle.store_types.specs.declared.refusal.Refusal.TheVariants.{BadName, NoSnapshot, SnapshotBusy, TooMany}
+use Rattle.store_types.specs.declared.refusal.Refusal.TheVariants.{NoSnapshot, SnapshotBusy, TooMany}
 use Rattle.store_types.specs.Chain.Refusing.{◌>>=◌, unless, or_else, if_none}
 use Rattle.store_types.specs.FileNames.{manifest_name}
-use Rattle.store_types.specs.Names.{key_of, key_text, key_lt, group_of}
+use Rattle.store_types.specs.Names.{key_text, key_lt}
 use Rattle.store_files.specs.Archive.{File, Snapshot}
 use Rattle.store_files.specs.Manifest.{manifest_of}
 use Rattle.store_files.specs.Manifest.Fields.{Fact}
@@ -19,7 +19,8 @@ use Rattle.wire_commands.specs.declared.rows.ListRow.{ListRow}
 use Rattle.wire_commands.specs.declared.rows.FileRow.{FileRow}
 use Rattle.wire_commands.specs.declared.reply.Reply.TheVariants.{Done, Listing, Files, Keys}
 use Rattle.store_model.specs.Stands.{group_limit}
-use Rattle.store_model.specs.Store.{Store, Outcome, session, want_idle, snapshot_named, snapshot_holder, keys_in, without_snapshot}
+use Rattle.store_model.specs.Store.{Store, Outcome, snapshot_named, snapshot_holder, keys_in, without_snapshot}
+use Rattle.store_model.specs.Heads.{key_in, group_in, after_in, idle_key, idle_group}
 use Rattle.store_model.specs.Manifests.{fact_of, manifest_data}
 
 -- ---- LIST
@@ -27,12 +28,6 @@ use Rattle.store_model.specs.Manifests.{fact_of, manifest_data}
 -- so many snapshots are listed at once
 abbrev pub list_limit : ℕ
 list_limit = 1024
-
--- the snapshot that a text names, or none where it is empty
-abbrev pub want_after : List ℕ → Result (Option SnapshotKey) Refusal
-want_after text =
-    if length text == 0 then Ok None else
-    (or_else BadName (key_of text) >>= (λ key. Ok (Some key)))
 
 abbrev pub is_after : Option SnapshotKey → Snapshot → Bool
 is_after None x = true
@@ -46,9 +41,9 @@ list_row x = record { snapshot = key_text x.key; damaged = false; files = length
 abbrev pub listed : List Snapshot → Option SnapshotKey → List ListRow
 listed snapshots after = map list_row (take list_limit (filter (is_after after) snapshots))
 
-unfoldable pub list : Store → List ℕ → Outcome
-list s text = do
-  after ← want_after text
+unfoldable pub list : Store → ℕ → List ℕ → Outcome
+list s lane text = do
+  after ← after_in s lane text
   Ok (s, Listing (listed s.snapshots after))
 
 -- ---- FILES
@@ -71,9 +66,9 @@ file_row x = record { file = x.name; size = x.size; csum = x.csum }
 abbrev pub file_rows : List File → List FileRow
 file_rows files = map file_row (filter_map (fact_shown (facts_in files)) files)
 
-unfoldable pub files : Store → List ℕ → Outcome
-files s text = do
-  key ← or_else BadName (key_of text)
+unfoldable pub files : Store → ℕ → List ℕ → Outcome
+files s lane text = do
+  key ← key_in s lane text
   x ← or_else NoSnapshot (snapshot_named key s.snapshots)
   Ok (s, Files (file_rows x.files))
 
@@ -87,8 +82,7 @@ want_free s key = do
 
 unfoldable pub forget : Store → ℕ → List ℕ → Outcome
 forget s lane text = do
-  _ ← want_idle (session s lane)
-  key ← or_else BadName (key_of text)
+  key ← idle_key s lane text
   _ ← want_free s key
   Ok (record s { snapshots = without_snapshot key s.snapshots }, Done)
 
@@ -98,9 +92,9 @@ forget s lane text = do
 abbrev pub group_texts : GroupKey → List Snapshot → List (List ℕ)
 group_texts g snapshots = map key_text (take group_limit (keys_in g snapshots))
 
-unfoldable pub group : Store → List ℕ → Outcome
-group s text = do
-  g ← or_else BadName (group_of text)
+unfoldable pub group : Store → ℕ → List ℕ → Outcome
+group s lane text = do
+  g ← group_in s lane text
   Ok (s, Keys (group_texts g s.snapshots))
 
 -- ---- the GROUP of a PRUNE
@@ -111,7 +105,6 @@ counts_fit keep = list_all (λ c. nat_le c.count 1000) (choices keep)
 
 unfoldable pub prune_group : Store → ℕ → List ℕ → Keep → Outcome
 prune_group s lane text keep = do
-  _ ← want_idle (session s lane)
-  g ← or_else BadName (group_of text)
+  g ← idle_group s lane text
   _ ← unless (TooMany 1000) (counts_fit keep)
   Ok (s, Keys (group_texts g s.snapshots))

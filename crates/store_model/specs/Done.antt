@@ -5,7 +5,7 @@ use Rattle.store_types.specs.declared.names.GroupKey.{GroupKey}
 use Rattle.store_types.specs.declared.append.AppendEntry.{AppendEntry}
 use Rattle.store_types.specs.declared.refusal.Refusal.{Refusal}
 use Rattle.store_types.specs.FileNames.{is_file_name, is_blob_name, is_index_name, is_fixed_name, is_dynamic_name}
-use Rattle.store_types.specs.Names.{key_of, group_of, group_of_key}
+use Rattle.store_types.specs.Names.{group_of_key}
 use Rattle.store_files.specs.Archive.{dynamic, fixed, Archive, archive, blob, File, Snapshot, file_text, file_named, pieces_of, piece_with, content_of, csum_by}
 use Rattle.store_files.specs.Manifest.{Manifest}
 use Rattle.blob_codec.specs.Blob as blobs
@@ -14,6 +14,7 @@ use Rattle.wire_commands.specs.declared.command.Command.TheVariants as commands
 use Rattle.wire_commands.specs.declared.reply.Reply.{Reply}
 use Rattle.wire_commands.specs.declared.reply.Reply.TheVariants as replies
 use Rattle.store_model.specs.Store.{Begun, Writer, writer, Reader, reader, Session, none, Store, session, with_session, ended, group_holder, snapshot_holder, in_group, latest_in, snapshot_named, insert_snapshot, without_snapshot}
+use Rattle.store_model.specs.Heads.{key_in, group_in, after_in, idle_key, idle_group}
 use Rattle.store_model.specs.Uploads.{want_room}
 use Rattle.store_model.specs.Archives.{new_archive, want_sizes, want_number, free_number, change_first, without_first, want_entries, pieces_named, want_facts}
 use Rattle.store_model.specs.Manifests.{finish_check}
@@ -21,7 +22,7 @@ use Rattle.store_model.specs.WriterSteps.{with_pool, with_file, new_writer, base
 use Rattle.store_model.specs.WriterCalls.{numbers, begin, chunk, has_number, begun_at, with_pieces}
 use Rattle.store_model.specs.ArchiveSteps.{check_chunk, named}
 use Rattle.store_model.specs.ReaderSteps.{reader_files, note, noted_pieces, range_of}
-use Rattle.store_model.specs.AdminSteps.{want_after, listed, file_rows, group_texts, counts_fit}
+use Rattle.store_model.specs.AdminSteps.{listed, file_rows, group_texts, counts_fit}
 
 -- ---- what it has found
 
@@ -60,7 +61,7 @@ forgotten s key = record s { snapshots = without_snapshot key s.snapshots }
 -- A command of the lane at the moment that was done: what it found, and the store and the reply that it gave.
 abbrev pub IsDone : Store → ℕ → ℕ → Command → Store × Reply → Type 0
 IsDone s k m (commands.OpenWriter text) after =
-    (key : SnapshotKey) × (session s k ≡ none) × (key_of text ≡ Some key) × (group_holder s (group_of_key key) ≡ None)
+    (key : SnapshotKey) × (idle_key s k text ≡ Ok key) × (group_holder s (group_of_key key) ≡ None)
     × (want_newer key.time (latest_in (group_of_key key) s.snapshots) ≡ Ok tt) × (nat_lt (length (in_group (group_of_key key) s.snapshots)) 4096 ≡ true)
     × (after ≡ (with_session s k (writer (new_writer key m (latest_in (group_of_key key) s.snapshots))), replies.Base (base_text (latest_in (group_of_key key) s.snapshots))))
 IsDone s k m (commands.Previous name offset) after =
@@ -85,7 +86,7 @@ IsDone s k m (commands.Blob name bytes) after = IsBlobDone s k name (want_data b
 IsDone s k m commands.Finish after = (v : Writer) × (listing : Manifest) × (session s k ≡ writer v) × (finish_check v ≡ Ok listing) × (after ≡ (finished s k v, replies.Done))
 IsDone s k m commands.Abort after = (v : Writer) × (session s k ≡ writer v) × (after ≡ (ended s k, replies.Done))
 IsDone s k m (commands.OpenReader text) after =
-    (key : SnapshotKey) × (x : Snapshot) × (session s k ≡ none) × (key_of text ≡ Some key) × (snapshot_named key s.snapshots ≡ Some x)
+    (key : SnapshotKey) × (x : Snapshot) × (idle_key s k text ≡ Ok key) × (snapshot_named key s.snapshots ≡ Some x)
     × (after ≡ (with_session s k (reader (record { key = key; noted = [] })), replies.Done))
 IsDone s k m (commands.Download name offset) after =
     (r : Reader) × (f : File) × (session s k ≡ reader r) × (is_file_name name ≡ true) × (file_named name (reader_files s r) ≡ Some f)
@@ -97,18 +98,18 @@ IsDone s k m (commands.Range name offset len) after =
     (r : Reader) × (f : File) × (bytes : List ℕ) × (session s k ≡ reader r) × (is_index_name name ≡ true) × (file_named name (reader_files s r) ≡ Some f)
     × (range_of (reader_files s r) r name offset len ≡ Ok bytes) × (after ≡ (s, replies.Data bytes))
 IsDone s k m commands.CloseReader after = (r : Reader) × (session s k ≡ reader r) × (after ≡ (ended s k, replies.Done))
-IsDone s k m (commands.List text) after = (from : Option SnapshotKey) × (want_after text ≡ Ok from) × (after ≡ (s, replies.Listing (listed s.snapshots from)))
+IsDone s k m (commands.List text) after = (from : Option SnapshotKey) × (after_in s k text ≡ Ok from) × (after ≡ (s, replies.Listing (listed s.snapshots from)))
 IsDone s k m (commands.Files text) after =
-    (key : SnapshotKey) × (x : Snapshot) × (key_of text ≡ Some key) × (snapshot_named key s.snapshots ≡ Some x) × (after ≡ (s, replies.Files (file_rows x.files)))
+    (key : SnapshotKey) × (x : Snapshot) × (key_in s k text ≡ Ok key) × (snapshot_named key s.snapshots ≡ Some x) × (after ≡ (s, replies.Files (file_rows x.files)))
 IsDone s k m (commands.Forget text) after =
-    (key : SnapshotKey) × (x : Snapshot) × (session s k ≡ none) × (key_of text ≡ Some key) × (snapshot_named key s.snapshots ≡ Some x) × (snapshot_holder s key ≡ None)
+    (key : SnapshotKey) × (x : Snapshot) × (idle_key s k text ≡ Ok key) × (snapshot_named key s.snapshots ≡ Some x) × (snapshot_holder s key ≡ None)
     × (after ≡ (forgotten s key, replies.Done))
 IsDone s k m (commands.Prune name keep dry) after =
-    (g : GroupKey) × (session s k ≡ none) × (group_of name ≡ Some g) × (counts_fit keep ≡ true) × (after ≡ (s, replies.Keys (group_texts g s.snapshots)))
+    (g : GroupKey) × (idle_group s k name ≡ Ok g) × (counts_fit keep ≡ true) × (after ≡ (s, replies.Keys (group_texts g s.snapshots)))
 IsDone s k m (commands.Verify text) after = after ≡ (s, replies.Done)
 IsDone s k m (commands.Sync name) after = after ≡ (s, replies.Done)
 IsDone s k m commands.Gc after = after ≡ (s, replies.Done)
-IsDone s k m (commands.Group name) after = (g : GroupKey) × (group_of name ≡ Some g) × (after ≡ (s, replies.Keys (group_texts g s.snapshots)))
+IsDone s k m (commands.Group name) after = (g : GroupKey) × (group_in s k name ≡ Ok g) × (after ≡ (s, replies.Keys (group_texts g s.snapshots)))
 IsDone s k m commands.Bye after = after ≡ (ended s k, replies.Done)
 
 -- what a command that was done replies: no refusal, and no report of a job or a collector
@@ -159,7 +160,7 @@ pub data IsGrown (s : Store) (v : Writer) (e : Effect) (w : Writer) : Type 0 whe
 pub data IsNext (s : Store) (k m : ℕ) (e : Effect) (x : Session) : Type 0 where
   ends : x ≡ none → IsNext s k m e x
   -- a new writer, whose key is in form, of no writer's group, and newer than the group's latest
-  opens : (text : List ℕ) (key : SnapshotKey) → key_of text ≡ Some key → session s k ≡ none → group_holder s (group_of_key key) ≡ None
+  opens : (text : List ℕ) (key : SnapshotKey) → idle_key s k text ≡ Ok key → group_holder s (group_of_key key) ≡ None
       → want_newer key.time (latest_in (group_of_key key) s.snapshots) ≡ Ok tt → x ≡ writer (new_writer key m (latest_in (group_of_key key) s.snapshots)) → IsNext s k m e x
   -- the writer goes on
   writes : (v w : Writer) → session s k ≡ writer v → IsGrown s v e w → x ≡ writer w → IsNext s k m e x
@@ -174,7 +175,7 @@ pub data Shape (s : Store) (k m : ℕ) (e : Effect) (t : Store) : Type 0 where
   same : t ≡ s → Shape s k m e t
   turned : (x : Session) → IsNext s k m e x → t ≡ with_session s k x → Shape s k m e t
   more : (v : Writer) → e ≡ finishes → session s k ≡ writer v → t ≡ finished s k v → Shape s k m e t
-  less : (text : List ℕ) (key : SnapshotKey) → e ≡ forgets text → key_of text ≡ Some key → snapshot_holder s key ≡ None → t ≡ forgotten s key → Shape s k m e t
+  less : (text : List ℕ) (key : SnapshotKey) → e ≡ forgets text → idle_key s k text ≡ Ok key → snapshot_holder s key ≡ None → t ≡ forgotten s key → Shape s k m e t
 
 -- what a command that was done leaves: the store and the reply
 pub record Leaves (s : Store) (k m : ℕ) (e : Effect) (after : Store × Reply) : Type 0 where

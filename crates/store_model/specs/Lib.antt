@@ -1,4 +1,5 @@
 pub mod Store
+pub mod Heads
 pub mod Uploads
 pub mod Manifests
 pub mod Archives

@@ -7,17 +7,16 @@ use Rattle.store_types.specs.declared.refusal.Refusal.TheVariants.{BadName, NoSn
 use Rattle.store_types.specs.declared.names.Digest32.{Digest32}
 use Rattle.store_types.specs.Chain.Refusing.{◌>>=◌, unless, or_else}
 use Rattle.store_types.specs.FileNames.{is_file_name, is_index_name}
-use Rattle.store_types.specs.Names.{key_of}
 use Rattle.store_files.specs.Archive.{Content, archive, blob, File, file_text, file_named, pieces_of, piece_with}
 use Rattle.blob_codec.specs.Blob as blobs
 use Rattle.wire_commands.specs.declared.reply.Reply.TheVariants.{Done, Data}
-use Rattle.store_model.specs.Store.{Reader, reader, Store, Outcome, session, with_session, want_reader, want_idle, ended, snapshot_named}
+use Rattle.store_model.specs.Store.{Reader, reader, Store, Outcome, session, with_session, want_reader, ended, snapshot_named}
+use Rattle.store_model.specs.Heads.{idle_key}
 use Rattle.store_model.specs.WriterSteps.{part_limit, part_of}
 
 unfoldable pub open_reader : Store → ℕ → List ℕ → Outcome
 open_reader s lane snapshot = do
-  _ ← want_idle (session s lane)
-  key ← or_else BadName (key_of snapshot)
+  key ← idle_key s lane snapshot
   _ ← or_else NoSnapshot (snapshot_named key s.snapshots)
   Ok (with_session s lane (reader (record { key = key; noted = [] })), Done)
 

@@ -26,8 +26,8 @@ outcome s lane moment (Download file offset) = download s lane file offset
 outcome s lane moment (GetChunk digest) = get_chunk s lane digest
 outcome s lane moment (Range file offset length) = range s lane file offset length
 outcome s lane moment CloseReader = close_reader s lane
-outcome s lane moment (ListAll after) = list s after
-outcome s lane moment (Files snapshot) = files s snapshot
+outcome s lane moment (ListAll after) = list s lane after
+outcome s lane moment (Files snapshot) = files s lane snapshot
 outcome s lane moment (Forget snapshot) = forget s lane snapshot
 -- a job's first step
 outcome s lane moment (Prune group keep dry) = prune_group s lane group keep
@@ -35,7 +35,7 @@ outcome s lane moment (Prune group keep dry) = prune_group s lane group keep
 outcome s lane moment (Verify snapshot) = Ok (s, Done)
 outcome s lane moment (Sync name) = Ok (s, Done)
 outcome s lane moment Gc = Ok (s, Done)
-outcome s lane moment (Group name) = group s name
+outcome s lane moment (Group name) = group s lane name
 outcome s lane moment Bye = Ok (ended s lane, Done)
 
 -- a refused step changes nothing

@@ -6,10 +6,10 @@ use Rattle.sha2.specs.Sha256.{sha256}
 use Rattle.store_types.specs.declared.append.AppendEntry.{AppendEntry}
 use Rattle.store_types.specs.declared.names.SnapshotKey.{SnapshotKey}
 use Rattle.store_types.specs.declared.refusal.Refusal.{Refusal}
-use Rattle.store_types.specs.declared.refusal.Refusal.TheVariants.{BadName, NoRemote}
+use Rattle.store_types.specs.declared.refusal.Refusal.TheVariants.{NoRemote}
 use Rattle.store_types.specs.Chain.Refusing.{◌>>=◌, or_else}
 use Rattle.store_types.specs.FileNames.{manifest_name}
-use Rattle.store_types.specs.Names.{group_of, key_text}
+use Rattle.store_types.specs.Names.{key_text}
 use Rattle.blob_codec.specs.Blob as blobs
 use Rattle.store_files.specs.Archive.{Layout, dynamic, fixed, Archive, Content, archive, blob, File, Snapshot, digest_of, pieces_of, file_named, file_text, size_of, csum_of}
 use Rattle.wire_commands.specs.declared.command.Command.{Command}
@@ -19,7 +19,8 @@ use Rattle.wire_commands.specs.declared.reply.Reply.TheVariants.{Base, Keys, Ref
 use Rattle.store_model.specs.AdminSteps.{facts_in}
 use Rattle.store_model.specs.Job.{Pull, beginning, sending, aborting, Job, over, asking, stopped}
 use Rattle.store_model.specs.Stands.{group_limit}
-use Rattle.store_model.specs.Store.{Store, session, want_idle, in_group, keys_in}
+use Rattle.store_model.specs.Store.{Store, in_group, keys_in}
+use Rattle.store_model.specs.Heads.{idle_group}
 
 -- ---- which snapshots are pulled
 
@@ -30,8 +31,7 @@ is_later (Some newest) x = nat_lt newest.time (x.key).time
 -- those of the remote's group that are later than the last that GROUP tells of it here
 unfoldable pub to_pull : Option (List Snapshot) → Store → ℕ → List ℕ → Result (List Snapshot) Refusal
 to_pull remote s lane text = do
-  _ ← want_idle (session s lane)
-  g ← or_else BadName (group_of text)
+  g ← idle_group s lane text
   snapshots ← or_else NoRemote remote
   Ok (filter (is_later (last_or None (take group_limit (keys_in g s.snapshots)))) (in_group g snapshots))
 

@@ -12,7 +12,8 @@ use Rattle.wire_commands.specs.declared.reply.Reply.{Reply}
 use Rattle.wire_commands.specs.declared.reply.Reply.TheVariants.{Done, Collected, Refused}
 use Rattle.store_model.specs.declared.ending.Ending.{Ending}
 use Rattle.store_model.specs.declared.ending.Ending.TheVariants as endings
-use Rattle.store_model.specs.Store.{Store, session, want_idle, ended}
+use Rattle.store_model.specs.Store.{Store, ended}
+use Rattle.store_model.specs.Heads.{idle_in}
 use Rattle.store_model.specs.Steps.{answered, step}
 use Rattle.store_model.specs.Job.{Asking, step_of, is_sync, Job, over, asking}
 use Rattle.store_model.specs.Jobs.{take}
@@ -54,7 +55,7 @@ begin_sync r k group left =
 -- a collector may open on a lane without a session, where none is open
 unfoldable pub want_collector : Run → ℕ → Result (Unit {0}) Refusal
 want_collector r k = do
-  _ ← want_idle (session r.store k)
+  _ ← idle_in r.store k
   if_none (λ c. CollectorBusy c.lane) r.collecting
 
 unfoldable pub open_collector : Run → ℕ → List ℕ → Run

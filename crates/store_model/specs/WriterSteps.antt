@@ -5,12 +5,13 @@ use Rattle.store_types.specs.declared.refusal.Refusal.{Refusal}
 use Rattle.store_types.specs.declared.refusal.Refusal.TheVariants.{BadName, GroupBusy, NotNewer, TooMany, NoSnapshot, NoFile, BadBlob, BadRange}
 use Rattle.store_types.specs.Chain.Refusing.{◌>>=◌, unless, or_else, if_none}
 use Rattle.store_types.specs.FileNames.{is_blob_name, is_file_name}
-use Rattle.store_types.specs.Names.{key_of, key_text, group_of_key}
+use Rattle.store_types.specs.Names.{key_text, group_of_key}
 use Rattle.blob_codec.specs.Blob.{data_of}
 use Rattle.store_files.specs.Archive.{Content, blob, Snapshot, file_text, pieces_of, file_named}
 use Rattle.wire_commands.specs.declared.reply.Reply.{Reply}
 use Rattle.wire_commands.specs.declared.reply.Reply.TheVariants.{Done, Base, Part}
-use Rattle.store_model.specs.Store.{Writer, none, writer, Store, Outcome, session, with_session, want_writer, want_idle, ended, group_holder, in_group, latest_in, insert_snapshot, insert_file, snapshot_named}
+use Rattle.store_model.specs.Store.{Writer, none, writer, Store, Outcome, session, with_session, want_writer, ended, group_holder, in_group, latest_in, insert_snapshot, insert_file, snapshot_named}
+use Rattle.store_model.specs.Heads.{idle_key}
 use Rattle.store_model.specs.Uploads.{want_room}
 use Rattle.store_model.specs.Manifests.{finish_check}
 
@@ -38,8 +39,7 @@ want_newer time (Some latest) = unless (NotNewer latest.time) (nat_lt latest.tim
 
 unfoldable pub open_writer : Store → ℕ → ℕ → List ℕ → Outcome
 open_writer s lane moment snapshot = do
-  _ ← want_idle (session s lane)
-  key ← or_else BadName (key_of snapshot)
+  key ← idle_key s lane snapshot
   _ ← if_none GroupBusy (group_holder s (group_of_key key))
   _ ← want_newer key.time (latest_in (group_of_key key) s.snapshots)
   _ ← unless (TooMany 4096) (nat_lt (length (in_group (group_of_key key) s.snapshots)) 4096)

@@ -2,7 +2,7 @@
 
 use crate::asserts::{must, same, same_at};
 use disk_trait::{Disk, DiskError, FailingDisk, MemoryDisk};
-use opening_files::{Inventory, open_files};
+use snapshot_files::{Inventory, open_files};
 use std::alloc::Global;
 use std::process::Abort;
 

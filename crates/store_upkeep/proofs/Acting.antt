@@ -29,6 +29,7 @@ use Rattle.store_model.specs.Done.{Effect, IsGrown, IsNext, Shape, grown, NamesP
 use Rattle.store_model.specs.Done as shapes
 use Rattle.store_model.proofs.Finding.{found_passes}
 use Rattle.store_model.proofs.Done.{err_ok, done, chunk_done}
+use Rattle.store_model.proofs.HeadLemmas.{idle_key_found}
 use Rattle.store_history.specs.declared.act.Act.{Act}
 use Rattle.store_history.specs.declared.act.Act.TheVariants as acts
 use Rattle.store_model.specs.Weave.{fault_refusal}
@@ -262,8 +263,8 @@ module _ (s : Store) (k m : ℕ) (e : Effect) (Sent Touched : List ℕ → Type 
 
   next_moves : (x : Session) → IsNext s k m e x → Into x
   next_moves x (shapes.ends is) = subst Into (sym is) (ends_here s m Sent Touched Gone k quiet)
-  next_moves x (shapes.opens text key named idle alone newer is) =
-      subst Into (sym is) (begins s k m Sent Touched Gone (new_writer key m (latest_in (group_of_key key) s.snapshots)) idle
+  next_moves x (shapes.opens text key takes alone newer is) =
+      subst Into (sym is) (begins s k m Sent Touched Gone (new_writer key m (latest_in (group_of_key key) s.snapshots)) (idle_key_found s k text key takes).0
       (record { start = refl; base = latest_finished (group_of_key key) s.snapshots; pool = refl; begun = refl; files = refl }) quiet)
   next_moves x (shapes.writes v w runs goes is) = subst Into (sym is) (on_quietly s k m Sent Touched Gone v w runs (grows v w goes) quiet)
   next_moves x (shapes.enters y r there is) =
@@ -319,7 +320,7 @@ act_does R w k m (acts.Plain (commands.Append number entries)) formed after is =
     subst (MovesTo m (acts.Plain (commands.Append number entries)) w.store) (sym d.7) (appends_pieces w.store k m number entries d.0 d.1 d.2 d.3 d.6)
 act_does R w k m (acts.Plain (commands.Forget text)) formed after is =
     let d = done w.store k m (commands.Forget text) after is in
-    subst (MovesTo m (acts.Plain (commands.Forget text)) w.store) (sym d.6) (forgets_one w.store m text d.0 d.3 d.5)
+    subst (MovesTo m (acts.Plain (commands.Forget text)) w.store) (sym d.5) (forgets_one w.store m text d.0 (idle_key_found w.store k text d.0 d.2).1 d.4)
 act_does R w k m a formed after is =
     shape_moves w.store k m (act_effect a) (Sends a (Some after.1)) (Touches a (Some after.1)) (Forgets a (Some after.1))
     (silent a formed refl) (quiet_act a (Some after.1) refl) after.0 (act_left R w k m a after is).store

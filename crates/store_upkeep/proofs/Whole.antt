@@ -9,7 +9,7 @@ use Rattle.store_types.specs.declared.order.TheConstants.{START_KIND}
 use Rattle.store_files.specs.Archive.{Snapshot}
 use Rattle.wire_commands.specs.declared.reply.Reply.{Reply}
 use Rattle.wire_commands.specs.declared.reply.Reply.TheVariants.{Done}
-use Rattle.store_model.specs.Store.{session, want_idle}
+use Rattle.store_model.specs.Heads.{idle_in}
 use Rattle.store_model.specs.Lanes.{Collecting}
 use Rattle.store_model.specs.Weave.{want_collector}
 use Rattle.atime_book.specs.Touches.{cutoff_of, is_stale}
@@ -62,7 +62,7 @@ mapped f o a b is e = sym (some_same (f a) b (sym (ap (option_map f) is) ∙ e))
 
 none_open : (w : World) (k : ℕ) → may_open w k ≡ Ok tt → w.collecting ≡ None
 unfolding want_collector
-none_open w k e = by_idle (want_idle (session w.store k)) e
+none_open w k e = by_idle (idle_in w.store k) e
   where
     apart : (refusal : Refusal) → ◌≡◌ {A = Result (Unit {0}) Refusal} (Err refusal) (Ok tt) → ⊥
     apart refusal e = cc

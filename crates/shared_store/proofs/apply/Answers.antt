@@ -3,48 +3,42 @@ use Rattle.store_history.specs.declared.act.Act.{Act}
 use Rattle.store_history.specs.declared.act.Act.TheVariants as acts
 use Rattle.store_history.specs.declared.act.Family.{Family}
 use Rattle.store_history.specs.declared.act.Family.TheVariants.{Reads, Writes, Manages, Collects, Reaches, Wants, Ends}
-use Rattle.store_history.specs.Acts.{class_of, family_of, is_reaching}
+use Rattle.store_history.specs.Acts.{class_of, family_of, is_collecting, is_reaching}
+use Rattle.store_history.specs.RemoteDisk.{is_remotes}
 use Rattle.store_history.proofs.Families.{by_end, by_want}
-use Rattle.core_state.specs.Indexed.{row_at}
+use Rattle.core_state.specs.Answers.{IsCaused}
 use Rattle.core_state.specs.Applies.{ActApplies, ActKeeps}
-use Rattle.core_state.specs.Commands.{is_remotes}
-use Rattle.core_state.specs.Stops.{ended_by}
-use Rattle.core_state.specs.Unreadables.{TellsUnreadable}
-use Rattle.core_state.specs.Wanted.{session_at}
+use Rattle.core_state.specs.Commands.{is_collectors}
+use Rattle.core_state.specs.Tells.{CoreTells}
 use Rattle.core_state.proofs.Applying.{short_applies, short_keeps_all}
 use Rattle.core_state.proofs.RemoteReads.{applies_beside}
-use Rattle.shared_store.specs.Asked.{asked}
-use Rattle.shared_store.proofs.Answering.{admins_answer, collectors_answer, end_answers, no_notes, no_open, readers_answer, readers_note, readers_open, remotes_answer, short_answers, writers_answer, writers_note}
-use Rattle.shared_store.proofs.Asking.{admins_ask, collectors_ask, readers_ask, writers_ask}
-use Rattle.shared_store.proofs.Damages.{end_asks_none, short_asks_none, tells_whole}
+use Rattle.core_state.proofs.Untold.{end_tells, short_tells}
+use Rattle.shared_store.specs.Words.{words_in}
 use Rattle.shared_store.proofs.apply.Goals as goal
 
 -- ---- what an act's family says of it
+
+never : {P : Type 0} → false ≡ true → P
+never e = absurd (apart e)
+  where
+    apart : false ≡ true → ⊥
+    apart e = cc
 
 module _ (act : Act) (f : Family) (is : family_of act ≡ f) where
   alone : is_reaching f ≡ false → is_remotes act ≡ false
   alone off = ap is_reaching is ∙ off
 
   unread : {P : Type 0} → is_reaching f ≡ false → is_remotes act ≡ true → P
-  unread off remotes = absurd (apart (sym (alone off) ∙ remotes))
-    where
-      apart : false ≡ true → ⊥
-      apart e = cc
+  unread off remotes = never (sym (alone off) ∙ remotes)
 
-  other : (f ≡ Reads → ⊥) → family_of act ≡ Reads → ⊥
-  other unlike reads = unlike (sym is ∙ reads)
-
-  unwriting : (f ≡ Writes → ⊥) → family_of act ≡ Writes → ⊥
-  unwriting unlike writes = unlike (sym is ∙ writes)
+  uncollected : {P : Type 0} → is_collecting f ≡ false → is_collectors act ≡ true → P
+  uncollected off collects = never (sym (ap is_collecting is ∙ off) ∙ collects)
 
   not_short : {P : Type 0} → (Wants ≡ f → ⊥) → act ≡ acts.Short → P
   not_short unlike short = absurd (unlike (sym (ap family_of short) ∙ is))
 
 reads : {P : Type 0} (act : Act) → family_of act ≡ Reaches → is_remotes act ≡ false → P
-reads act is alone = absurd (apart (sym (ap is_reaching is) ∙ alone))
-  where
-    apart : true ≡ false → ⊥
-    apart e = cc
+reads act is alone = never (sym alone ∙ ap is_reaching is)
 
 is_out_of_memory : (act : Act) → family_of act ≡ Wants → act ≡ acts.Short
 is_out_of_memory = by_want (λ act. act ≡ acts.Short) refl
@@ -64,14 +58,9 @@ returns-in-Reads g c =
       applies = applies_beside g.D.Disk g.E.Disk g.C.Clock old new c.args.lane act answer (alone act Reads is refl) c.reader_act.ensures.applies c.reader_act.ensures.keeps;
       alone = λ alone. c.reader_act.ensures.applies;
       keeps = c.reader_act.ensures.keeps;
-      unreadable = λ alone.
-          subst (λ a. TellsUnreadable g.D.Disk (old.parts).disk a (answer.entry).kind answer.reply)
-          (sym (readers_ask (row_at old.parts c.args.lane) c.args.lane old.collector (session_at old.parts c.args.lane) (old.parts).catalogue.listed act is)) c.reader_act.ensures.unreadable;
-      damaged = λ alone. c.reader_act.ensures.damaged;
-      from_state = readers_answer g.D.Disk old new c.args.lane answer act is c.reader_act.ensures.from_state;
+      tells = λ alone. subst (λ f. CoreTells (words_in f act old.collector) g.D.Disk old new c.args.lane answer) (sym is) c.reader_act.ensures.tells;
+      collects = uncollected act Reads is refl;
       by_remote = unread act Reads is refl;
-      notes = readers_note g.D.Disk old.parts new.parts c.args.lane (ended_by answer.reply) act is c.reader_act.ensures.notes;
-      opened = readers_open g.D.Disk old new c.args.lane answer act c.reader_act.ensures.from_state;
       short = not_short act Reads is (λ e. cc);
     }
 
@@ -87,14 +76,9 @@ returns-in-Writes g c =
       applies = applies_beside g.D.Disk g.E.Disk g.C.Clock old new c.args.lane act answer (alone act Writes is refl) c.writer_act.ensures.applies c.writer_act.ensures.keeps;
       alone = λ alone. c.writer_act.ensures.applies;
       keeps = c.writer_act.ensures.keeps;
-      unreadable = λ alone.
-          subst (λ a. TellsUnreadable g.D.Disk (old.parts).disk a (answer.entry).kind answer.reply)
-          (sym (writers_ask (row_at old.parts c.args.lane) c.args.lane old.collector (session_at old.parts c.args.lane) (old.parts).catalogue.listed act is)) c.writer_act.ensures.unreadable;
-      damaged = λ alone. tells_whole g.D.Disk old new c.args.lane act answer (other act Writes is (λ e. cc)) alone (c.writer_act.ensures.applies).cause;
-      from_state = writers_answer g.D.Disk old new c.args.lane answer act is c.writer_act.ensures.from_state;
+      tells = λ alone. subst (λ f. CoreTells (words_in f act old.collector) g.D.Disk old new c.args.lane answer) (sym is) c.writer_act.ensures.tells;
+      collects = uncollected act Writes is refl;
       by_remote = unread act Writes is refl;
-      notes = writers_note g.D.Disk old.parts new.parts c.args.lane (ended_by answer.reply) act is c.writer_act.ensures.notes;
-      opened = no_open new c.args.lane act answer (other act Writes is (λ e. cc));
       short = not_short act Writes is (λ e. cc);
     }
 
@@ -110,14 +94,9 @@ returns-in-Manages g c =
       applies = applies_beside g.D.Disk g.E.Disk g.C.Clock old new c.args.lane act answer (alone act Manages is refl) c.admin_act.ensures.applies c.admin_act.ensures.keeps;
       alone = λ alone. c.admin_act.ensures.applies;
       keeps = c.admin_act.ensures.keeps;
-      unreadable = λ alone.
-          subst (λ a. TellsUnreadable g.D.Disk (old.parts).disk a (answer.entry).kind answer.reply)
-          (sym (admins_ask (row_at old.parts c.args.lane) c.args.lane old.collector (session_at old.parts c.args.lane) (old.parts).catalogue.listed act is)) c.admin_act.ensures.unreadable;
-      damaged = λ alone. tells_whole g.D.Disk old new c.args.lane act answer (other act Manages is (λ e. cc)) alone (c.admin_act.ensures.applies).cause;
-      from_state = admins_answer g.D.Disk old new c.args.lane answer act is c.admin_act.ensures.from_state;
+      tells = λ alone. subst (λ f. CoreTells (words_in f act old.collector) g.D.Disk old new c.args.lane answer) (sym is) c.admin_act.ensures.tells;
+      collects = uncollected act Manages is refl;
       by_remote = unread act Manages is refl;
-      notes = no_notes g.D.Disk old.parts new.parts c.args.lane (ended_by answer.reply) act (other act Manages is (λ e. cc)) (unwriting act Manages is (λ e. cc));
-      opened = no_open new c.args.lane act answer (other act Manages is (λ e. cc));
       short = not_short act Manages is (λ e. cc);
     }
 
@@ -133,14 +112,9 @@ returns-in-Collects g c =
       applies = applies_beside g.D.Disk g.E.Disk g.C.Clock old new c.args.lane act answer (alone act Collects is refl) c.collect_act.ensures.applies c.collect_act.ensures.keeps;
       alone = λ alone. c.collect_act.ensures.applies;
       keeps = c.collect_act.ensures.keeps;
-      unreadable = λ alone.
-          subst (λ a. TellsUnreadable g.D.Disk (old.parts).disk a (answer.entry).kind answer.reply)
-          (sym (collectors_ask (row_at old.parts c.args.lane) c.args.lane old.collector (session_at old.parts c.args.lane) (old.parts).catalogue.listed act is)) c.collect_act.ensures.unreadable;
-      damaged = λ alone. tells_whole g.D.Disk old new c.args.lane act answer (other act Collects is (λ e. cc)) alone (c.collect_act.ensures.applies).cause;
-      from_state = collectors_answer g.D.Disk old new c.args.lane answer act is c.collect_act.ensures.from_state;
+      tells = λ alone. subst (λ f. CoreTells (words_in f act old.collector) g.D.Disk old new c.args.lane answer) (sym is) c.collect_act.ensures.tells;
+      collects = λ collects. c.collect_act.ensures.from_state;
       by_remote = unread act Collects is refl;
-      notes = no_notes g.D.Disk old.parts new.parts c.args.lane (ended_by answer.reply) act (other act Collects is (λ e. cc)) (unwriting act Collects is (λ e. cc));
-      opened = no_open new c.args.lane act answer (other act Collects is (λ e. cc));
       short = not_short act Collects is (λ e. cc);
     }
 
@@ -156,12 +130,9 @@ returns-in-Reaches g c =
       applies = c.remote_act.ensures.applies;
       alone = c.remote_act.ensures.alone;
       keeps = c.remote_act.ensures.keeps;
-      unreadable = λ alone. reads act is alone;
-      damaged = λ alone. reads act is alone;
-      from_state = remotes_answer g.D.Disk old new c.args.lane answer act is c.remote_act.ensures.from_state;
-      by_remote = λ remotes. c.remote_act.ensures.by_remote;
-      notes = no_notes g.D.Disk old.parts new.parts c.args.lane (ended_by answer.reply) act (other act Reaches is (λ e. cc)) (unwriting act Reaches is (λ e. cc));
-      opened = no_open new c.args.lane act answer (other act Reaches is (λ e. cc));
+      tells = λ alone. reads act is alone;
+      collects = uncollected act Reaches is refl;
+      by_remote = λ remotes. (c.remote_act.ensures.from_state, c.remote_act.ensures.by_remote);
       short = not_short act Reaches is (λ e. cc);
     }
 
@@ -182,14 +153,11 @@ returns-in-Wants g c =
       applies = applies_beside g.D.Disk g.E.Disk g.C.Clock old new c.args.lane act answer (alone act Wants is refl) applies keeps;
       alone = λ alone. applies;
       keeps = keeps;
-      unreadable = λ alone.
-          subst (λ a. TellsUnreadable g.D.Disk (old.parts).disk (asked (row_at old.parts c.args.lane) a c.args.lane old.collector (session_at old.parts c.args.lane) (old.parts).catalogue.listed) (answer.entry).kind answer.reply) (sym so)
-          (short_asks_none g.D.Disk old new (old.parts).disk answer (c.short.ensures.entered).reply_is);
-      damaged = λ alone. tells_whole g.D.Disk old new c.args.lane act answer (other act Wants is (λ e. cc)) alone applies.cause;
-      from_state = short_answers g.D.Disk old new c.args.lane answer act is;
+      tells = λ alone.
+          subst (λ f. CoreTells (words_in f act old.collector) g.D.Disk old new c.args.lane answer) (sym is)
+          (short_tells g.D.Disk old new c.args.lane answer (subst (λ a. IsCaused g.D.Disk old new a answer) so applies.cause));
+      collects = uncollected act Wants is refl;
       by_remote = unread act Wants is refl;
-      notes = no_notes g.D.Disk old.parts new.parts c.args.lane (ended_by answer.reply) act (other act Wants is (λ e. cc)) (unwriting act Wants is (λ e. cc));
-      opened = no_open new c.args.lane act answer (other act Wants is (λ e. cc));
       short = λ _. ap (λ x. x.kind) (c.short.ensures.entered).entry;
     }
 
@@ -208,13 +176,9 @@ returns-in-Ends g c =
       applies = applies_beside g.D.Disk g.E.Disk g.C.Clock old new c.args.lane act answer (alone act Ends is refl) applies keeps;
       alone = λ alone. applies;
       keeps = keeps;
-      unreadable = λ alone.
-          subst (λ a. TellsUnreadable g.D.Disk (old.parts).disk (asked (row_at old.parts c.args.lane) a c.args.lane old.collector (session_at old.parts c.args.lane) (old.parts).catalogue.listed) (answer.entry).kind answer.reply) (sym so)
-          (end_asks_none g.D.Disk old new (old.parts).disk answer (c.end_act.ensures.applies).cause);
-      damaged = λ alone. tells_whole g.D.Disk old new c.args.lane act answer (other act Ends is (λ e. cc)) alone applies.cause;
-      from_state = end_answers g.D.Disk old new c.args.lane answer act is;
+      tells = λ alone.
+          subst (λ f. CoreTells (words_in f act old.collector) g.D.Disk old new c.args.lane answer) (sym is) (end_tells g.D.Disk old new c.args.lane answer (c.end_act.ensures.applies).cause);
+      collects = uncollected act Ends is refl;
       by_remote = unread act Ends is refl;
-      notes = no_notes g.D.Disk old.parts new.parts c.args.lane (ended_by answer.reply) act (other act Ends is (λ e. cc)) (unwriting act Ends is (λ e. cc));
-      opened = no_open new c.args.lane act answer (other act Ends is (λ e. cc));
       short = not_short act Ends is (λ e. cc);
     }

@@ -5,7 +5,8 @@ use Rattle.core_state.specs.Stops.{told}
 use Rattle.core_state.specs.Upkeeps.{touches_kept}
 use Rattle.core_state.proofs.Applying.{done_applies, done_keeps_all, refused_applies, refused_keeps_all}
 use Rattle.core_state.proofs.Touching.{untouched}
-use Rattle.core_state.proofs.Unreadables.{tells_refused}
+use Rattle.core_state.proofs.Telling.{done_tells, refused_tells}
+use Rattle.core_admin.specs.AdminActs.{admin_words}
 use Rattle.core_admin.proofs.act.admin_act.Goals as goal
 
 pub returns-in-Answered-clause-applies : goal.returns-in-Answered-clause-applies
@@ -17,8 +18,8 @@ pub returns-in-Answered-clause-keeps : goal.returns-in-Answered-clause-keeps
 returns-in-Answered-clause-keeps g c =
     refused_keeps_all g.D.Disk g.C.Clock _ _ c.args.lane c.args.act _ (manages_step c.args.act c.requires.kind) c.in-Answered.ensures.begun c.in-Answered.ensures.memory
 
-pub returns-in-Answered-clause-unreadable : goal.returns-in-Answered-clause-unreadable
-returns-in-Answered-clause-unreadable g c = tells_refused g.D.Disk g.C.Clock.readings _ _ c.args.lane _ _ _ c.in-Answered.ensures.begun
+pub returns-in-Answered-clause-tells : goal.returns-in-Answered-clause-tells
+returns-in-Answered-clause-tells g c = refused_tells (admin_words c.args.act) g.D.Disk g.C.Clock.readings _ _ c.args.lane _ c.in-Answered.ensures.begun
 
 pub returns-in-At-clause-applies : goal.returns-in-At-clause-applies
 returns-in-At-clause-applies g c =
@@ -47,3 +48,8 @@ returns-in-At-clause-keeps g c =
       upkeep = untouched c.args.act (Some (reply_by (told c.perform-ended.result))) c.in-At.at.moment (touches_kept c.begin.new.core.upkeep) (manages_untouching c.args.act c.requires.kind);
     })
     c.perform-ended.ensures.does c.perform-ended.ensures.leaves c.settle.ensures
+
+pub returns-in-At-clause-tells : goal.returns-in-At-clause-tells
+returns-in-At-clause-tells g c =
+    done_tells (admin_words c.args.act) g.D.Disk g.C.Clock.readings _ c.begin.new.core _ _ c.args.lane c.in-At.at c.perform-ended.result _
+    c.in-At.ensures.begun c.perform-ended.ensures.does.plain c.perform-ended.ensures.tells c.settle.ensures

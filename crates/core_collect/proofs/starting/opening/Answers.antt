@@ -1,9 +1,6 @@
-use Rattle.std.proofs.Common.{Result, Err, ap}
-use Rattle.store_stops.specs.declared.stop.Stop.{Stop}
 use Rattle.core_collect.proofs.StartLemmas.{opening_stops}
 use Rattle.core_collect.proofs.starting.opening.Goals as goal
 
 pub returns-in_err-may_open-clause-value : goal.returns-in_err-may_open-clause-value
 returns-in_err-may_open-clause-value g c =
-    opening_stops c.args.parts.now c.args.collector.now c.args.at c.in_err-may_open.field-0.0 _ c.from_residual.ensures.1 c.in_err-may_open.ensures.value
-    (λ is. c.in_err-may_open.ensures.unfailed (ap (λ x. let r : Result (Unit {0}) Stop = Err x in r) is))
+    opening_stops c.args.parts.now c.args.collector.now c.args.at c.in_err-may_open.field-0.0 _ c.from_residual.ensures.1 c.in_err-may_open.ensures

@@ -2,8 +2,8 @@ use Rattle.std.proofs.Common.{◌≤◌, refl, inr, sym, subst}
 use Rattle.disk_trait.specs.Files.{Files}
 use Rattle.disk_trait.specs.Runs.{both_serve}
 use Rattle.store_types.specs.Times.{last_moment}
-use Rattle.opening_files.specs.Leaving.{Cleans, MayClean}
-use Rattle.opening_files.proofs.Openings.{opens}
+use Rattle.snapshot_files.specs.Leaving.{Cleans, MayClean}
+use Rattle.snapshot_files.proofs.Openings.{opens}
 use Rattle.core_opening.specs.declared.opening.Opened.{Opened}
 use Rattle.core_opening.proofs.Booked.{opened_touches}
 use Rattle.core_opening.proofs.Opened.{opened_records, opened_stands}

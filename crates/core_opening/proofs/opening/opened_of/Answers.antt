@@ -4,8 +4,8 @@ use Rattle.store_types.specs.declared.names.Digest32.{Digest32}
 use Rattle.chunk_store.specs.Listed.{Lists as ListsDigests}
 use Rattle.snapshot_files.specs.Scanned.{Lists}
 use Rattle.snapshot_files.proofs.Placing.{none_is}
-use Rattle.opening_files.specs.Leaving.{Cleans, MayClean}
-use Rattle.opening_files.proofs.Answering.{clean_same, clean_then}
+use Rattle.snapshot_files.specs.Leaving.{Cleans, MayClean}
+use Rattle.snapshot_files.proofs.Answering.{clean_same, clean_then}
 use Rattle.core_opening.specs.Opening.{KeepsChunks}
 use Rattle.core_opening.proofs.Inserting.{listed_as_found}
 use Rattle.core_opening.proofs.opening.opened_of.Goals as goal

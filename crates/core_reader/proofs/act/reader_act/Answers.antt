@@ -1,20 +1,12 @@
-use Rattle.std.proofs.Common.{Some, refl, sym, subst}
+use Rattle.std.proofs.Common.{Some, refl}
 use Rattle.store_history.proofs.Families.{reads_formed, reads_step, reads_untouching}
-use Rattle.core_state.specs.Begins.{IsReady}
-use Rattle.core_state.specs.Indexed.{row_at}
 use Rattle.core_state.specs.Settles.{reply_by}
 use Rattle.core_state.specs.Stops.{told}
-use Rattle.core_state.specs.Unreadables.{TellsUnreadable}
 use Rattle.core_state.specs.Upkeeps.{touches_kept}
-use Rattle.core_state.specs.Wanted.{session_at}
 use Rattle.core_state.proofs.Applying.{refused_applies, refused_keeps_all, done_applies, done_keeps_all}
 use Rattle.core_state.proofs.Touching.{untouched}
-use Rattle.core_state.proofs.Unreadables.{tells_refused, tells_done}
-use Rattle.core_reader.specs.Asked.{asked_file}
-use Rattle.core_reader.specs.Damages.{MayName, TellsDamaged, damage_by}
-use Rattle.core_reader.proofs.Damaging.{damages_refused, damages_done}
-use Rattle.core_reader.proofs.ActLemmas.{readers_done, readers_refused}
-use Rattle.core_reader.proofs.ActNotes.{readers_note, readers_note_none}
+use Rattle.core_state.proofs.Telling.{done_tells, refused_tells}
+use Rattle.core_reader.specs.ReaderWords.{reader_words}
 use Rattle.core_reader.proofs.act.reader_act.Goals as goal
 
 pub returns-in-Answered-clause-applies : goal.returns-in-Answered-clause-applies
@@ -25,15 +17,6 @@ returns-in-Answered-clause-applies g c =
 pub returns-in-Answered-clause-keeps : goal.returns-in-Answered-clause-keeps
 returns-in-Answered-clause-keeps g c =
     refused_keeps_all g.D.Disk g.C.Clock _ _ c.args.lane c.args.act _ (reads_step c.args.act c.requires.kind) c.in-Answered.ensures.begun c.in-Answered.ensures.memory
-
-pub returns-in-Answered-clause-unreadable : goal.returns-in-Answered-clause-unreadable
-returns-in-Answered-clause-unreadable g c = tells_refused g.D.Disk g.C.Clock.readings _ _ c.args.lane _ _ _ c.in-Answered.ensures.begun
-
-pub returns-in-Answered-clause-damaged : goal.returns-in-Answered-clause-damaged
-returns-in-Answered-clause-damaged g c = damages_refused g.D.Disk g.C.Clock.readings _ _ c.args.lane _ _ _ _ c.in-Answered.ensures.begun
-
-pub returns-in-Answered-clause-from_state : goal.returns-in-Answered-clause-from_state
-returns-in-Answered-clause-from_state g c = readers_refused g.D.Disk g.C.Clock.readings _ _ c.args.lane c.args.act _ c.in-Answered.ensures.begun
 
 pub returns-in-At-clause-applies : goal.returns-in-At-clause-applies
 returns-in-At-clause-applies g c =
@@ -63,38 +46,10 @@ returns-in-At-clause-keeps g c =
     })
     c.perform-ended.ensures.does c.perform-ended.ensures.leaves c.settle.ensures
 
-pub returns-in-At-clause-from_state : goal.returns-in-At-clause-from_state
-returns-in-At-clause-from_state g c =
-    readers_done g.D.Disk g.C.Clock.readings c.args.core.now c.begin.new.core _ _ c.args.lane c.in-At.at c.args.act c.perform-ended.result c.settle.result
-    c.in-At.ensures.begun c.perform-ended.ensures.from_state c.settle.ensures
+pub returns-in-Answered-clause-tells : goal.returns-in-Answered-clause-tells
+returns-in-Answered-clause-tells g c = refused_tells (reader_words c.args.act) g.D.Disk g.C.Clock.readings _ _ c.args.lane _ c.in-Answered.ensures.begun
 
-pub returns-in-At-clause-unreadable : goal.returns-in-At-clause-unreadable
-returns-in-At-clause-unreadable g c =
-    let d = g.D.Disk in
-    let old = c.args.core.now.parts in
-    let at = c.in-At.at in
-    let begun = c.in-At.ensures.begun in
-    let ready = subst (λ l. IsReady g.C.Clock.readings c.args.core.now c.begin.new.core l at.moment) (sym begun.lane_is) begun.ready in
-    subst (λ l. TellsUnreadable d old.disk (asked_file (row_at old l) c.args.act (session_at old l) old.catalogue.listed) c.settle.result.entry.kind c.settle.result.reply) begun.lane_is
-    (tells_done d g.C.Clock.readings c.args.core.now c.begin.new.core _ _ at.lane at.moment (λ p. asked_file (row_at p at.lane) c.args.act (session_at p at.lane) p.catalogue.listed) _ _ ready
-    c.perform-ended.ensures.unreadable c.settle.ensures)
-
-pub returns-in-At-clause-damaged : goal.returns-in-At-clause-damaged
-returns-in-At-clause-damaged g c =
-    let d = g.D.Disk in
-    let old = c.args.core.now.parts in
-    let at = c.in-At.at in
-    let begun = c.in-At.ensures.begun in
-    let ready = subst (λ l. IsReady g.C.Clock.readings c.args.core.now c.begin.new.core l at.moment) (sym begun.lane_is) begun.ready in
-    subst (λ l. TellsDamaged d old.disk (MayName (row_at old l) c.args.act (session_at old l) old.catalogue.listed) (damage_by (row_at old l) c.args.act (session_at old l) old.catalogue.listed) c.settle.result.entry.kind c.settle.result.reply) begun.lane_is
-    (damages_done d g.C.Clock.readings c.args.core.now c.begin.new.core _ _ at.lane at.moment (λ p. MayName (row_at p at.lane) c.args.act (session_at p at.lane) p.catalogue.listed)
-    (λ p. damage_by (row_at p at.lane) c.args.act (session_at p at.lane) p.catalogue.listed) _ _ ready
-    c.perform-ended.ensures.damaged c.settle.ensures)
-
-pub returns-in-Answered-clause-notes : goal.returns-in-Answered-clause-notes
-returns-in-Answered-clause-notes g c = readers_note_none g.D.Disk g.C.Clock.readings _ _ c.args.lane c.args.act _ c.in-Answered.ensures.begun
-
-pub returns-in-At-clause-notes : goal.returns-in-At-clause-notes
-returns-in-At-clause-notes g c =
-    readers_note g.D.Disk g.C.Clock.readings c.args.core.now c.begin.new.core _ _ c.args.lane c.in-At.at c.args.act c.perform-ended.result c.settle.result
-    c.in-At.ensures.begun c.perform-ended.ensures.does.plain c.perform-ended.ensures.notes c.settle.ensures
+pub returns-in-At-clause-tells : goal.returns-in-At-clause-tells
+returns-in-At-clause-tells g c =
+    done_tells (reader_words c.args.act) g.D.Disk g.C.Clock.readings c.args.core.now c.begin.new.core _ _ c.args.lane c.in-At.at c.perform-ended.result c.settle.result
+    c.in-At.ensures.begun c.perform-ended.ensures.does.plain c.perform-ended.ensures.tells c.settle.ensures

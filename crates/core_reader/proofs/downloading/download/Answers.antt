@@ -11,11 +11,11 @@ use Rattle.snapshot_files.specs.Parts.{part_reply}
 use Rattle.core_reader.specs.declared.downloading.Given.{Given}
 use Rattle.core_reader.specs.Asked.{IsGiven, noting}
 use Rattle.core_reader.specs.NotesIndex.{part_of}
+use Rattle.core_state.specs.Kept.{kept_at}
 use Rattle.core_state.specs.Named.{is_named}
 use Rattle.core_state.specs.declared.kept.Session.TheVariants.{Idle}
 use Rattle.std.proofs.lemmas.List.{get_or_default}
 use Rattle.core_state.specs.Unreadables.{Asked, from_offset}
-use Rattle.core_state.specs.Wanted.{session_at}
 use Rattle.core_state.proofs.Asking.{uncalled}
 use Rattle.core_state.proofs.Commanding.{read_does, read_leaves, reads_none, same_kept, stopped_does, writes_does}
 use Rattle.core_state.proofs.NamedLemmas.{list_all-set, list_all-at}
@@ -37,24 +37,22 @@ returns-in_err-asked-clause-does g c =
     let old = c.args.parts.now in
     let file = c.args.file.now in
     let offset = c.args.offset in
-    let f = session_at old c.args.at.lane in
-    let catalogue = old.catalogue.listed in
+    let k = kept_at old c.args.at.lane in
     let value = c.in_err-asked.ensures.value offset in
     stopped_does d old old c.args.at (Plain (Download file offset)) c.asked_file.result _ _ c.from_residual.ensures.1 c.in_err-asked.was
     (reads_none d old.disk old.disk _ refl c.asked_file.ensures.unfailed) (same_kept old)
-    (file_stops file offset f catalogue _ _ (file_text_of file offset f catalogue) value)
-    (file_stops file offset f catalogue _ _ (file_answers file offset f catalogue) value)
-    (λ s h. file_stops file offset f catalogue _ _ (file_refuses old s c.args.at.lane c.args.at.moment file offset h.shows c.requires) value)
+    (file_stops file offset k _ _ (file_text_of file offset k) value)
+    (file_stops file offset k _ _ (file_answers file offset k) value)
+    (λ s h. file_stops file offset k _ _ (file_refuses old s c.args.at.lane c.args.at.moment file offset h.shows c.requires) value)
 
 pub returns-in_err-asked-clause-unreadable : goal.returns-in_err-asked-clause-unreadable
 returns-in_err-asked-clause-unreadable g c =
     let old = c.args.parts.now in
     let file = c.args.file.now in
     let offset = c.args.offset in
-    let f = session_at old c.args.at.lane in
-    let catalogue = old.catalogue.listed in
+    let k = kept_at old c.args.at.lane in
     tells_unread g.D.Disk old.disk _ _ _ c.from_residual.ensures.1
-    (file_stops file offset f catalogue _ _ (file_untold file offset f catalogue) (c.in_err-asked.ensures.value offset))
+    (file_stops file offset k _ _ (file_untold file offset k) (c.in_err-asked.ensures.value offset))
 
 -- ---- a part
 
@@ -64,7 +62,7 @@ returns-in_err-part-clause-does g c =
     let old = c.args.parts.now in
     let a = c.in_ok-asked.asked in
     let path : c.as_str.result.now ≡ string_bytes a.path = c.as_str.ensures.value in
-    let asked = file_is c.args.file.now c.args.offset (session_at old c.args.at.lane) old.catalogue.listed (string_bytes a.path) a.whole (c.in_ok-asked.ensures.value c.args.offset) in
+    let asked = file_is c.args.file.now c.args.offset (kept_at old c.args.at.lane) (string_bytes a.path) a.whole (c.in_ok-asked.ensures.value c.args.offset) in
     stops_does d old _ c.args.at (Plain (Download c.args.file.now c.args.offset)) c.read_part.result _ c.in_err-part.was _ c.from_residual-in_err-part.ensures.1
     c.read_part.ensures.reads (record { catalogue = refl; sessions = refl; locks = refl; indexes = refl }) c.in_err-part.ensures.text (read_answers c.as_str.result.now _ c.in_err-part.ensures.kind)
     (λ s h. read_stops part_reply _ _ _ (c.in_err-part.ensures.exact h.honest)
@@ -93,7 +91,7 @@ returns-in_default-clause-does g c =
     let a = c.in_ok-asked.asked in
     let path : c.as_str.result.now ≡ string_bytes a.path = c.as_str.ensures.value in
     let none : a.whole ≡ None = search rules in
-    let asked = file_is c.args.file.now c.args.offset (session_at old c.args.at.lane) old.catalogue.listed (string_bytes a.path) a.whole (c.in_ok-asked.ensures.value c.args.offset) in
+    let asked = file_is c.args.file.now c.args.offset (kept_at old c.args.at.lane) (string_bytes a.path) a.whole (c.in_ok-asked.ensures.value c.args.offset) in
     read_does d old _ c.args.at (Plain (Download c.args.file.now c.args.offset)) (part_reply c.in_ok-part.part) _ c.read_part.ensures.reads (record { catalogue = refl; sessions = refl; locks = refl; indexes = refl })
     c.in_ok-part.ensures.text (part_answers (part_reply c.in_ok-part.part) tt) (part_plain (part_reply c.in_ok-part.part) tt)
     (λ s h. asked_part_given d old s c.args.at.lane c.args.at.moment c.args.file.now (string_bytes a.path) c.args.offset a.whole c.requires asked h c.as_str.result.now (part_reply c.in_ok-part.part) path none (c.in_ok-part.ensures.exact h.honest))
@@ -122,7 +120,7 @@ returns-in_err-index-clause-does g c =
     let a = c.in_ok-asked.asked in
     let path : c.as_str-2.result.now ≡ string_bytes a.path = c.as_str-2.ensures.value in
     let some : a.whole ≡ Some c.in-Some.kind = search rules in
-    let asked = file_is c.args.file.now c.args.offset (session_at old c.args.at.lane) old.catalogue.listed (string_bytes a.path) a.whole (c.in_ok-asked.ensures.value c.args.offset) in
+    let asked = file_is c.args.file.now c.args.offset (kept_at old c.args.at.lane) (string_bytes a.path) a.whole (c.in_ok-asked.ensures.value c.args.offset) in
     stops_does d old _ c.args.at (Plain (Download c.args.file.now c.args.offset)) c.read_table.result _ c.in_err-index.was _ c.from_residual-in_err-index.ensures.1
     c.read_table.ensures.reads (record { catalogue = refl; sessions = refl; locks = refl; indexes = refl }) c.in_err-index.ensures.text (read_answers c.as_str-2.result.now _ c.in_err-index.ensures.kind)
     (λ s h. table_stops (d.content old.disk) c.as_str-2.result.now c.in-Some.kind c.args.offset _ _ (c.in_err-index.ensures.exact h.honest)
@@ -169,7 +167,7 @@ returns-clause-does g c =
     let index = c.in_ok-index.index in
     let path : c.as_str-2.result.now ≡ string_bytes a.path = c.as_str-2.ensures.value in
     let some : a.whole ≡ Some c.in-Some.kind = search rules in
-    let asked = file_is c.args.file.now c.args.offset (session_at old c.args.at.lane) old.catalogue.listed (string_bytes a.path) a.whole (c.in_ok-asked.ensures.value c.args.offset) in
+    let asked = file_is c.args.file.now c.args.offset (kept_at old c.args.at.lane) (string_bytes a.path) a.whole (c.in_ok-asked.ensures.value c.args.offset) in
     writes_does d old _ c.args.at (Plain (Download c.args.file.now c.args.offset)) (part_reply index.part) _ c.read_table.ensures.reads.serves
     c.in_ok-index.ensures.text (part_answers (part_reply index.part) tt) (part_plain (part_reply index.part) tt)
     (λ safe s h.
@@ -181,7 +179,7 @@ returns-clause-does g c =
 
 pub returns-clause-leaves : goal.returns-clause-leaves
 returns-clause-leaves g c =
-    noted_leaves g.D.Disk c.args.parts.now _ c.args.at c.args.file.now c.args.offset (part_reply c.in_ok-index.index.part) _ (part_plain (part_reply c.in_ok-index.index.part) tt) c.read_table.ensures.reads refl refl
+    noted_leaves g.D.Disk c.args.parts.now _ c.args.at c.args.file.now c.args.offset (part_reply c.in_ok-index.index.part) _ (part_plain (part_reply c.in_ok-index.index.part) tt) c.read_table.ensures.reads refl _ refl refl
 
 pub returns-clause-unreadable : goal.returns-clause-unreadable
 returns-clause-unreadable g c =

@@ -1,6 +1,6 @@
-use Rattle.std.proofs.Common.{◌≡◌, ◌∙◌, ◌*◌, ◌/◌, None, Ok, refl, sym, ap}
+use Rattle.std.proofs.Common.{◌∙◌, ◌*◌, ◌/◌, None, refl, sym, ap}
 use Rattle.std.specs.FinMap.{get}
-use Rattle.snapshot_files.specs.Indexes.{index_opened, kind_of_index, page_entries}
+use Rattle.snapshot_files.specs.Indexes.{index_opened, kind_of_index}
 use Rattle.index_pages.specs.Calls.{opening_calls}
 use Rattle.paged_indexes.specs.Calls.{entry_width}
 use Rattle.restore_reader.specs.Plan.{ends_of}

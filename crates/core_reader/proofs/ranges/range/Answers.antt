@@ -2,8 +2,7 @@ use Rattle.std.proofs.Common.{◌∙◌, ◌+◌, Vec, ℕ, Ok, refl, sym, ap, l
 use Rattle.std.specs.declared.alloc.Global.{Global}
 use Rattle.wire_commands.specs.declared.command.Command.TheVariants.{Range}
 use Rattle.store_history.specs.declared.act.Act.TheVariants.{Plain}
-use Rattle.core_state.specs.Indexed.{row_at}
-use Rattle.core_state.specs.Wanted.{session_at}
+use Rattle.core_state.specs.Kept.{kept_at}
 use Rattle.core_state.proofs.Commanding.{read_leave_on, read_on, stopped_does, stopped_leaves}
 use Rattle.core_state.proofs.Texts.{data_has_text}
 use Rattle.core_reader.specs.Ranges.{range_asked}
@@ -15,10 +14,10 @@ pub returns-in_err-bytes-clause-does : goal.returns-in_err-bytes-clause-does
 returns-in_err-bytes-clause-does g c =
     let d = g.D.Disk in
     let old = c.args.parts.now in
-    let asked = range_asked (row_at old c.args.at.lane) c.args.file.now c.args.offset c.args.length (session_at old c.args.at.lane) old.catalogue.listed in
+    let asked = range_asked c.args.file.now c.args.offset c.args.length (kept_at old c.args.at.lane) in
     stopped_does d old _ c.args.at (Plain (Range c.args.file.now c.args.offset c.args.length)) c.range_bytes.result _ _ c.from_residual.ensures.1 c.in_err-bytes.was
     c.range_bytes.ensures.reads (record { catalogue = c.range_bytes.ensures.kept.catalogue; sessions = c.range_bytes.ensures.kept.sessions; locks = c.range_bytes.ensures.kept.locks; indexes = c.in_err-bytes.ensures.stays }) c.in_err-bytes.ensures.text
-    (range_answers asked c.args.offset (c.args.offset + c.args.length) _ (sound (row_at old c.args.at.lane) c.args.file.now c.args.offset c.args.length (session_at old c.args.at.lane) old.catalogue.listed) c.in_err-bytes.ensures.refusal)
+    (range_answers asked c.args.offset (c.args.offset + c.args.length) _ (sound c.args.file.now c.args.offset c.args.length (kept_at old c.args.at.lane)) c.in_err-bytes.ensures.refusal)
     (λ s h. range_refused_plainly d old s c.args.at.lane c.args.at.moment c.args.file.now c.args.offset c.args.length h c.requires (Vec ℕ Global) _ c.in_err-bytes.ensures.refusal c.in_err-bytes.ensures.whole)
 
 pub returns-in_err-bytes-clause-leaves : goal.returns-in_err-bytes-clause-leaves
@@ -37,16 +36,16 @@ returns-in_err-bytes-clause-notes g c =
 pub returns-in_err-bytes-clause-unreadable : goal.returns-in_err-bytes-clause-unreadable
 returns-in_err-bytes-clause-unreadable g c =
     let old = c.args.parts.now in
-    let asked = range_asked (row_at old c.args.at.lane) c.args.file.now c.args.offset c.args.length (session_at old c.args.at.lane) old.catalogue.listed in
+    let asked = range_asked c.args.file.now c.args.offset c.args.length (kept_at old c.args.at.lane) in
     range_unreadable g.D.Disk old.disk {A = Vec ℕ Global} (λ bytes. bytes.items) asked c.args.offset (c.args.offset + c.args.length) _ _ c.from_residual.ensures.1
-    (sound (row_at old c.args.at.lane) c.args.file.now c.args.offset c.args.length (session_at old c.args.at.lane) old.catalogue.listed) c.in_err-bytes.ensures.refusal c.in_err-bytes.ensures.exact
+    (sound c.args.file.now c.args.offset c.args.length (kept_at old c.args.at.lane)) c.in_err-bytes.ensures.refusal c.in_err-bytes.ensures.exact
 
 pub returns-in_err-bytes-clause-damaged : goal.returns-in_err-bytes-clause-damaged
 returns-in_err-bytes-clause-damaged g c =
     let old = c.args.parts.now in
-    let asked = range_asked (row_at old c.args.at.lane) c.args.file.now c.args.offset c.args.length (session_at old c.args.at.lane) old.catalogue.listed in
+    let asked = range_asked c.args.file.now c.args.offset c.args.length (kept_at old c.args.at.lane) in
     range_damaged g.D.Disk old.disk {A = Vec ℕ Global} (λ bytes. bytes.items) asked c.args.offset (c.args.offset + c.args.length) _ _ c.from_residual.ensures.1
-    (sound (row_at old c.args.at.lane) c.args.file.now c.args.offset c.args.length (session_at old c.args.at.lane) old.catalogue.listed) c.in_err-bytes.ensures.refusal c.in_err-bytes.ensures.exact
+    (sound c.args.file.now c.args.offset c.args.length (kept_at old c.args.at.lane)) c.in_err-bytes.ensures.refusal c.in_err-bytes.ensures.exact
 
 pub returns-clause-does : goal.returns-clause-does
 returns-clause-does g c =
@@ -73,11 +72,11 @@ returns-clause-notes g c = record { stays = tt; keeps = c.in_ok-bytes.ensures.no
 pub returns-clause-unreadable : goal.returns-clause-unreadable
 returns-clause-unreadable g c =
     let old = c.args.parts.now in
-    range_readable g.D.Disk old.disk (range_asked (row_at old c.args.at.lane) c.args.file.now c.args.offset c.args.length (session_at old c.args.at.lane) old.catalogue.listed) c.args.offset (c.args.offset + c.args.length) c.from_vec.result
+    range_readable g.D.Disk old.disk (range_asked c.args.file.now c.args.offset c.args.length (kept_at old c.args.at.lane)) c.args.offset (c.args.offset + c.args.length) c.from_vec.result
     (λ h. c.in_ok-bytes.ensures.exact h ∙ ap Ok (sym c.from_vec.ensures))
 
 pub returns-clause-damaged : goal.returns-clause-damaged
 returns-clause-damaged g c =
     let old = c.args.parts.now in
-    range_undamaged g.D.Disk old.disk (range_asked (row_at old c.args.at.lane) c.args.file.now c.args.offset c.args.length (session_at old c.args.at.lane) old.catalogue.listed) c.args.offset (c.args.offset + c.args.length) c.from_vec.result
+    range_undamaged g.D.Disk old.disk (range_asked c.args.file.now c.args.offset c.args.length (kept_at old c.args.at.lane)) c.args.offset (c.args.offset + c.args.length) c.from_vec.result
     (λ h. c.in_ok-bytes.ensures.exact h ∙ ap Ok (sym c.from_vec.ensures))

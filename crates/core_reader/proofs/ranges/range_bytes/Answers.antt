@@ -5,8 +5,8 @@ use Rattle.disk_trait.proofs.OnlyReading.{reads_none}
 use Rattle.restore_reader.specs.Steps.{range_plan}
 use Rattle.wire_commands.specs.declared.command.Command.TheVariants.{Range}
 use Rattle.store_history.specs.declared.act.Act.TheVariants.{Plain}
-use Rattle.core_state.specs.Indexed.{ranged_of, row_at}
-use Rattle.core_state.specs.Wanted.{session_at}
+use Rattle.core_state.specs.Kept.{kept_at}
+use Rattle.core_state.specs.Indexed.{ranged_of}
 use Rattle.core_state.proofs.Rows.{rows_but}
 use Rattle.core_reader.specs.declared.paging.RangeRead.{RangeRead}
 use Rattle.core_reader.specs.declared.ranges.AskedIndex.{AskedIndex}
@@ -32,17 +32,15 @@ returns-in_err-asked-clause-reads g c = reads_none g.D.Disk _ _ (unfailed_on _ _
 pub returns-in_err-asked-clause-exact : goal.returns-in_err-asked-clause-exact
 returns-in_err-asked-clause-exact g c = λ h.
     let old = c.args.parts.now in
-    let row = row_at old c.args.lane in
     none_given _ c.args.offset (c.args.offset + c.args.length) _ _ c.from_residual.ensures.1
-    (place_none placed row c.args.file.now c.args.offset c.args.length (session_at old c.args.lane) old.catalogue.listed _ c.in_err-asked.ensures.value)
+    (place_none placed c.args.file.now c.args.offset c.args.length (kept_at old c.args.lane) _ c.in_err-asked.ensures.value)
     (λ (bytes : Vec ℕ Global). bytes.items) (g.D.Disk.content old.disk)
 
 pub returns-in_err-asked-clause-whole : goal.returns-in_err-asked-clause-whole
 returns-in_err-asked-clause-whole g c = λ a at h whole.
     let old = c.args.parts.now in
-    let row = row_at old c.args.lane in
     none_whole _ c.args.offset (c.args.offset + c.args.length) _ _ c.from_residual.ensures.1
-    (place_none placed row c.args.file.now c.args.offset c.args.length (session_at old c.args.lane) old.catalogue.listed _ c.in_err-asked.ensures.value) a at
+    (place_none placed c.args.file.now c.args.offset c.args.length (kept_at old c.args.lane) _ c.in_err-asked.ensures.value) a at
 
 pub returns-in_err-asked-clause-notes : goal.returns-in_err-asked-clause-notes
 returns-in_err-asked-clause-notes g c =
@@ -52,24 +50,21 @@ returns-in_err-asked-clause-notes g c =
 pub returns-in_err-asked-clause-refusal : goal.returns-in_err-asked-clause-refusal
 returns-in_err-asked-clause-refusal g c =
     let old = c.args.parts.now in
-    let row = row_at old c.args.lane in
     none_refused _ c.args.offset (c.args.offset + c.args.length) _ _ c.from_residual.ensures.1
-    (place_none placed row c.args.file.now c.args.offset c.args.length (session_at old c.args.lane) old.catalogue.listed _ c.in_err-asked.ensures.value)
+    (place_none placed c.args.file.now c.args.offset c.args.length (kept_at old c.args.lane) _ c.in_err-asked.ensures.value)
 
 -- ---- the lane has no reader
 
 pub returns-in_err-reader-clause-exact : goal.returns-in_err-reader-clause-exact
 returns-in_err-reader-clause-exact g c = λ h.
     let old = c.args.parts.now in
-    let row = row_at old c.args.lane in
-    let none = asked_unread row c.args.file.now c.args.offset c.args.length (session_at old c.args.lane) old.catalogue.listed _ _ c.in_ok-asked.ensures.value (reader_there old c.args.lane c.index.result.now _ c.requires c.index.ensures c.in_err-reader.ensures.value) in
+    let none = asked_unread c.args.file.now c.args.offset c.args.length (kept_at old c.args.lane) _ _ c.in_ok-asked.ensures.value (reader_there old c.args.lane c.index.result.now _ c.requires c.index.ensures c.in_err-reader.ensures.value) in
     none_given _ c.args.offset (c.args.offset + c.args.length) _ _ c.from_residual-in_err-reader.ensures.1 none (λ (bytes : Vec ℕ Global). bytes.items) (g.D.Disk.content old.disk)
 
 pub returns-in_err-reader-clause-whole : goal.returns-in_err-reader-clause-whole
 returns-in_err-reader-clause-whole g c = λ a at h whole.
     let old = c.args.parts.now in
-    let row = row_at old c.args.lane in
-    let none = asked_unread row c.args.file.now c.args.offset c.args.length (session_at old c.args.lane) old.catalogue.listed _ _ c.in_ok-asked.ensures.value (reader_there old c.args.lane c.index.result.now _ c.requires c.index.ensures c.in_err-reader.ensures.value) in
+    let none = asked_unread c.args.file.now c.args.offset c.args.length (kept_at old c.args.lane) _ _ c.in_ok-asked.ensures.value (reader_there old c.args.lane c.index.result.now _ c.requires c.index.ensures c.in_err-reader.ensures.value) in
     none_whole _ c.args.offset (c.args.offset + c.args.length) _ _ c.from_residual-in_err-reader.ensures.1 none a at
 
 pub returns-in_err-reader-clause-notes : goal.returns-in_err-reader-clause-notes
@@ -80,8 +75,7 @@ returns-in_err-reader-clause-notes g c =
 pub returns-in_err-reader-clause-refusal : goal.returns-in_err-reader-clause-refusal
 returns-in_err-reader-clause-refusal g c =
     let old = c.args.parts.now in
-    let row = row_at old c.args.lane in
-    let none = asked_unread row c.args.file.now c.args.offset c.args.length (session_at old c.args.lane) old.catalogue.listed _ _ c.in_ok-asked.ensures.value (reader_there old c.args.lane c.index.result.now _ c.requires c.index.ensures c.in_err-reader.ensures.value) in
+    let none = asked_unread c.args.file.now c.args.offset c.args.length (kept_at old c.args.lane) _ _ c.in_ok-asked.ensures.value (reader_there old c.args.lane c.index.result.now _ c.requires c.index.ensures c.in_err-reader.ensures.value) in
     none_refused _ c.args.offset (c.args.offset + c.args.length) _ _ c.from_residual-in_err-reader.ensures.1 none
 
 -- ---- the range is refused
@@ -89,16 +83,14 @@ returns-in_err-reader-clause-refusal g c =
 pub returns-in_err-pages-clause-exact : goal.returns-in_err-pages-clause-exact
 returns-in_err-pages-clause-exact g c = λ h.
     let old = c.args.parts.now in
-    let row = row_at old c.args.lane in
-    let none = asked_unplanned row c.args.file.now c.args.offset c.args.length (session_at old c.args.lane) old.catalogue.listed _ _ _ c.in_ok-asked.ensures.value (reader_there old c.args.lane c.index.result.now _ c.requires c.index.ensures c.in_ok-reader.ensures.value)
+    let none = asked_unplanned c.args.file.now c.args.offset c.args.length (kept_at old c.args.lane) _ _ _ c.in_ok-asked.ensures.value (reader_there old c.args.lane c.index.result.now _ c.requires c.index.ensures c.in_ok-reader.ensures.value)
     (ap (λ n. range_plan c.in_ok-reader.reader.now n c.args.offset c.args.length) (sym c.in_ok-asked.ensures.name) ∙ c.in_err-pages.ensures.does) in
     none_given _ c.args.offset (c.args.offset + c.args.length) _ _ c.from_residual-in_err-pages.ensures.1 none (λ (bytes : Vec ℕ Global). bytes.items) (g.D.Disk.content old.disk)
 
 pub returns-in_err-pages-clause-whole : goal.returns-in_err-pages-clause-whole
 returns-in_err-pages-clause-whole g c = λ a at h whole.
     let old = c.args.parts.now in
-    let row = row_at old c.args.lane in
-    let none = asked_unplanned row c.args.file.now c.args.offset c.args.length (session_at old c.args.lane) old.catalogue.listed _ _ _ c.in_ok-asked.ensures.value (reader_there old c.args.lane c.index.result.now _ c.requires c.index.ensures c.in_ok-reader.ensures.value)
+    let none = asked_unplanned c.args.file.now c.args.offset c.args.length (kept_at old c.args.lane) _ _ _ c.in_ok-asked.ensures.value (reader_there old c.args.lane c.index.result.now _ c.requires c.index.ensures c.in_ok-reader.ensures.value)
     (ap (λ n. range_plan c.in_ok-reader.reader.now n c.args.offset c.args.length) (sym c.in_ok-asked.ensures.name) ∙ c.in_err-pages.ensures.does) in
     none_whole _ c.args.offset (c.args.offset + c.args.length) _ _ c.from_residual-in_err-pages.ensures.1 none a at
 
@@ -110,8 +102,7 @@ returns-in_err-pages-clause-notes g c =
 pub returns-in_err-pages-clause-refusal : goal.returns-in_err-pages-clause-refusal
 returns-in_err-pages-clause-refusal g c =
     let old = c.args.parts.now in
-    let row = row_at old c.args.lane in
-    let none = asked_unplanned row c.args.file.now c.args.offset c.args.length (session_at old c.args.lane) old.catalogue.listed _ _ _ c.in_ok-asked.ensures.value (reader_there old c.args.lane c.index.result.now _ c.requires c.index.ensures c.in_ok-reader.ensures.value)
+    let none = asked_unplanned c.args.file.now c.args.offset c.args.length (kept_at old c.args.lane) _ _ _ c.in_ok-asked.ensures.value (reader_there old c.args.lane c.index.result.now _ c.requires c.index.ensures c.in_ok-reader.ensures.value)
     (ap (λ n. range_plan c.in_ok-reader.reader.now n c.args.offset c.args.length) (sym c.in_ok-asked.ensures.name) ∙ c.in_err-pages.ensures.does) in
     none_refused _ c.args.offset (c.args.offset + c.args.length) _ _ c.from_residual-in_err-pages.ensures.1 none
 
@@ -123,15 +114,14 @@ returns-in_err-pages-clause-text g c = text_on _ _ c.from_residual-in_err-pages.
 pub returns-in_err-read-clause-exact : goal.returns-in_err-read-clause-exact
 returns-in_err-read-clause-exact g c = λ h.
     let old = c.args.parts.now in
-    let row = row_at old c.args.lane in
     let from = c.args.offset in
     let m = g.D.Disk.content old.disk in
     let path = c.as_str.result.now in
     let pages = c.in_ok-pages.pages.now in
     let q = asking path pages (option_map (λ p. p.now) c.ranged-at_hand.result) in
     let hand = c.ranged-at_hand.ensures ∙ ap₂ ranged_of c.in_ok-asked.ensures.name (row_found old c.args.lane c.requires c.index-row.result.now c.index-row.ensures) in
-    let asked = range_asked row c.args.file.now from c.args.length (session_at old c.args.lane) old.catalogue.listed in
-    let at : asked ≡ Ok q = asked_planned row c.args.file.now from c.args.length (session_at old c.args.lane) old.catalogue.listed path c.in_ok-reader.reader.now pages
+    let asked = range_asked c.args.file.now from c.args.length (kept_at old c.args.lane) in
+    let at : asked ≡ Ok q = asked_planned c.args.file.now from c.args.length (kept_at old c.args.lane) path c.in_ok-reader.reader.now pages
     (c.in_ok-asked.ensures.value ∙ ap Ok (sym c.as_str.ensures.value)) (reader_there old c.args.lane c.index.result.now _ c.requires c.index.ensures c.in_ok-reader.ensures.value)
     (ap (λ n. range_plan c.in_ok-reader.reader.now n from c.args.length) (sym c.in_ok-asked.ensures.name) ∙ c.in_ok-pages.ensures.does) ∙ ap (λ o. Ok (asking path pages o)) (sym hand) in
     let stop = c.in_err-read.field-0.0 in
@@ -142,14 +132,13 @@ returns-in_err-read-clause-exact g c = λ h.
 pub returns-in_err-read-clause-whole : goal.returns-in_err-read-clause-whole
 returns-in_err-read-clause-whole g c = λ b other h stands.
     let old = c.args.parts.now in
-    let row = row_at old c.args.lane in
     let from = c.args.offset in
     let path = c.as_str.result.now in
     let pages = c.in_ok-pages.pages.now in
     let q = asking path pages (option_map (λ p. p.now) c.ranged-at_hand.result) in
     let hand = c.ranged-at_hand.ensures ∙ ap₂ ranged_of c.in_ok-asked.ensures.name (row_found old c.args.lane c.requires c.index-row.result.now c.index-row.ensures) in
-    let asked = range_asked row c.args.file.now from c.args.length (session_at old c.args.lane) old.catalogue.listed in
-    let at : asked ≡ Ok q = asked_planned row c.args.file.now from c.args.length (session_at old c.args.lane) old.catalogue.listed path c.in_ok-reader.reader.now pages
+    let asked = range_asked c.args.file.now from c.args.length (kept_at old c.args.lane) in
+    let at : asked ≡ Ok q = asked_planned c.args.file.now from c.args.length (kept_at old c.args.lane) path c.in_ok-reader.reader.now pages
     (c.in_ok-asked.ensures.value ∙ ap Ok (sym c.as_str.ensures.value)) (reader_there old c.args.lane c.index.result.now _ c.requires c.index.ensures c.in_ok-reader.ensures.value)
     (ap (λ n. range_plan c.in_ok-reader.reader.now n from c.args.length) (sym c.in_ok-asked.ensures.name) ∙ c.in_ok-pages.ensures.does) ∙ ap (λ o. Ok (asking path pages o)) (sym hand) in
     handed_unrefused _ _ c.from_residual-in_err-read.ensures.1
@@ -162,14 +151,13 @@ returns-in_err-read-clause-notes g c =
 pub returns-in_err-read-clause-refusal : goal.returns-in_err-read-clause-refusal
 returns-in_err-read-clause-refusal g c =
     let old = c.args.parts.now in
-    let row = row_at old c.args.lane in
     let from = c.args.offset in
     let path = c.as_str.result.now in
     let pages = c.in_ok-pages.pages.now in
     let q = asking path pages (option_map (λ p. p.now) c.ranged-at_hand.result) in
     let hand = c.ranged-at_hand.ensures ∙ ap₂ ranged_of c.in_ok-asked.ensures.name (row_found old c.args.lane c.requires c.index-row.result.now c.index-row.ensures) in
-    let asked = range_asked row c.args.file.now from c.args.length (session_at old c.args.lane) old.catalogue.listed in
-    let at : asked ≡ Ok q = asked_planned row c.args.file.now from c.args.length (session_at old c.args.lane) old.catalogue.listed path c.in_ok-reader.reader.now pages
+    let asked = range_asked c.args.file.now from c.args.length (kept_at old c.args.lane) in
+    let at : asked ≡ Ok q = asked_planned c.args.file.now from c.args.length (kept_at old c.args.lane) path c.in_ok-reader.reader.now pages
     (c.in_ok-asked.ensures.value ∙ ap Ok (sym c.as_str.ensures.value)) (reader_there old c.args.lane c.index.result.now _ c.requires c.index.ensures c.in_ok-reader.ensures.value)
     (ap (λ n. range_plan c.in_ok-reader.reader.now n from c.args.length) (sym c.in_ok-asked.ensures.name) ∙ c.in_ok-pages.ensures.does) ∙ ap (λ o. Ok (asking path pages o)) (sym hand) in
     read_refused asked q at from (from + c.args.length) _
@@ -186,15 +174,14 @@ returns-in_err-read-clause-uncalled g c =
 pub returns-clause-exact : goal.returns-clause-exact
 returns-clause-exact g c = λ h.
     let old = c.args.parts.now in
-    let row = row_at old c.args.lane in
     let from = c.args.offset in
     let m = g.D.Disk.content old.disk in
     let path = c.as_str.result.now in
     let pages = c.in_ok-pages.pages.now in
     let q = asking path pages (option_map (λ p. p.now) c.ranged-at_hand.result) in
     let hand = c.ranged-at_hand.ensures ∙ ap₂ ranged_of c.in_ok-asked.ensures.name (row_found old c.args.lane c.requires c.index-row.result.now c.index-row.ensures) in
-    let asked = range_asked row c.args.file.now from c.args.length (session_at old c.args.lane) old.catalogue.listed in
-    let at : asked ≡ Ok q = asked_planned row c.args.file.now from c.args.length (session_at old c.args.lane) old.catalogue.listed path c.in_ok-reader.reader.now pages
+    let asked = range_asked c.args.file.now from c.args.length (kept_at old c.args.lane) in
+    let at : asked ≡ Ok q = asked_planned c.args.file.now from c.args.length (kept_at old c.args.lane) path c.in_ok-reader.reader.now pages
     (c.in_ok-asked.ensures.value ∙ ap Ok (sym c.as_str.ensures.value)) (reader_there old c.args.lane c.index.result.now _ c.requires c.index.ensures c.in_ok-reader.ensures.value)
     (ap (λ n. range_plan c.in_ok-reader.reader.now n from c.args.length) (sym c.in_ok-asked.ensures.name) ∙ c.in_ok-pages.ensures.does) ∙ ap (λ o. Ok (asking path pages o)) (sym hand) in
     let bytes = c.in_ok-read.read.bytes in
@@ -204,14 +191,13 @@ returns-clause-exact g c = λ h.
 pub returns-clause-notes : goal.returns-clause-notes
 returns-clause-notes g c =
     let old = c.args.parts.now in
-    let row = row_at old c.args.lane in
     let from = c.args.offset in
     let path = c.as_str.result.now in
     let pages = c.in_ok-pages.pages.now in
     let q = asking path pages (option_map (λ p. p.now) c.ranged-at_hand.result) in
     let hand = c.ranged-at_hand.ensures ∙ ap₂ ranged_of c.in_ok-asked.ensures.name (row_found old c.args.lane c.requires c.index-row.result.now c.index-row.ensures) in
-    let asked = range_asked row c.args.file.now from c.args.length (session_at old c.args.lane) old.catalogue.listed in
-    let at : asked ≡ Ok q = asked_planned row c.args.file.now from c.args.length (session_at old c.args.lane) old.catalogue.listed path c.in_ok-reader.reader.now pages
+    let asked = range_asked c.args.file.now from c.args.length (kept_at old c.args.lane) in
+    let at : asked ≡ Ok q = asked_planned c.args.file.now from c.args.length (kept_at old c.args.lane) path c.in_ok-reader.reader.now pages
     (c.in_ok-asked.ensures.value ∙ ap Ok (sym c.as_str.ensures.value)) (reader_there old c.args.lane c.index.result.now _ c.requires c.index.ensures c.in_ok-reader.ensures.value)
     (ap (λ n. range_plan c.in_ok-reader.reader.now n from c.args.length) (sym c.in_ok-asked.ensures.name) ∙ c.in_ok-pages.ensures.does) ∙ ap (λ o. Ok (asking path pages o)) (sym hand) in
     notes_done g.D.Disk old _ c.args.lane c.args.file.now from c.args.length c.requires q at c.index_mut.result.now c.note_ranged.new.self c.in_ok-asked.asked.name c.in_ok-read.read.last c.from.result

@@ -8,7 +8,7 @@ use Rattle.wire_commands.specs.declared.reply.Reply.TheVariants.{Data}
 use Rattle.store_history.specs.declared.act.Act.TheVariants.{ReadChunk}
 use Rattle.blob_codec.specs.Blob.{blob_limit}
 use Rattle.disk_trait.proofs.OnlyReading.{reads_then}
-use Rattle.core_state.specs.Wanted.{session_at}
+use Rattle.core_state.specs.Kept.{kept_at}
 use Rattle.core_state.specs.Indexed.{row_at}
 use Rattle.core_state.proofs.Commanding.{read_leave_on, read_on, reads_none, refused_does, same_kept, stopped_does, stopped_leave_on, stopped_on}
 use Rattle.core_state.proofs.Texts.{data_has_text, no_file_has_text}
@@ -18,7 +18,8 @@ use Rattle.core_reader.specs.Asked.{as_entry, asked_entry}
 use Rattle.core_reader.specs.Chunks.{GivesBytes, StopsAt}
 use Rattle.core_reader.specs.Damages.{asked_damage}
 use Rattle.core_reader.specs.NotesEntry.{is_found}
-use Rattle.core_reader.proofs.Damaging.{damages_found, damages_none, damages_unread}
+use Rattle.core_state.proofs.DamageLemmas.{damages_none, damages_unread}
+use Rattle.core_reader.proofs.Damaging.{damages_found}
 use Rattle.core_reader.proofs.Loads.{at_called, at_text}
 use Rattle.core_reader.proofs.ReadEntry.{bytes_given, bytes_short, chunk_answers, chunk_refuses, chunk_unnamed, damage_none, damage_told, damage_unread, entry_asked, entry_error_answers, entry_given, entry_got, entry_refused, entry_refused_by, entry_stop, entry_undamaged, entry_unnamed, entry_unplaced, gives_so, none_stops, part_no_damage, place_no_damage, tells_readable, tells_unloaded, unread_undamaged}
 use Rattle.core_reader.proofs.ReadPart.{place_is, place_stops, place_text}
@@ -34,14 +35,13 @@ returns-in_err-path-clause-does g c =
     let d = g.D.Disk in
     let old = c.args.parts.now in
     let name = c.args.name.now in
-    let f = session_at old c.args.at.lane in
-    let catalogue = old.catalogue.listed in
+    let k = kept_at old c.args.at.lane in
     let value = c.in_err-path.ensures.value in
     stopped_does d old old c.args.at (ReadChunk name c.args.entry) c.path_of.result _ _ c.from_residual.ensures.1 c.in_err-path.was
     (reads_none d old.disk old.disk _ refl c.path_of.ensures.unfailed) (same_kept old)
-    (place_stops name f catalogue _ _ (place_text name f catalogue) value)
-    (place_stops name f catalogue _ _ (entry_refused_by (row_at old c.args.at.lane) name c.args.entry f catalogue) value)
-    (λ s h. place_stops name f catalogue _ _ (chunk_refuses old s c.args.at.lane name c.args.entry h.shows c.requires) value)
+    (place_stops name k _ _ (place_text name k) value)
+    (place_stops name k _ _ (entry_refused_by name c.args.entry k) value)
+    (λ s h. place_stops name k _ _ (chunk_refuses old s c.args.at.lane name c.args.entry h.shows c.requires) value)
 
 pub returns-in_err-path-clause-by_disk : goal.returns-in_err-path-clause-by_disk
 returns-in_err-path-clause-by_disk g c = chunk_missing g.D.Disk c.args.parts.now c.args.at c.args.name.now c.args.entry _ _ c.from_residual.ensures.1 c.in_err-path.ensures.value
@@ -50,19 +50,17 @@ pub returns-in_err-path-clause-unreadable : goal.returns-in_err-path-clause-unre
 returns-in_err-path-clause-unreadable g c =
     let old = c.args.parts.now in
     let name = c.args.name.now in
-    let f = session_at old c.args.at.lane in
-    let catalogue = old.catalogue.listed in
-    tells_unread g.D.Disk old.disk _ _ _ c.from_residual.ensures.1 (place_stops name f catalogue _ _ (entry_unplaced (row_at old c.args.at.lane) name c.args.entry f catalogue) c.in_err-path.ensures.value)
+    let k = kept_at old c.args.at.lane in
+    tells_unread g.D.Disk old.disk _ _ _ c.from_residual.ensures.1 (place_stops name k _ _ (entry_unplaced name c.args.entry k) c.in_err-path.ensures.value)
 
 pub returns-in_err-path-clause-damaged : goal.returns-in_err-path-clause-damaged
 returns-in_err-path-clause-damaged g c =
     let d = g.D.Disk in
     let old = c.args.parts.now in
     let name = c.args.name.now in
-    let f = session_at old c.args.at.lane in
-    let catalogue = old.catalogue.listed in
+    let k = kept_at old c.args.at.lane in
     damages_unread d old.disk _ _ _ _ c.from_residual.ensures.1
-    (place_stops name f catalogue _ _ (entry_undamaged (row_at old c.args.at.lane) name c.args.entry f catalogue (d.honest old.disk) (d.content old.disk)) c.in_err-path.ensures.value)
+    (place_stops name k _ _ (entry_undamaged name c.args.entry k (d.honest old.disk) (d.content old.disk)) c.in_err-path.ensures.value)
 
 -- ---- the name is no index's
 
@@ -72,7 +70,7 @@ returns-then-not-is_index-clause-does g c =
     let name = c.args.name.now in
     let path = string_bytes c.in_ok-path.path in
     let bad : is_index_name name ≡ false = search rules in
-    let placed = place_is name (session_at old c.args.at.lane) old.catalogue.listed path c.in_ok-path.ensures.value in
+    let placed = place_is name (kept_at old c.args.at.lane) path c.in_ok-path.ensures.value in
     refused_does g.D.Disk old _ c.args.at (ReadChunk name c.args.entry) NoFile _ refl refl (same_kept _) no_file_has_text refl
     (λ s shows. chunk_unnamed old s c.args.at.lane name c.args.entry shows c.requires path placed bad)
 
@@ -81,17 +79,17 @@ returns-then-not-is_index-clause-by_disk g c =
     let old = c.args.parts.now in
     let path = string_bytes c.in_ok-path.path in
     let bad : is_index_name c.args.name.now ≡ false = search rules in
-    chunk_unindexed g.D.Disk old c.args.at c.args.name.now c.args.entry path (place_is c.args.name.now (session_at old c.args.at.lane) old.catalogue.listed path c.in_ok-path.ensures.value) bad
+    chunk_unindexed g.D.Disk old c.args.at c.args.name.now c.args.entry path (place_is c.args.name.now (kept_at old c.args.at.lane) path c.in_ok-path.ensures.value) bad
 
 pub returns-then-not-is_index-clause-unreadable : goal.returns-then-not-is_index-clause-unreadable
 returns-then-not-is_index-clause-unreadable g c =
     let old = c.args.parts.now in
     let name = c.args.name.now in
     let path = string_bytes c.in_ok-path.path in
-    let f = session_at old c.args.at.lane in
+    let k = kept_at old c.args.at.lane in
     let bad : is_index_name name ≡ false = search rules in
     tells_other g.D.Disk old.disk _ _ _ (λ name e. cc)
-    (entry_unnamed (row_at old c.args.at.lane) name c.args.entry f old.catalogue.listed path (place_is name f old.catalogue.listed path c.in_ok-path.ensures.value) bad)
+    (entry_unnamed name c.args.entry k path (place_is name k path c.in_ok-path.ensures.value) bad)
 
 pub returns-then-not-is_index-clause-damaged : goal.returns-then-not-is_index-clause-damaged
 returns-then-not-is_index-clause-damaged g c =
@@ -99,10 +97,10 @@ returns-then-not-is_index-clause-damaged g c =
     let old = c.args.parts.now in
     let name = c.args.name.now in
     let path = string_bytes c.in_ok-path.path in
-    let f = session_at old c.args.at.lane in
+    let k = kept_at old c.args.at.lane in
     let bad : is_index_name name ≡ false = search rules in
     damages_none d old.disk _ _ _ _ (λ digest found e. cc)
-    (λ honest. ap (asked_damage (d.content old.disk)) (entry_unnamed (row_at old c.args.at.lane) name c.args.entry f old.catalogue.listed path (place_is name f old.catalogue.listed path c.in_ok-path.ensures.value) bad))
+    (λ honest. ap (asked_damage (d.content old.disk)) (entry_unnamed name c.args.entry k path (place_is name k path c.in_ok-path.ensures.value) bad))
 
 -- ---- what the lane keeps of indexes where there is no such file
 
@@ -110,9 +108,8 @@ pub returns-in_err-path-clause-notes : goal.returns-in_err-path-clause-notes
 returns-in_err-path-clause-notes g c =
     let old = c.args.parts.now in
     let name = c.args.name.now in
-    let f = session_at old c.args.at.lane in
-    let catalogue = old.catalogue.listed in
-    notes_none g.D.Disk old old c.args.at name c.args.entry c.requires _ _ c.from_residual.ensures.1 (place_stops name f catalogue _ _ (place_no_damage (row_at old c.args.at.lane) name c.args.entry f catalogue) c.in_err-path.ensures.value) refl
+    let k = kept_at old c.args.at.lane in
+    notes_none g.D.Disk old old c.args.at name c.args.entry c.requires _ _ c.from_residual.ensures.1 (place_stops name k _ _ (place_no_damage name c.args.entry k) c.in_err-path.ensures.value) refl
 
 pub returns-then-not-is_index-clause-notes : goal.returns-then-not-is_index-clause-notes
 returns-then-not-is_index-clause-notes g c = notes_none g.D.Disk c.args.parts.now _ c.args.at c.args.name.now c.args.entry c.requires (Refused NoFile) _ refl (λ digest found e. cc) refl
@@ -127,7 +124,7 @@ returns-in_err-found-clause-does g c =
     let name = c.args.name.now in
     let entry = c.args.entry in
     let path = string_bytes c.in_ok-path.path in
-    let placed = place_is name (session_at old lane) old.catalogue.listed path c.in_ok-path.ensures.value in
+    let placed = place_is name (kept_at old lane) path c.in_ok-path.ensures.value in
     let good : is_index_name name ≡ true = search rules in
     let q = c.as_str.result.now in
     let here = c.as_str.ensures.value in
@@ -155,7 +152,7 @@ returns-in_err-found-clause-by_disk g c =
     let name = c.args.name.now in
     let entry = c.args.entry in
     let path = string_bytes c.in_ok-path.path in
-    let placed = place_is name (session_at old lane) old.catalogue.listed path c.in_ok-path.ensures.value in
+    let placed = place_is name (kept_at old lane) path c.in_ok-path.ensures.value in
     let good : is_index_name name ≡ true = search rules in
     let q = c.as_str.result.now in
     let here = c.as_str.ensures.value in
@@ -171,13 +168,13 @@ returns-in_err-found-clause-unreadable g c =
     let name = c.args.name.now in
     let entry = c.args.entry in
     let path = string_bytes c.in_ok-path.path in
-    let placed = place_is name (session_at old lane) old.catalogue.listed path c.in_ok-path.ensures.value in
+    let placed = place_is name (kept_at old lane) path c.in_ok-path.ensures.value in
     let good : is_index_name name ≡ true = search rules in
     let q = c.as_str.result.now in
     let here = c.as_str.ensures.value in
     let at = c.index-row.result.now in
     let row = row_found old lane c.requires at c.index-row.ensures in
-    let asked = entry_asked (row_at old lane) name entry (session_at old lane) old.catalogue.listed path placed good in
+    let asked = entry_asked name entry (kept_at old lane) path placed good in
     tells_stopped d old.disk {A = Reply} (λ part. part) _ (as_entry (row_at old lane) name entry path) c.find_entry.result _ c.in_err-found.was _ c.from_residual-in_err-found.ensures.1 asked
     (read_at path q _ here c.in_err-found.ensures.kind)
     (λ h. entry_stop (d.content old.disk) path q (row_at old lane) name entry here _ (err_rowed (λ (f : Found). f.digest) at (row_at old lane) name entry (d.content old.disk) q c.in_err-found.field-0.0 row (c.in_err-found.ensures.exact.gives h)))
@@ -190,15 +187,15 @@ returns-in_err-found-clause-damaged g c =
     let name = c.args.name.now in
     let entry = c.args.entry in
     let path = string_bytes c.in_ok-path.path in
-    let placed = place_is name (session_at old lane) old.catalogue.listed path c.in_ok-path.ensures.value in
+    let placed = place_is name (kept_at old lane) path c.in_ok-path.ensures.value in
     let good : is_index_name name ≡ true = search rules in
     let q = c.as_str.result.now in
     let here = c.as_str.ensures.value in
     let at = c.index-row.result.now in
     let row = row_found old lane c.requires at c.index-row.ensures in
-    let asked = entry_asked (row_at old lane) name entry (session_at old lane) old.catalogue.listed path placed good in
+    let asked = entry_asked name entry (kept_at old lane) path placed good in
     damages_unread d old.disk _ _ _ _ c.from_residual-in_err-found.ensures.1
-    (unread_undamaged q _ (d.honest old.disk) (asked_damage (d.content old.disk) (asked_entry (row_at old lane) name entry (session_at old lane) old.catalogue.listed) ≡ None) _
+    (unread_undamaged q _ (d.honest old.disk) (asked_damage (d.content old.disk) (asked_entry name entry (kept_at old lane)) ≡ None) _
     c.in_err-found.ensures.kind (λ honest. (err_rowed (λ (f : Found). f.digest) at (row_at old lane) name entry (d.content old.disk) q c.in_err-found.field-0.0 row (c.in_err-found.ensures.exact.gives honest)))
     (λ refusal honest gives. damage_unread (d.content old.disk) path q (row_at old lane) name entry here _ refusal asked gives))
 
@@ -283,7 +280,7 @@ returns-in_err-bytes-clause-does g c =
     let name = c.args.name.now in
     let entry = c.args.entry in
     let path = string_bytes c.in_ok-path.path in
-    let placed = place_is name (session_at old lane) old.catalogue.listed path c.in_ok-path.ensures.value in
+    let placed = place_is name (kept_at old lane) path c.in_ok-path.ensures.value in
     let good : is_index_name name ≡ true = search rules in
     let q = c.as_str.result.now in
     let here = c.as_str.ensures.value in
@@ -309,7 +306,7 @@ returns-in_err-bytes-clause-leaves g c =
     let name = c.args.name.now in
     let entry = c.args.entry in
     let path = string_bytes c.in_ok-path.path in
-    let placed = place_is name (session_at old lane) old.catalogue.listed path c.in_ok-path.ensures.value in
+    let placed = place_is name (kept_at old lane) path c.in_ok-path.ensures.value in
     let good : is_index_name name ≡ true = search rules in
     let q = c.as_str.result.now in
     let here = c.as_str.ensures.value in
@@ -331,7 +328,7 @@ returns-in_err-bytes-clause-by_disk g c = λ honest.
     let name = c.args.name.now in
     let entry = c.args.entry in
     let path = string_bytes c.in_ok-path.path in
-    let placed = place_is name (session_at old lane) old.catalogue.listed path c.in_ok-path.ensures.value in
+    let placed = place_is name (kept_at old lane) path c.in_ok-path.ensures.value in
     let good : is_index_name name ≡ true = search rules in
     let q = c.as_str.result.now in
     let here = c.as_str.ensures.value in
@@ -350,13 +347,13 @@ returns-in_err-bytes-clause-unreadable g c =
     let name = c.args.name.now in
     let entry = c.args.entry in
     let path = string_bytes c.in_ok-path.path in
-    let placed = place_is name (session_at old lane) old.catalogue.listed path c.in_ok-path.ensures.value in
+    let placed = place_is name (kept_at old lane) path c.in_ok-path.ensures.value in
     let good : is_index_name name ≡ true = search rules in
     let q = c.as_str.result.now in
     let here = c.as_str.ensures.value in
     let at = c.index-row.result.now in
     let row = row_found old lane c.requires at c.index-row.ensures in
-    let asked = entry_asked (row_at old lane) name entry (session_at old lane) old.catalogue.listed path placed good in
+    let asked = entry_asked name entry (kept_at old lane) path placed good in
     let digest = c.in_ok-found.found.digest in
     let stop = c.in_err-bytes.field-0.0 in
     let damage = err_at (StopsAt digest) c.read_bytes-read.result stop c.in_err-bytes.was c.read_bytes-read.ensures.damage in
@@ -371,13 +368,13 @@ returns-in_err-bytes-clause-damaged g c =
     let name = c.args.name.now in
     let entry = c.args.entry in
     let path = string_bytes c.in_ok-path.path in
-    let placed = place_is name (session_at old lane) old.catalogue.listed path c.in_ok-path.ensures.value in
+    let placed = place_is name (kept_at old lane) path c.in_ok-path.ensures.value in
     let good : is_index_name name ≡ true = search rules in
     let q = c.as_str.result.now in
     let here = c.as_str.ensures.value in
     let at = c.index-row.result.now in
     let row = row_found old lane c.requires at c.index-row.ensures in
-    let asked = entry_asked (row_at old lane) name entry (session_at old lane) old.catalogue.listed path placed good in
+    let asked = entry_asked name entry (kept_at old lane) path placed good in
     let digest = c.in_ok-found.found.digest in
     let mid = c.find_entry.new.disk in
     let stop = c.in_err-bytes.field-0.0 in
@@ -394,7 +391,7 @@ returns-in_err-bytes-clause-notes g c =
     let name = c.args.name.now in
     let entry = c.args.entry in
     let path = string_bytes c.in_ok-path.path in
-    let placed = place_is name (session_at old lane) old.catalogue.listed path c.in_ok-path.ensures.value in
+    let placed = place_is name (kept_at old lane) path c.in_ok-path.ensures.value in
     let good : is_index_name name ≡ true = search rules in
     let q = c.as_str.result.now in
     let here = c.as_str.ensures.value in
@@ -414,7 +411,7 @@ returns-clause-does g c =
     let name = c.args.name.now in
     let entry = c.args.entry in
     let path = string_bytes c.in_ok-path.path in
-    let placed = place_is name (session_at old lane) old.catalogue.listed path c.in_ok-path.ensures.value in
+    let placed = place_is name (kept_at old lane) path c.in_ok-path.ensures.value in
     let good : is_index_name name ≡ true = search rules in
     let q = c.as_str.result.now in
     let here = c.as_str.ensures.value in
@@ -439,7 +436,7 @@ returns-clause-leaves g c =
     let name = c.args.name.now in
     let entry = c.args.entry in
     let path = string_bytes c.in_ok-path.path in
-    let placed = place_is name (session_at old lane) old.catalogue.listed path c.in_ok-path.ensures.value in
+    let placed = place_is name (kept_at old lane) path c.in_ok-path.ensures.value in
     let good : is_index_name name ≡ true = search rules in
     let q = c.as_str.result.now in
     let here = c.as_str.ensures.value in
@@ -458,7 +455,7 @@ returns-clause-by_disk g c = λ honest.
     let name = c.args.name.now in
     let entry = c.args.entry in
     let path = string_bytes c.in_ok-path.path in
-    let placed = place_is name (session_at old lane) old.catalogue.listed path c.in_ok-path.ensures.value in
+    let placed = place_is name (kept_at old lane) path c.in_ok-path.ensures.value in
     let good : is_index_name name ≡ true = search rules in
     let q = c.as_str.result.now in
     let here = c.as_str.ensures.value in
@@ -477,13 +474,13 @@ returns-clause-unreadable g c =
     let name = c.args.name.now in
     let entry = c.args.entry in
     let path = string_bytes c.in_ok-path.path in
-    let placed = place_is name (session_at old lane) old.catalogue.listed path c.in_ok-path.ensures.value in
+    let placed = place_is name (kept_at old lane) path c.in_ok-path.ensures.value in
     let good : is_index_name name ≡ true = search rules in
     let q = c.as_str.result.now in
     let here = c.as_str.ensures.value in
     let at = c.index-row.result.now in
     let row = row_found old lane c.requires at c.index-row.ensures in
-    let asked = entry_asked (row_at old lane) name entry (session_at old lane) old.catalogue.listed path placed good in
+    let asked = entry_asked name entry (kept_at old lane) path placed good in
     let digest = c.in_ok-found.found.digest in
     tells_readable d old.disk _ (as_entry (row_at old lane) name entry path) asked 0 (Some (Data c.in_ok-bytes.bytes)) (λ n e. cc)
     (λ h. entry_got (d.content old.disk) path q (row_at old lane) name entry here digest (ok_rowed at (row_at old lane) name entry (d.content old.disk) q digest row (c.in_ok-found.ensures.exact.gives h)))
@@ -496,13 +493,13 @@ returns-clause-damaged g c =
     let name = c.args.name.now in
     let entry = c.args.entry in
     let path = string_bytes c.in_ok-path.path in
-    let placed = place_is name (session_at old lane) old.catalogue.listed path c.in_ok-path.ensures.value in
+    let placed = place_is name (kept_at old lane) path c.in_ok-path.ensures.value in
     let good : is_index_name name ≡ true = search rules in
     let q = c.as_str.result.now in
     let here = c.as_str.ensures.value in
     let at = c.index-row.result.now in
     let row = row_found old lane c.requires at c.index-row.ensures in
-    let asked = entry_asked (row_at old lane) name entry (session_at old lane) old.catalogue.listed path placed good in
+    let asked = entry_asked name entry (kept_at old lane) path placed good in
     let digest = c.in_ok-found.found.digest in
     let mid = c.find_entry.new.disk in
     damages_none d old.disk _ _ 0 (Some (Data c.in_ok-bytes.bytes)) (λ d f e. cc)
@@ -517,7 +514,7 @@ returns-clause-notes g c =
     let name = c.args.name.now in
     let entry = c.args.entry in
     let path = string_bytes c.in_ok-path.path in
-    let placed = place_is name (session_at old lane) old.catalogue.listed path c.in_ok-path.ensures.value in
+    let placed = place_is name (kept_at old lane) path c.in_ok-path.ensures.value in
     let good : is_index_name name ≡ true = search rules in
     let q = c.as_str.result.now in
     let here = c.as_str.ensures.value in

@@ -3,7 +3,7 @@ use Rattle.store_model.specs.Store.{none}
 use Rattle.core_state.specs.Named.{is_named}
 use Rattle.core_state.specs.declared.indexes.Indexes.TheVariants.{Unread}
 use Rattle.core_state.specs.declared.kept.Session.TheVariants.{Idle}
-use Rattle.core_state.proofs.LockLemmas.{locked_ended}
+use Rattle.core_state.proofs.LockLemmas.{holds_no_group, locked_ended, shares_none}
 use Rattle.core_state.proofs.Rows.{rows_set}
 use Rattle.core_state.proofs.NamedLemmas.{list_all-set}
 use Rattle.core_state.proofs.Soundness.{sound_idle, shows_changed}
@@ -27,4 +27,6 @@ returns-clause-ended g c =
     let rows : c.args.lane < length parts.indexes.items = omega (arith, parts.rows, parts.indexes.ok.0, c.requires) in record {
       session = get_or-set_same parts.sessions.items c.args.lane Idle Idle sessions;
       row = get_or-set_same parts.indexes.items c.args.lane Unread Unread rows;
+      group = holds_no_group _ _ c.args.lane c.release.ensures;
+      shared = shares_none _ _ c.args.lane c.release.ensures;
     }

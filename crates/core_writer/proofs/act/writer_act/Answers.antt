@@ -1,14 +1,8 @@
-use Rattle.std.proofs.Common.{refl, sym, subst}
+use Rattle.std.proofs.Common.{refl}
 use Rattle.store_history.proofs.Families.{writes_step}
-use Rattle.core_state.specs.Begins.{IsReady}
-use Rattle.core_state.specs.Indexed.{row_at}
-use Rattle.core_state.specs.Unreadables.{TellsUnreadable}
-use Rattle.core_state.specs.Wanted.{session_at}
 use Rattle.core_state.proofs.Applying.{refused_applies, refused_keeps_all, done_applies, done_keeps_all}
-use Rattle.core_state.proofs.Unreadables.{tells_refused, tells_done}
-use Rattle.core_writer.specs.WriterActs.{asked_of_writer}
-use Rattle.core_writer.proofs.ActLemmas.{writers_done, writers_refused}
-use Rattle.core_writer.proofs.ActNotes.{writers_note, writers_note_none}
+use Rattle.core_state.proofs.Telling.{done_tells, refused_tells}
+use Rattle.core_writer.specs.WriterWords.{writer_words}
 use Rattle.core_writer.proofs.act.writer_act.Goals as goal
 
 pub returns-in-Answered-clause-applies : goal.returns-in-Answered-clause-applies
@@ -20,8 +14,8 @@ pub returns-in-Answered-clause-keeps : goal.returns-in-Answered-clause-keeps
 returns-in-Answered-clause-keeps g c =
     refused_keeps_all g.D.Disk g.C.Clock _ _ c.args.lane c.args.act _ (writes_step c.args.act c.requires.kind) c.in-Answered.ensures.begun c.in-Answered.ensures.memory
 
-pub returns-in-Answered-clause-from_state : goal.returns-in-Answered-clause-from_state
-returns-in-Answered-clause-from_state g c = writers_refused g.D.Disk g.C.Clock.readings _ _ c.args.lane c.args.act _ c.in-Answered.ensures.begun
+pub returns-in-Answered-clause-tells : goal.returns-in-Answered-clause-tells
+returns-in-Answered-clause-tells g c = refused_tells (writer_words c.args.act) g.D.Disk g.C.Clock.readings _ _ c.args.lane _ c.in-Answered.ensures.begun
 
 pub returns-in-At-clause-applies : goal.returns-in-At-clause-applies
 returns-in-At-clause-applies g c =
@@ -37,28 +31,7 @@ returns-in-At-clause-keeps g c =
     (record { journal = refl; clock = refl; fault = refl; remote = refl; collector = refl; upkeep = c.perform-ended.ensures.touches })
     c.perform-ended.ensures.does c.perform-ended.ensures.leaves c.settle.ensures
 
-pub returns-in-At-clause-from_state : goal.returns-in-At-clause-from_state
-returns-in-At-clause-from_state g c =
-    writers_done g.D.Disk g.C.Clock.readings c.args.core.now c.begin.new.core _ _ c.args.lane c.in-At.at c.args.act c.perform-ended.result c.settle.result
-    c.in-At.ensures.begun c.perform-ended.ensures.from_state c.settle.ensures
-
-pub returns-in-Answered-clause-unreadable : goal.returns-in-Answered-clause-unreadable
-returns-in-Answered-clause-unreadable g c = tells_refused g.D.Disk g.C.Clock.readings _ _ c.args.lane _ _ _ c.in-Answered.ensures.begun
-
-pub returns-in-At-clause-unreadable : goal.returns-in-At-clause-unreadable
-returns-in-At-clause-unreadable g c = let d = g.D.Disk in
-    let at = c.in-At.at in
-    let admitted = c.in-At.ensures.begun in
-    let old = c.args.core.now.parts in
-    subst (λ l. TellsUnreadable d old.disk (asked_of_writer (row_at old l) c.args.act (session_at old l) old.catalogue.listed) c.settle.result.entry.kind c.settle.result.reply) admitted.lane_is
-    (tells_done d g.C.Clock.readings c.args.core.now c.begin.new.core _ _ at.lane at.moment
-    (λ p. asked_of_writer (row_at p at.lane) c.args.act (session_at p at.lane) p.catalogue.listed) _ _ (subst (λ l. IsReady g.C.Clock.readings c.args.core.now c.begin.new.core l at.moment) (sym admitted.lane_is) admitted.ready)
-    c.perform-ended.ensures.unreadable c.settle.ensures)
-
-pub returns-in-Answered-clause-notes : goal.returns-in-Answered-clause-notes
-returns-in-Answered-clause-notes g c = writers_note_none g.D.Disk g.C.Clock.readings _ _ c.args.lane c.args.act _ c.in-Answered.ensures.begun
-
-pub returns-in-At-clause-notes : goal.returns-in-At-clause-notes
-returns-in-At-clause-notes g c =
-    writers_note g.D.Disk g.C.Clock.readings c.args.core.now c.begin.new.core _ _ c.args.lane c.in-At.at c.args.act c.perform-ended.result c.settle.result
-    c.in-At.ensures.begun c.perform-ended.ensures.does.plain c.perform-ended.ensures.notes c.settle.ensures
+pub returns-in-At-clause-tells : goal.returns-in-At-clause-tells
+returns-in-At-clause-tells g c =
+    done_tells (writer_words c.args.act) g.D.Disk g.C.Clock.readings c.args.core.now c.begin.new.core _ _ c.args.lane c.in-At.at c.perform-ended.result c.settle.result
+    c.in-At.ensures.begun c.perform-ended.ensures.does.plain c.perform-ended.ensures.tells c.settle.ensures

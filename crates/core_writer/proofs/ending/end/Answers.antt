@@ -1,6 +1,8 @@
 use Rattle.std.proofs.Common.{◌∙◌, ap, refl, sym, subst, inr}
 use Rattle.disk_trait.specs.Effects.{LeavesBy}
 use Rattle.snapshot_files.specs.Forgotten.{MayLose, without}
+use Rattle.core_state.specs.declared.kept.Session.TheVariants.{Idle}
+use Rattle.core_state.proofs.Commanding.{others_set}
 use Rattle.core_state.specs.Changes.{put_paths}
 use Rattle.core_state.proofs.Acting.{shows_same}
 use Rattle.core_writer.specs.Ended.{files_in}
@@ -42,4 +44,4 @@ returns-clause-leaves g c = let d = g.D.Disk in
     (λ h. c.in_ok-remove_files.ensures.removed h ∙ ap (λ fs. without (put_paths fs) (d.content old.disk)) files)
     c.end_session.ensures.catalogue
     c.end_session.ensures.ended
-    c.end_session.ensures.indexes
+    c.end_session.ensures.indexes (others_set old c.end_session.new.parts c.args.at.lane Idle c.end_session.ensures.sessions)

@@ -3,12 +3,14 @@ use Rattle.std.specs.List.{list_all}
 use Rattle.store_types.specs.declared.refusal.Refusal.TheVariants.{NoFile}
 use Rattle.wire_commands.specs.declared.command.Command.TheVariants.{Finish}
 use Rattle.store_history.specs.declared.act.Act.TheVariants.{Plain}
+use Rattle.std.proofs.lemmas.List.{get_or-set_other}
+use Rattle.core_state.proofs.LockLemmas.{holds_no_group, shares_none}
 use Rattle.core_state.specs.declared.kept.Session.TheVariants.{Idle}
 use Rattle.core_state.specs.Catalogue.{closed}
 use Rattle.core_state.specs.Changes.{IsFirm, LeavesChange, after}
 use Rattle.core_state.specs.Wanted.{session_at}
 use Rattle.core_state.specs.Named.{is_named}
-use Rattle.core_state.specs.Replies.{refuses_finish}
+use Rattle.store_history.specs.Replies.{refuses_finish}
 use Rattle.core_state.specs.declared.indexes.Indexes.TheVariants.{Unread}
 use Rattle.core_state.proofs.Rows.{rows_but}
 use Rattle.core_state.proofs.Commanding.{failed_does, failed_leaves, not_still, refused_does, same_kept, unwritten_does, writes_does, writes_leaves}
@@ -86,9 +88,11 @@ returns-clause-leaves g c = let d = g.D.Disk in
     (λ _. record {
       session = idle_set old c.args.at.lane _ c.requires c.close.ensures.session;
       row = get_or-set_same old.indexes.items c.args.at.lane Unread Unread there;
+      group = holds_no_group _ _ c.args.at.lane c.release.ensures;
+      shared = shares_none _ _ c.args.at.lane c.release.ensures;
     })
     (λ writes. absurd (false_true writes))
-    (rows_but old _ c.args.at.lane (Plain Finish) Unread refl refl)
+    (rows_but old _ c.args.at.lane (Plain Finish) Unread refl refl) (λ i other. get_or-set_other old.sessions.items c.args.at.lane i c.close.new.session Idle other)
 
 pub close-requires-clause-named : goal.close-requires-clause-named
 close-requires-clause-named g c =

@@ -1,77 +1,70 @@
-use Rattle.std.proofs.Common.{◌≡◌, ◌∙◌, ℕ, List, Option, ap, refl, subst, rules, Some, None}
+use Rattle.std.proofs.Common.{◌<◌, ◌∙◌, ℕ, List, length, get_or-set_same, Option, Result, sym, ap, refl, subst, arith}
 use Rattle.store_types.specs.declared.names.SnapshotKey.{SnapshotKey}
-use Rattle.store_types.specs.declared.refusal.Refusal.TheVariants.{BadName}
-use Rattle.store_types.specs.Names.{IsKey, key_of}
+use Rattle.store_types.specs.declared.refusal.Refusal.{Refusal}
+use Rattle.store_types.specs.Chain.Refusing.{◌>>=◌}
+use Rattle.store_types.specs.Names.{group_of_key}
 use Rattle.store_model.specs.WriterSteps.{new_writer}
 use Rattle.backup_session.specs.Session as backups
 use Rattle.backup_session.specs.Session.{settled}
 use Rattle.backup_session.specs.Steps as rows
 use Rattle.backup_session.specs.Shown.{Shows}
+use Rattle.lock_book.specs.Locks.{TakesWriter}
 use Rattle.wire_commands.specs.declared.command.Command.TheVariants.{OpenWriter}
 use Rattle.wire_commands.specs.declared.reply.Reply.TheVariants.{Base}
 use Rattle.store_history.specs.declared.act.Act.TheVariants.{Plain}
 use Rattle.core_state.specs.declared.kept.Session.{Session}
-use Rattle.core_state.specs.declared.kept.Session.TheVariants.{Writer}
+use Rattle.core_state.specs.declared.kept.Session.TheVariants.{Idle, Writer}
 use Rattle.core_state.specs.declared.kept.StoredFile.{StoredFile}
+use Rattle.core_state.specs.Kept.{kept_at}
 use Rattle.core_state.specs.Named.{is_named}
-use Rattle.core_state.specs.Replies.{refuses_writer}
-use Rattle.core_state.specs.Wanted.{session_at}
-use Rattle.core_state.proofs.FromState.{told_stopped}
-use Rattle.core_state.proofs.Commanding.{busy_does, changed_does, refused_does, same_kept}
+use Rattle.store_history.specs.Replies.{reply_told}
+use Rattle.core_state.proofs.FromState.{stopped}
+use Rattle.core_state.proofs.Commanding.{changed_does, same_kept}
+use Rattle.core_state.proofs.Decided.{decided_does, decided_leaves, decided_tells}
 use Rattle.core_state.proofs.NamedLemmas.{list_all-set}
-use Rattle.core_state.proofs.Texts.{bad_name_has_text, base_has_text}
-use Rattle.core_writer.specs.AnsweredBy.{writer_told}
-use Rattle.core_writer.proofs.OpenedTold.{told_based, told_busy, told_unbased, told_unnamed}
-use Rattle.core_writer.proofs.OpeningLemmas.{named_new, not_idle, bad_named, opening_refuses, opens}
-use Rattle.core_writer.proofs.Stopping.{early_does}
+use Rattle.core_state.proofs.Texts.{base_has_text}
+use Rattle.core_state.specs.FromState.{ActTells}
+use Rattle.core_writer.specs.AnsweredBy.{tells_base, writer_told}
+use Rattle.core_writer.specs.Opened.{begins_with, other_holder, to_write}
+use Rattle.core_writer.proofs.OpeningLemmas.{named_new, opens, write_answers, write_free, write_refused}
 use Rattle.core_writer.proofs.opening.open_writer.Goals as goal
 
-pub returns-in_err-idle-clause-does : goal.returns-in_err-idle-clause-does
-returns-in_err-idle-clause-does g c =
-    busy_does g.D.Disk c.args.parts.now c.args.at (Plain (OpenWriter c.args.snapshot.now)) _ _ c.from_residual.ensures.1 c.requires.lane c.in_err-idle.ensures.value c.in_err-idle.ensures.text
-    (λ state. refl) (λ s. not_idle s c.args.at.lane c.args.at.moment c.args.snapshot.now _)
-
-pub returns-in_err-idle-clause-from_state : goal.returns-in_err-idle-clause-from_state
-returns-in_err-idle-clause-from_state g c =
-    let old = c.args.parts.now in
-    let lane = c.args.at.lane in
-    told_stopped (writer_told c.args.snapshot.now lane (session_at old lane) old.catalogue.listed old.locks) _ _ c.from_residual.ensures.1
-    (told_busy c.args.snapshot.now lane (session_at old lane) old.catalogue.listed old.locks _ c.in_err-idle.ensures.value)
-
-pub returns-in_default-clause-does : goal.returns-in_default-clause-does
-returns-in_default-clause-does g c =
-    let old = c.args.parts.now in
-    let bad : key_of c.args.snapshot.now ≡ None = search rules in
-    refused_does g.D.Disk old old c.args.at (Plain (OpenWriter c.args.snapshot.now)) BadName _ refl refl (same_kept old) bad_name_has_text refl
-    (λ s shows. bad_named old s c.args.at.lane c.args.at.moment c.args.snapshot.now shows c.requires.lane c.in_ok-idle.ensures.value bad)
-
-pub returns-in_default-clause-from_state : goal.returns-in_default-clause-from_state
-returns-in_default-clause-from_state g c =
-    let old = c.args.parts.now in
-    let lane = c.args.at.lane in
-    let bad : key_of c.args.snapshot.now ≡ None = search rules in
-    told_unnamed c.args.snapshot.now lane (session_at old lane) old.catalogue.listed old.locks c.in_ok-idle.ensures.value bad
+-- ---- a test refuses it
 
 pub returns-in_err-begun-clause-does : goal.returns-in_err-begun-clause-does
 returns-in_err-begun-clause-does g c =
     let old = c.args.parts.now in
-    let named : key_of c.args.snapshot.now ≡ Some c.in-Ok.key = search rules in
-    early_does g.D.Disk refuses_writer old _ c.args.at (Plain (OpenWriter c.args.snapshot.now)) _ _ c.from_residual-in_err-begun.ensures.1 refl (record { catalogue = refl; sessions = refl; locks = c.in_err-begun.ensures.err; indexes = refl }) c.in_err-begun.ensures.stop (λ refusal is. is)
-    (λ s h. opening_refuses old s c.args.at.lane c.args.at.moment c.args.snapshot.now c.in-Ok.key _ c.requires.lane c.in_ok-idle.ensures.value named c.in_err-begun.ensures.value h.shows)
+    let at = c.args.at in
+    let text = c.args.snapshot.now in
+    decided_does g.D.Disk begins_with (to_write text) old old at (Plain (OpenWriter text)) _ _ c.from_residual.ensures.1 c.in_err-begun.ensures.value refl (same_kept old)
+    (write_answers text (kept_at old at.lane)) (λ s h r e. write_refused old s at.lane at.moment text h.shows c.requires.lane r e)
+
+pub returns-in_err-begun-clause-leaves : goal.returns-in_err-begun-clause-leaves
+returns-in_err-begun-clause-leaves g c =
+    let old = c.args.parts.now in
+    let text = c.args.snapshot.now in
+    decided_leaves g.D.Disk begins_with (to_write text) old old c.args.at (Plain (OpenWriter text)) _ _ c.from_residual.ensures.1 c.in_err-begun.ensures.value refl (same_kept old) (λ e. cc)
 
 pub returns-in_err-begun-clause-from_state : goal.returns-in_err-begun-clause-from_state
 returns-in_err-begun-clause-from_state g c =
     let old = c.args.parts.now in
-    let lane = c.args.at.lane in
-    let named : key_of c.args.snapshot.now ≡ Some c.in-Ok.key = search rules in
-    told_unbased c.args.snapshot.now lane (session_at old lane) old.catalogue.listed old.locks c.in-Ok.key c.in_ok-idle.ensures.value named _ _
-    c.from_residual-in_err-begun.ensures.1 c.in_err-begun.ensures.value
+    let text = c.args.snapshot.now in
+    stopped (λ r. ActTells (writer_told text) old c.args.at r) _ _ c.from_residual.ensures.1
+    (decided_tells begins_with (to_write text) old c.args.at.lane (λ b. tells_base b.1) _ c.in_err-begun.ensures.value)
+
+-- ---- it begins
+
+pub take_locks-requires : goal.take_locks-requires
+take_locks-requires g c =
+    let old = c.args.parts.now in
+    let begun = c.in_ok-begun.begun in
+    ap (other_holder old.locks c.args.at.lane) c.in_ok-begun.ensures.group ∙ write_free c.args.snapshot.now (kept_at old c.args.at.lane) begun.key begun.base c.in_ok-begun.ensures.value
 
 pub invariant_of-parts-2-clause-named : goal.invariant_of-parts-2-clause-named
 invariant_of-parts-2-clause-named g c =
-    let named : IsKey c.in-Ok.key = search rules in
+    let begun = c.in_ok-begun.begun in
     list_all-set is_named c.args.parts.now.sessions.items c.args.at.lane _ c.args.parts.now.named
-    (named_new c.open_writer.result c.new.result c.in-Ok.key c.args.at.moment c.in_ok-begun.begun.base c.open_writer.ensures.opened named)
+    (named_new c.open_writer.result c.new.result begun.key c.args.at.moment begun.base c.open_writer.ensures.opened c.in_ok-begun.ensures.grammar)
 
 abbrev writing : SnapshotKey → ℕ → Option SnapshotKey → List StoredFile → Session
 writing key moment base files = Writer (record { session = settled (rows.opened key moment base); files = files })
@@ -79,21 +72,31 @@ writing key moment base files = Writer (record { session = settled (rows.opened 
 pub returns-clause-does : goal.returns-clause-does
 returns-clause-does g c =
     let old = c.args.parts.now in
+    let lane = c.args.at.lane in
     let begun = c.in_ok-begun.begun in
-    let named : key_of c.args.snapshot.now ≡ Some c.in-Ok.key = search rules in
-    let key : IsKey c.in-Ok.key = search rules in
-    let told = c.in_ok-begun.ensures.value in
+    let moment = c.args.at.moment in
     changed_does g.D.Disk old _ c.args.at (Plain (OpenWriter c.args.snapshot.now)) _ refl (base_has_text begun.text c.in_ok-begun.ensures.short) refl tt
-    (λ s h. opens g.D.Disk old _ s c.args.at.lane c.args.at.moment c.args.snapshot.now c.in-Ok.key begun.base _ _ c.requires.lane c.in_ok-idle.ensures.value named key
-    told.0 refl refl refl c.in_ok-begun.ensures.taken
-    (ap (λ v. Writer (record { session = v; files = c.new.result })) c.open_writer.ensures.opened ∙ ap (λ fs. writing c.in-Ok.key c.args.at.moment begun.base fs) c.new.ensures)
-    (subst (λ (x : backups.Session). Shows x.writer (new_writer c.in-Ok.key c.args.at.moment begun.base)) c.open_writer.ensures.opened c.open_writer.ensures.plain)
-    (ap (λ t. Base t) told.1) h)
+    (λ s h. opens g.D.Disk old _ s lane moment c.args.snapshot.now begun.key begun.base _ _ c.requires.lane c.in_ok-begun.ensures.value c.in_ok-begun.ensures.grammar
+    refl refl refl (subst (λ group. TakesWriter old.locks c.take_locks.new.locks lane group begun.base) c.in_ok-begun.ensures.group c.in_ok-take_locks.ensures.ok)
+    (ap (λ v. Writer (record { session = v; files = c.new.result })) c.open_writer.ensures.opened ∙ ap (λ fs. writing begun.key moment begun.base fs) c.new.ensures)
+    (subst (λ (x : backups.Session). Shows x.writer (new_writer begun.key moment begun.base)) c.open_writer.ensures.opened c.open_writer.ensures.plain)
+    (ap (λ t. Base t) c.in_ok-begun.ensures.text) h)
 
 pub returns-clause-from_state : goal.returns-clause-from_state
 returns-clause-from_state g c =
+    let begun = c.in_ok-begun.begun in
+    ap (λ t. Base t) c.in_ok-begun.ensures.text
+    ∙ sym (ap (λ (o : Result (SnapshotKey × Option SnapshotKey) Refusal). reply_told (o >>= λ b. tells_base b.1)) c.in_ok-begun.ensures.value)
+
+-- the lane has its group and its base
+pub returns-clause-locks : goal.returns-clause-locks
+returns-clause-locks g c =
     let old = c.args.parts.now in
     let lane = c.args.at.lane in
-    let named : key_of c.args.snapshot.now ≡ Some c.in-Ok.key = search rules in
-    told_based c.args.snapshot.now lane (session_at old lane) old.catalogue.listed old.locks c.in-Ok.key c.in_ok-idle.ensures.value named
-    c.in_ok-begun.begun c.in_ok-begun.ensures.value
+    let begun = c.in_ok-begun.begun in
+    let within : lane < length old.sessions.items = omega (arith, old.lanes, old.sessions.ok.0, c.requires.lane) in
+    let takes = subst (λ group. TakesWriter old.locks c.take_locks.new.locks lane group begun.base) c.in_ok-begun.ensures.group c.in_ok-take_locks.ensures.ok in (
+      record { session = c.open_writer.result; files = c.new.result },
+      get_or-set_same old.sessions.items lane _ Idle within,
+      subst (λ (v : backups.Session). TakesWriter old.locks c.take_locks.new.locks lane (group_of_key (v.writer).key) (v.writer).base) (sym c.open_writer.ensures.opened) takes,
+    )

@@ -1,16 +1,16 @@
 use Rattle.std.proofs.Common.{◌≡◌, ◌≤◌, ◌++◌, [], None, false, length, refl, ap, sym, subst, ◌∙◌, arith}
 use Rattle.core_state.specs.History.{began}
-use Rattle.core_state.specs.Remotes.{RemoteStays, faults_of}
+use Rattle.store_history.specs.RemoteDisk.{RemoteStays, faults_of}
 use Rattle.lane.specs.Entries.{has_kind}
-use Rattle.lane_threads.specs.Served.{RanAs}
-use Rattle.lane_threads.proofs.Halves.{each_counts}
+use Rattle.lane.specs.Served.{RanAs}
+use Rattle.lane.proofs.Halves.{each_counts}
 use Rattle.pbs_server.specs.Ended.{NoneServed, served_of}
 use Rattle.pbs_server.specs.Statuses.{endings_of, first_of, run_facts}
 use Rattle.pbs_server.proofs.Causes.{caused, save_told}
 use Rattle.pbs_server.proofs.Generated.{ended_of, unheld}
 use Rattle.pbs_server.proofs.Leaving.{memory_asks, opening_asks, unopened, unturned}
 use Rattle.pbs_server.proofs.Remotes.{rose_by}
-use Rattle.pbs_server.proofs.Running.{count, memory, opened_fresh, order_is, reached}
+use Rattle.pbs_server.proofs.Running.{count, kept, memory, opened_fresh, order_is, reached, rests}
 use Rattle.pbs_server.proofs.Woven.{has_both, opening_at}
 use Rattle.pbs_server.proofs.run.run_ports.Goals as goal
 
@@ -60,6 +60,7 @@ returns-in-Ok-serve_all-clause-ended g c =
     let h = began o None (readings c.args.clock) in
     let begun = opened.records o None refl in
     let now = reached d e g.C.Clock s k first core old new reports on h begun refl in
+    let honest = kept d e g.C.Clock s k first core old new reports on h begun refl in
     let counted = count d e g.C.Clock s k first core old new reports on h begun refl in
     let ends = c.save-not_saved.ensures in
     let given : lanes.items ≡ reports = c.push_all.ensures ∙ ap (λ xs. xs ++ c.as_slice.result.now) c.in-Ok.ensures.items ∙ c.as_slice.ensures.value in
@@ -67,7 +68,7 @@ returns-in-Ok-serve_all-clause-ended g c =
     ap (λ xs. first_of (run_facts (left.order).items (endings_of xs) not_saved false)) given in
     let both = has_both d e s k readings c.args.clock disk c.args.remote first core saved old new (left.order).items ((left.report).calls).items not_saved reports on.runs on.events left.disk
     (g.met.D.Disk g.world.𝓛 g.world.𝓜 g.world.𝓡 ((λ s x. x), (λ x. x), (λ x. x), λ x. x)).told (opened.handed).0 opened.opened opened.touches opened.recovers (opened.begun).last opened.book opened.cleaned
-    now on.lanes on.each ends refl refl refl in
+    now on.lanes on.each ends (λ h. honest.0 ((opened.serves).kept.0 h)) (rests d e g.C.Clock s k first core old new reports on h begun refl) refl refl refl in
     let order = order_is d e g.C.Clock s k first core old new reports on h begun refl (saved.parts).disk (left.order).items ((left.report).calls).items disk left.disk c.args.remote left.remote (opened.handed).0
     (ap (λ x. x.remote) ends.rest)
     (ap (λ x. (x.journal).entries.items) ends.rest) (ap (λ x. (x.journal).calls.items) ends.rest) (opened.serves).count (ends.serves).count refl in
@@ -94,6 +95,9 @@ returns-in-Ok-serve_all-clause-ended g c =
       order = order;
       save = save;
       faults = let a = (opened.serves).count in let n = (ends.serves).count in omega (arith, a, n, counted);
+      rests = both.rests;
+      kept = (λ x. (ends.serves).kept.0 (honest.0 ((opened.serves).kept.0 x)), λ x. (opened.serves).kept.1 (honest.1 ((ends.serves).kept.1 x)));
+      saved = both.saved;
       not_opened = refl;
     })
     (λ L R beside honest stands clear. both.rows L R beside honest stands clear (both.plain L R beside honest stands clear))

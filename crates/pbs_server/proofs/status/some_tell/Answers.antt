@@ -2,7 +2,7 @@ use Rattle.std.proofs.Common.{◌≡◌, ◌∙◌, rules, tests}
 use Rattle.std.specs.List.{list_any}
 use Rattle.std.proofs.lemmas.Iterator.{YieldsList-from_slice}
 use Rattle.std.proofs.lemmas.Iterator.Search.{any_from_yields_List}
-use Rattle.lane.specs.declared.port.LaneReport.{LaneReport}
+use Rattle.store_history.specs.declared.port.LaneReport.{LaneReport}
 use Rattle.pbs_server.specs.Statuses.{tells}
 use Rattle.pbs_server.proofs.Statuses.{tells_of}
 use Rattle.pbs_server.proofs.status.some_tell.Goals as goal

@@ -1,7 +1,8 @@
 use Rattle.std.proofs.Common.{◌≡◌, ◌∙◌, ap, rules}
 use Rattle.std.specs.Prelude.{option_map}
 use Rattle.store_model.specs.Store.{Store}
-use Rattle.store_model.specs.AdminSteps.{want_after, listed}
+use Rattle.store_model.specs.Heads.{after_in}
+use Rattle.store_model.specs.AdminSteps.{listed}
 use Rattle.wire_commands.specs.declared.reply.Reply.TheVariants.{Listing}
 use Rattle.plain_store.proofs.Stopping.{does_stop, stop_fits}
 use Rattle.plain_store.proofs.AdminLemmas.{list_refused, list_goes}
@@ -9,7 +10,7 @@ use Rattle.plain_store.proofs.plain.Plain.list.Goals as goal
 
 pub returns-in_err-after-clause-does : goal.returns-in_err-after-clause-does
 returns-in_err-after-clause-does c =
-    does_stop (λ key. key) _ c.from_residual.result c.in_err-after.field-0.0 (want_after c.args.after.now) _ c.from_residual.ensures.1 c.in_err-after.ensures.gives (list_refused c.args.self.now c.args.after.now)
+    does_stop (λ key. key) _ c.from_residual.result c.in_err-after.field-0.0 (after_in c.args.self.now c.args.lane c.args.after.now) _ c.from_residual.ensures.1 c.in_err-after.ensures.gives (list_refused c.args.self.now c.args.lane c.args.after.now)
 
 pub returns-in_err-after-clause-spelled : goal.returns-in_err-after-clause-spelled
 returns-in_err-after-clause-spelled c =
@@ -22,5 +23,5 @@ returns-clause-does c =
     let told = c.in_ok-list_reply.ensures.reply in
     let snapshots = c.deref.ensures.value ∙ ap (λ (x : Store). x.snapshots) c.self.view_is in
     let shown : option_map (λ key. key.now) c.map-after.result ≡ after = search rules in
-    list_goes s c.args.after.now after c.in_ok-list_reply.field-0 c.in_ok-after.ensures.gives
+    list_goes s c.args.lane c.args.after.now after c.in_ok-list_reply.field-0 c.in_ok-after.ensures.gives
     (told ∙ ap (λ o. Listing (listed c.deref.result.now o)) shown ∙ ap (λ xs. Listing (listed xs after)) snapshots)

@@ -1,9 +1,0 @@
-pub mod Endings
-pub mod Slashes
-pub mod Telling
-pub mod Orphans
-pub mod Names
-pub mod Leavers
-pub mod Listed
-pub mod Answering
-pub mod Openings

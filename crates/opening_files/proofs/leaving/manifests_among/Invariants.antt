@@ -1,6 +1,0 @@
-use Rattle.std.proofs.Common.{map, take, string_bytes}
-use Rattle.opening_files.proofs.Names.{IsAmong}
-use Rattle.opening_files.proofs.leaving.manifests_among.Given as goal
-
-abbrev pub invariant-loop-name : goal.invariant-loop-name
-invariant-loop-name l = IsAmong l.manifests (map string_bytes (take l.name-index l.names))
