@@ -2,13 +2,13 @@
 
 use crate::remote_of;
 use file_disk::{AtOnce, FileDisk};
-use store_history::Port;
 use pbs_server::{Status, serve};
 use port_traits::{FileSink, FileSource, FreeGate, MemSink, WallClock};
 use std::alloc::{AllocError, Global};
 use std::io;
 use std::sync::Wait;
 use std::thread::Threads;
+use store_history::Port;
 
 /// A file that is read. Nothing is written to it.
 type ReadPort = Port<FileSource<HostRuntime>, MemSink>;

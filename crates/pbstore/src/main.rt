@@ -8,7 +8,6 @@ mod check;
 
 use crate::check::{Check, serve_check};
 use file_disk::{AtOnce, FileDisk};
-use store_history::Port;
 use pbs_server::{Plan, Status, WordFault, plan_words, serve};
 use port_traits::{FileSink, FileSource, FreeGate, Sink, WallClock};
 use std::alloc::{AllocError, Global};
@@ -18,6 +17,7 @@ use std::process::ExitCode;
 use std::sync::Wait;
 use std::thread::Threads;
 use std::{env, io};
+use store_history::Port;
 
 /// A session's file, and the file of its replies.
 type FilePort = Port<FileSource<HostRuntime>, FileSink<File>>;
