@@ -100,6 +100,8 @@ class Addresses(Served):
         link = os.path.join(self.server.work, "another-name")
         os.symlink(self.server.root, link)
         with mock.patch.object(sockets, "folders", lambda: [self.server.work]):
+            # (the server listens before the folder leads to it)
+            wait_until(lambda: dial.way_to(link))
             stream, lane = dial.begin(dial.way_to(link))
             stream.write(s.frame(s.list_after()))
             self.assertEqual((lane, stream.read(7)), (0, s.frame(s.rows())))

@@ -8,6 +8,8 @@ from pbclient.served.hello import Refused
 
 KILLS = int(os.environ.get("KILLS", "4"))
 LIST = s.list_after()
+# So many backups at least are finished before a look.
+FINISHED = 10
 
 
 class Loaded(unittest.TestCase):
@@ -21,10 +23,11 @@ class Loaded(unittest.TestCase):
         time.sleep(0.5 + random.Random(number).random())
 
     def look(self):
+        # (a busy machine is slow)
+        wait_until(lambda: len(self.load.done) > FINISHED, 120)
         self.load.stop()
         if KILLS > 4:
             print(f"{self.id()}: {len(self.load.done)} finished, {len(self.load.unsure)} unanswered, {self.load.endings}", file=sys.stderr)
-        self.assertGreater(len(self.load.done), 10)
         self.load.look_at_all(self)
         self.assertEqual(self.server.stop(), 0)
 
