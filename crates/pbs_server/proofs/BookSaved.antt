@@ -20,6 +20,7 @@ use Rattle.store_history.specs.Saved.{book_name}
 use Rattle.core_state.specs.declared.state.Core.{Core}
 use Rattle.store_history.specs.Answered.{fault_after, fault_in}
 use Rattle.store_history.specs.Foreign.{IsForeign}
+use Rattle.core_state.specs.Upkeeps.{touches_kept}
 use Rattle.core_state.specs.Saving.{HasSaved, KeepsRest, LeavesBook, SavesBook, text_of_book}
 use Rattle.lane.specs.Entries.{has_kind}
 use Rattle.pbs_server.specs.AtRest.{SaveLeaves}
@@ -135,7 +136,7 @@ not_tried d core failed = record {
 
 -- ---- after an entry of kind 5 the disk has failed
 
-first_some : (place : ℕ) (o : Option ℕ) → IsSome (first_fault place o)
+pub first_some : (place : ℕ) (o : Option ℕ) → IsSome (first_fault place o)
 first_some place None = refl
 first_some place (Some first) = refl
 
@@ -177,10 +178,11 @@ halted_by (Some place) some p = p
 -- what it leaves, by the order of a run and its last moment
 pub save_leaves : {D E C : Type 0} (d : Ghosts D) (old new : Core D E C) (order : List Entry) (not_saved : Option DiskError) → EndsSaved d old new not_saved
     → (has_kind 5 order ≡ true → IsSome old.fault) → (has_kind 5 order ≡ false → old.fault ≡ None) → NoneAfter (old.upkeep).book old.last → (m : ℕ) → old.last ≡ m
-    → SaveLeaves d order not_saved m (old.parts).disk (new.parts).disk
+    → SaveLeaves d order not_saved m (touches_kept old.upkeep) (old.parts).disk (new.parts).disk
 save_leaves {D} {E} {C} d old new order not_saved ends failed calm early m last = record {
   book = as_of old.last (old.upkeep).book;
   moment_is = last;
+  touches_are = λ x. refl;
   early = early;
   halted = λ five.
       let both : (new ≡ old) × (not_saved ≡ None) = halted_by old.fault (failed five) ends.halted in

@@ -2,7 +2,8 @@
 use Rattle.disk_trait.specs.declared.disk.Disk.{Ghosts}
 use Rattle.disk_trait.specs.declared.disk.DiskError.{DiskError}
 use Rattle.disk_trait.specs.Disk.{Rose}
-use Rattle.std.proofs.Common.{◌≡◌, ◌≤◌, ◌<◌, ◌+◌, ℕ, Bool, true, List, [], ◌∷◌, map, length, Option, None, Some, IsSome, refl, sym, ap, subst, ◌∙◌, arith, ◌↔◌}
+use Rattle.std.proofs.Common.{◌≡◌, ◌≤◌, ◌<◌, ◌+◌, ℕ, Bool, true, false, List, [], ◌∷◌, map, length, Option, None, Some, IsSome, refl, sym, ap, subst, ◌∙◌, arith, ◌↔◌}
+use Rattle.std.specs.Prelude.{is_some}
 use Rattle.std.specs.List.{All, last_or}
 use Rattle.std.proofs.lemmas.List.{length-map}
 use Rattle.std.proofs.lemmas.List.Elements.{All-nil, All-cons}
@@ -19,9 +20,10 @@ use Rattle.store_history.specs.Answered.{fault_after, AreKept}
 use Rattle.core_state.specs.History.{History, began}
 use Rattle.core_state.specs.Records.{Reaches, Records}
 use Rattle.store_history.specs.RemoteDisk.{failed_reads, faults_of}
-use Rattle.core_opening.specs.Opening.{RecordsOpened}
+use Rattle.core_state.specs.Upkeeps.{touches_kept}
+use Rattle.core_opening.specs.Opening.{HasBook, RecordsOpened}
 use Rattle.seat_history.specs.Lanes.{LastsAreWants}
-use Rattle.shared_store.specs.Comes.{IsFresh, with_events, last_calls}
+use Rattle.shared_store.specs.Comes.{IsFresh, WereDone, with_events, last_calls}
 use Rattle.store_history.specs.declared.port.LaneReport.{LaneReport}
 use Rattle.store_history.specs.declared.port.Port.{Port}
 use Rattle.lane.specs.Entries.{has_kind}
@@ -32,6 +34,7 @@ use Rattle.pbs_server.specs.AtRest.{ActsLeave, SaveLeaves}
 use Rattle.pbs_server.specs.Causes.{IsOrder}
 use Rattle.pbs_server.specs.Saving.{EndsSaved}
 use Rattle.pbs_server.specs.Statuses.{endings_of, some_tells}
+use Rattle.pbs_server.proofs.ActByAct.{all_done}
 use Rattle.pbs_server.proofs.BookSaved.{five_fails, no_five, save_leaves}
 use Rattle.pbs_server.proofs.Lanes.{wants_entered}
 
@@ -94,10 +97,16 @@ module _ {D E C S K : Type 0} (d : Ghosts D) (e : Ghosts E) (clock : clocks.Ghos
       subst (λ (c : Core D E C). Rose (d.faults (c.parts).disk) (d.faults (core.parts).disk)) (x.comes).is
       ((x.comes).fault (subst (λ (o : Option ℕ). IsSome o) (sym (reached.records).fault) (five_fails 0 None x.events five)))
 
-  -- as the last act was answered, it was called as often as the run's events tell
+  -- as the last act was answered, each act has done what it does to the disk
   pub rests : (order : List Entry) (calls : List ℕ) → order ≡ (core.journal).entries.items → calls ≡ (core.journal).calls.items
-      → ActsLeave d (first.parts).disk order calls (core.parts).disk
-  rests order calls entries_are calls_are = record {
+      → first.fault ≡ None → (d.honest (first.parts).disk → HasBook d first)
+      → ActsLeave d (first.parts).disk x.events order calls (core.parts).disk
+  rests order calls entries_are calls_are unfailed booked = record {
+    before = touches_kept first.upkeep;
+    now = touches_kept core.upkeep;
+    book = λ honest. (first.upkeep, booked honest, refl);
+    each = all_done d e clock first core x.events false (sym (ap is_some unfailed))
+        (subst (λ (c : Core D E C). WereDone d e clock c x.events core) (x.comes).is (x.comes).done);
     calls_are =
         ap (last_or (Some (d.calls (first.parts).disk))) (calls_are ∙ (reached.records).calls)
         ∙ last_called (d.calls (first.parts).disk) x.events
@@ -107,7 +116,7 @@ module _ {D E C S K : Type 0} (d : Ghosts D) (e : Ghosts E) (clock : clocks.Ghos
 
   -- and then the book was saved
   pub saves : (saved : Core D E C) (order : List Entry) (not_saved : Option DiskError) → order ≡ (core.journal).entries.items → EndsSaved d core saved not_saved
-      → SaveLeaves d order not_saved (moment_after (h.opening).moment x.events) (core.parts).disk (saved.parts).disk
+      → SaveLeaves d order not_saved (moment_after (h.opening).moment x.events) (touches_kept core.upkeep) (core.parts).disk (saved.parts).disk
   saves saved order not_saved entries_are ends =
       let r = reached.records in
       save_leaves d core saved order not_saved ends

@@ -8,32 +8,41 @@ use Rattle.disk_trait.specs.Files.{Files}
 use Rattle.std.specs.Prelude.{◌≡◌, ◌≤◌, ◌↔◌, ℕ, true, false, List, Option, Some, None, IsSome}
 use Rattle.std.specs.FinMap.{get}
 use Rattle.std.specs.List.{last_or}
-use Rattle.atime_book.specs.Touches.{IsEarly}
+use Rattle.atime_book.specs.Touches.{IsEarly, last_of}
 use Rattle.file_install.specs.Install.{Installs, installed}
 use Rattle.store_types.specs.declared.order.Entry.{Entry}
 use Rattle.store_files.specs.Book.{Book, FitsBook, book_text}
 use Rattle.store_files.specs.Folder.{IsDigest, chunk_name}
 use Rattle.store_model.specs.Stands.{StandsFor}
 use Rattle.store_model.specs.Store.{Store}
+use Rattle.store_history.specs.declared.act.Event.{Event}
 use Rattle.store_history.specs.ChunkFiles.{HoldsOnly}
 use Rattle.store_history.specs.Foreign.{IsForeign}
 use Rattle.store_history.specs.LastTouches.{LastTouches}
 use Rattle.store_history.specs.Saved.{book_name}
 use Rattle.lane.specs.Entries.{has_kind}
+use Rattle.pbs_server.specs.ActByAct.{AllLeave, OpensWith}
 use Rattle.pbs_server.specs.Saving.{saving_of}
 
--- The disk once the last act was answered, of one that was opened: on any disk.
-pub record ActsLeave {D : Type 0} (d : Ghosts D) (opened : D) (order : List Entry) (calls : List ℕ) (at_rest : D) : Type 0 where
+-- The disk once the last act was answered, of one that was opened: on any disk, but for what is said of an honest one.
+pub record ActsLeave {D : Type 0} (d : Ghosts D) (opened : D) (events : List Event) (order : List Entry) (calls : List ℕ) (at_rest : D) : Type 0 where
+  -- the last touches of its chunks as it was opened, and now
+  pub before : LastTouches
+  pub now : LastTouches
+  pub book : d.honest opened → OpensWith (d.content opened) before
+  -- act by act, from one disk to the next
+  pub each : AllLeave d false opened before events at_rest now
   -- its count of calls is the number beside the last entry; without an entry it was not called since
   pub calls_are : last_or (Some (d.calls opened)) calls ≡ Some (d.calls at_rest)
   -- it is honest where it was, and its count of faults rose where an act met a fault
   pub serves : Serves d.honest d.faults opened at_rest (has_kind 5 order ≡ true)
 
--- What the save of the book did to it, in a run of this last moment: on any disk, but for what is said of an honest one.
-pub record SaveLeaves {D : Type 0} (d : Ghosts D) (order : List Entry) (not_saved : Option DiskError) (moment : ℕ) (at_rest result : D) : Type 0 where
-  -- the book that was put, or was to be: it is of the last moment, and none of its touches is later
+-- What the save of the book did to it, in a run of this last moment, which left these last touches: on any disk, but for what is said of an honest one.
+pub record SaveLeaves {D : Type 0} (d : Ghosts D) (order : List Entry) (not_saved : Option DiskError) (moment : ℕ) (touches : LastTouches) (at_rest result : D) : Type 0 where
+  -- the book that was put, or was to be: it is of the last moment, with these touches, and none of them is later
   pub book : Book
   pub moment_is : book.moment ≡ moment
+  pub touches_are : (x : List ℕ) → last_of book x ≡ touches.last x
   pub early : IsEarly book
   -- nothing was tried where an act met a fault of the disk
   pub halted : has_kind 5 order ≡ true → (result ≡ at_rest) × (not_saved ≡ None)

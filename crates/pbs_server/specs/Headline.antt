@@ -125,8 +125,8 @@ pub record HasServed {D E S K : Type 0} (d : Ghosts D) (e : Ghosts E) (source : 
   pub was_opened : WasOpened d disk opened
   -- once the last act was answered, before the book was saved; and what was saved then
   pub at_rest : D
-  pub rests : ActsLeave d opened (result.order).items ((result.report).calls).items at_rest
-  pub saves : SaveLeaves d (result.order).items (result.report).not_saved (moment_after told.since told.events) at_rest result.disk
+  pub rests : ActsLeave d opened told.events (result.order).items ((result.report).calls).items at_rest
+  pub saves : SaveLeaves d (result.order).items (result.report).not_saved (moment_after told.since told.events) rests.now at_rest result.disk
   -- the last moment before the first command, whatever an honest disk holds: that of the saved book
   pub since_is : d.honest disk → told.since ≡ (saved_book (d.content opened)).moment
   -- on an honest disk that stands for any list of snapshots, beside an honest remote that stands for any list, where there is one, or that no act

@@ -1,6 +1,7 @@
 pub mod Words
 pub mod Statuses
 pub mod Saving
+pub mod ActByAct
 pub mod AtRest
 pub mod Causes
 pub mod Checking

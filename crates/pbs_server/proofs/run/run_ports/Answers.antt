@@ -87,7 +87,8 @@ returns-in-Ok-serve_all-clause-ended g c =
       opened = (first.parts).disk;
       was_opened = record { serves = opened.serves; opens = (opened.recovers).opens; cleaned = opened.cleaned };
       at_rest = (core.parts).disk;
-      rests = rests d e g.C.Clock s k first core old new reports on h begun refl (left.order).items ((left.report).calls).items entries_are calls_are;
+      rests = rests d e g.C.Clock s k first core old new reports on h begun refl (left.order).items ((left.report).calls).items entries_are calls_are (opened.begun).fault
+          (λ x. opened.book ((opened.serves).kept.1 x));
       saves = saving;
       since_is = both.since_is;
       plain = both.plain;
