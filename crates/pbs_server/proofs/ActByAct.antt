@@ -116,5 +116,5 @@ module _ {D E C : Type 0} (d : Ghosts D) (e : Ghosts E) (clock : clocks.Ghosts C
     touches_kept next.upkeep,
     was_done old next v failed is done,
     all_done next new vs ((kind v == FAULT_KIND) || failed)
-    (failed_next done.found next v done.lane failed (is ∙ ap is_some (sym (done.room).fault)) done.applied done.calls_are) more,
+        (failed_next done.found next v done.lane failed (is ∙ ap is_some (sym (done.room).fault)) done.applied done.calls_are) more,
   )
