@@ -54,7 +54,7 @@ module _ {D E C : Type 0} (d : Ghosts D) (e : Ghosts E) (clock : clocks.Ghosts C
     uncalled (inr has) = halted_by old.fault (sym is ∙ has) (x.keeps).halted
 
     passed : (change : Change) → is_step v.act ≡ true → MayChange old lane (moment v) (kind v) change → IsChange v (touches_kept old.upkeep) change
-    passed change step (inl stays) = inr (step, inl stays)
+    passed change step (inl same) = inr (step, inl same)
     passed change step (inr (inl takes)) = inr (step, inr (inl ((takes.1).digest, (takes.1).change_is)))
     passed change step (inr (inr saves)) = inr (step, inr (inr (as_of (moment v) (old.upkeep).book, refl, (λ q. refl), saves.1)))
 

@@ -78,6 +78,7 @@ module _ {D E : Type 0} (d : Ghosts D) (e : Ghosts E) (disk : D) (remote : Optio
           opened = h.opened;
           was_opened = h.was_opened;
           at_rest = h.at_rest;
+          touches = h.touches;
           rests = h.rests;
           saves = h.saves;
           since_is = h.since_is;

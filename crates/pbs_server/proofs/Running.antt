@@ -100,10 +100,9 @@ module _ {D E C S K : Type 0} (d : Ghosts D) (e : Ghosts E) (clock : clocks.Ghos
   -- as the last act was answered, each act has done what it does to the disk
   pub rests : (order : List Entry) (calls : List ℕ) → order ≡ (core.journal).entries.items → calls ≡ (core.journal).calls.items
       → first.fault ≡ None → (d.honest (first.parts).disk → HasBook d first)
-      → ActsLeave d (first.parts).disk x.events order calls (core.parts).disk
+      → ActsLeave d (first.parts).disk x.events order calls (core.parts).disk (touches_kept core.upkeep)
   rests order calls entries_are calls_are unfailed booked = record {
     before = touches_kept first.upkeep;
-    now = touches_kept core.upkeep;
     book = λ honest. (first.upkeep, booked honest, refl);
     each = all_done d e clock first core x.events false (sym (ap is_some unfailed))
         (subst (λ (c : Core D E C). WereDone d e clock c x.events core) (x.comes).is (x.comes).done);

@@ -21,6 +21,7 @@ use Rattle.store_model.specs.Weave.{Woven, weave}
 use Rattle.store_history.specs.declared.act.Event.{Event}
 use Rattle.store_history.specs.History.{Opening, World, opened, after, after_all, moved, entries, sent, kind, kind_of, EntryKind, step_kind, pass_kind, short_kind, start_kind, close_kind, fault_kind, end_kind, remote_kind, no_kind}
 use Rattle.store_history.specs.LaneRun.{plain_text}
+use Rattle.store_history.specs.LastTouches.{LastTouches}
 use Rattle.store_history.proofs.Whole.{served_woven}
 use Rattle.store_history.specs.Legal.{IsTimed, moment_after, readings_left}
 use Rattle.store_history.specs.Remote.{IsRemote}
@@ -47,7 +48,7 @@ use Rattle.lane.specs.Entries.{has_kind}
 use Rattle.lane.specs.Served.{EachRan, RanAs, Run}
 use Rattle.pbs_server.specs.Causes.{NoDiskFault}
 use Rattle.pbs_server.specs.Ended.{rows_of}
-use Rattle.pbs_server.specs.AtRest.{HoldsStore}
+use Rattle.pbs_server.specs.AtRest.{ActsLeave, HoldsStore, SaveLeaves}
 use Rattle.pbs_server.specs.Headline.{HasTold, IsBeside, IsPlain, StopsLeave, inputs_of, told_by}
 use Rattle.pbs_server.specs.Saving.{EndsSaved, saving_of}
 use Rattle.pbs_server.specs.Statuses.{endings_of}
@@ -162,8 +163,10 @@ same_store o R since now is_honest runs events order not_saved reports before at
 
 -- what the sessions did on any disk, and on an honest one, which was opened at a moment; and the snapshots that the core then keeps
 pub record HasBoth {D E S K : Type 0} (d : Ghosts D) (e : Ghosts E) (source : sources.Ghosts S) (sink : sinks.Ghosts K) (clock : Option Readings) (remote remote' : Option E) (start : ℕ) (disk opened at_rest last : D)
-    (old new : List (Port S K)) (order : List Entry) (calls : List ℕ) (not_saved : Option DiskError) (reports : List LaneReport) (listed : List Listed) : Type 0 where
+    (old new : List (Port S K)) (order : List Entry) (calls : List ℕ) (not_saved : Option DiskError) (reports : List LaneReport) (listed : List Listed) (touches : LastTouches) : Type 0 where
   pub told : HasTold clock source sink old new order calls reports
+  pub rests : ActsLeave d opened told.events order calls at_rest touches
+  pub saves : SaveLeaves d order not_saved (moment_after told.since told.events) touches at_rest last
   pub since_is : d.honest disk → told.since ≡ (saved_book (d.content opened)).moment
   pub plain : (L : List Snapshot) (R : Option (List Snapshot)) → IsBeside e remote R told.events → d.honest disk → Stands (d.content disk) L → NoClash (chunk_pieces (d.content disk) ++ sent told.events)
       → IsPlain (opening_of d disk opened L) R told.since (d.calls last) (d.honest last) told.runs told.events order not_saved reports (d.content disk) (d.content at_rest) (d.content last)
@@ -175,7 +178,8 @@ pub record HasBoth {D E S K : Type 0} (d : Ghosts D) (e : Ghosts E) (source : so
       → rows_of listed ≡ map list_row (p.store).snapshots
 
 pub has_both : {D E C S K : Type 0} (d : Ghosts D) (e : Ghosts E) (source : sources.Ghosts S) (sink : sinks.Ghosts K) (readings : C → Option Readings) (clock : C) (disk : D) (remote : Option E) (first core saved : Core D E C)
-    (old new : List (Port S K)) (order : List Entry) (calls : List ℕ) (not_saved : Option DiskError) (reports : List LaneReport) (runs : List Run) (events : List Event) (last : D)
+    (old new : List (Port S K)) (order : List Entry) (calls : List ℕ) (not_saved : Option DiskError) (reports : List LaneReport) (runs : List Run) (events : List Event) (last : D) (touches : LastTouches)
+    → ActsLeave d (first.parts).disk events order calls (core.parts).disk touches → SaveLeaves d order not_saved (moment_after first.last events) touches (core.parts).disk last
     → TellsMoments d → first.remote ≡ remote → StandsOpened d readings disk clock first → TouchesOpened d readings disk clock first → (recovers : RecoversOpened d readings disk clock first)
     → first.last ≡ (first.upkeep).book.moment → (d.honest disk → HasBook d first)
     → (d.honest disk → Cleans (d.content disk) (d.content (first.parts).disk))
@@ -183,8 +187,8 @@ pub has_both : {D E C S K : Type 0} (d : Ghosts D) (e : Ghosts E) (source : sour
     → AreLanes (length old) events → EachRan (RanAs source sink) 0 old new reports runs events
     → EndsSaved d core saved not_saved
     → order ≡ (saved.journal).entries.items → calls ≡ (saved.journal).calls.items → last ≡ (saved.parts).disk
-    → HasBoth d e source sink (readings clock) remote core.remote (recovers.opens).start disk (first.parts).disk (core.parts).disk last old new order calls not_saved reports (saved.parts).catalogue.listed
-has_both d e source sink readings clock disk remote first core saved old new order calls not_saved reports runs events last moments handed opens touches recovers last_is booked cleaned reaches lanes each ends order_as calls_as disk_as = record {
+    → HasBoth d e source sink (readings clock) remote core.remote (recovers.opens).start disk (first.parts).disk (core.parts).disk last old new order calls not_saved reports (saved.parts).catalogue.listed touches
+has_both d e source sink readings clock disk remote first core saved old new order calls not_saved reports runs events last touches rests saves moments handed opens booking recovers last_is booked cleaned reaches lanes each ends order_as calls_as disk_as = record {
   told = record {
     runs = runs;
     events = events;
@@ -197,6 +201,8 @@ has_both d e source sink readings clock disk remote first core saved old new ord
     order_is = order_is;
     calls_are = calls_as ∙ ap (λ x. (x.journal).calls.items) ends.rest ∙ r.calls;
   };
+  rests = rests;
+  saves = saves;
   since_is = λ honest. last_is ∙ ((booked honest).keeps).read;
   plain = λ L R beside honest stands clear.
       let there = ap is_some handed ∙ beside_there e remote R events beside in
@@ -248,7 +254,7 @@ has_both d e source sink readings clock disk remote first core saved old new ord
         → Starts d readings first (opened_with L R (began (opening_at d disk first []) None (readings clock)))
     begins L R at there honest stands = record {
       stands = subst (λ o. StandsFor d readings first (began o R (readings clock))) (is_opening L at) (opens L R there honest stands);
-      touches = subst (λ o. KeepsTouches d first (began o R (readings clock))) (is_opening L at) (touches L R honest stands);
+      touches = subst (λ o. KeepsTouches d first (began o R (readings clock))) (is_opening L at) (booking L R honest stands);
     }
 
     r : Records readings core (with_events (began (opening []) None (readings clock)) events)
@@ -321,9 +327,9 @@ has_both d e source sink readings clock disk remote first core saved old new ord
         holds : (c : Core D E C) → StandsFor d readings c (history L R) → KeepsTouches d c (history L R) → (world (history L R)).fault ≡ None → c.fault ≡ None
             → ((q : List ℕ) → IsForeign q → get (d.content (c.parts).disk) q ≡ get (d.content disk) q)
             → HoldsStore (world (history L R)).store (chunk_pieces (d.content disk) ++ sent events) (swept R (opening L) events).touches (d.content disk) (d.content (c.parts).disk)
-        holds c stands touches none unfailed same = record {
+        holds c stands minds none unfailed same = record {
           stands = (stands.files none).snapshots;
           chunks = stands.chunks none;
-          left = touches.present unfailed;
+          left = minds.present unfailed;
           foreign = same;
         }

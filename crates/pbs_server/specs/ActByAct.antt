@@ -71,7 +71,7 @@ pub record ActLeaves {D : Type 0} (d : Ghosts D) (failed : Bool) (old : D) (befo
 
 -- from a disk that had failed or not, with these last touches
 abbrev pub AllLeave : {D : Type 0} → Ghosts D → Bool → D → LastTouches → List Event → D → LastTouches → Type 0
-AllLeave d failed old before [] new now = (new ≡ old) × (now ≡ before)
+AllLeave {D} d failed old before [] new now = (new ≡ old) × (now ≡ before)
 AllLeave {D} d failed old before (v ∷ vs) new now =
     (next : D) × (mid : LastTouches) × ActLeaves d failed old before v next mid × AllLeave d ((kind v == FAULT_KIND) || failed) next mid vs new now
 

@@ -24,14 +24,13 @@ use Rattle.lane.specs.Entries.{has_kind}
 use Rattle.pbs_server.specs.ActByAct.{AllLeave, OpensWith}
 use Rattle.pbs_server.specs.Saving.{saving_of}
 
--- The disk once the last act was answered, of one that was opened: on any disk, but for what is said of an honest one.
-pub record ActsLeave {D : Type 0} (d : Ghosts D) (opened : D) (events : List Event) (order : List Entry) (calls : List ℕ) (at_rest : D) : Type 0 where
-  -- the last touches of its chunks as it was opened, and now
+-- The disk once the last act was answered, of one that was opened, and the last touches of its chunks then: on any disk, but for what is said of an honest one.
+pub record ActsLeave {D : Type 0} (d : Ghosts D) (opened : D) (events : List Event) (order : List Entry) (calls : List ℕ) (at_rest : D) (touches : LastTouches) : Type 0 where
+  -- the last touches of its chunks as it was opened
   pub before : LastTouches
-  pub now : LastTouches
   pub book : d.honest opened → OpensWith (d.content opened) before
   -- act by act, from one disk to the next
-  pub each : AllLeave d false opened before events at_rest now
+  pub each : AllLeave d false opened before events at_rest touches
   -- its count of calls is the number beside the last entry; without an entry it was not called since
   pub calls_are : last_or (Some (d.calls opened)) calls ≡ Some (d.calls at_rest)
   -- it is honest where it was, and its count of faults rose where an act met a fault

@@ -19,6 +19,7 @@ use Rattle.store_model.specs.Weave.{weave}
 use Rattle.store_history.specs.declared.act.Event.{Event}
 use Rattle.store_history.specs.History.{Opening, opened, after_all, entries, sent}
 use Rattle.store_history.specs.LaneRun.{plain_text}
+use Rattle.store_history.specs.LastTouches.{LastTouches}
 use Rattle.store_history.specs.Legal.{IsLegal, IsTimed, moment_after}
 use Rattle.store_history.specs.Remote.{IsRemote}
 use Rattle.store_history.specs.Saved.{HoldsBook, saved_book}
@@ -123,10 +124,11 @@ pub record HasServed {D E S K : Type 0} (d : Ghosts D) (e : Ghosts E) (source : 
   -- the disk once it was opened, before the first command
   pub opened : D
   pub was_opened : WasOpened d disk opened
-  -- once the last act was answered, before the book was saved; and what was saved then
+  -- once the last act was answered, before the book was saved, with the last touches of its chunks then; and what was saved
   pub at_rest : D
-  pub rests : ActsLeave d opened told.events (result.order).items ((result.report).calls).items at_rest
-  pub saves : SaveLeaves d (result.order).items (result.report).not_saved (moment_after told.since told.events) rests.now at_rest result.disk
+  pub touches : LastTouches
+  pub rests : ActsLeave d opened told.events (result.order).items ((result.report).calls).items at_rest touches
+  pub saves : SaveLeaves d (result.order).items (result.report).not_saved (moment_after told.since told.events) touches at_rest result.disk
   -- the last moment before the first command, whatever an honest disk holds: that of the saved book
   pub since_is : d.honest disk → told.since ≡ (saved_book (d.content opened)).moment
   -- on an honest disk that stands for any list of snapshots, beside an honest remote that stands for any list, where there is one, or that no act

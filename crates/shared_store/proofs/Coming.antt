@@ -55,15 +55,15 @@ same_core core = record {
 }
 
 same_then : {D E C : Type 0} (a b c : Core D E C) → SameCore a b → SameCore b c → SameCore a c
-same_then a b c first then = record {
-  parts = then.parts ∙ first.parts;
-  remote = then.remote ∙ first.remote;
-  clock = then.clock ∙ first.clock;
-  entries = record { entries = (then.entries).entries ∙ (first.entries).entries; calls = (then.entries).calls ∙ (first.entries).calls };
-  upkeep = then.upkeep ∙ first.upkeep;
-  collector = then.collector ∙ first.collector;
-  last = then.last ∙ first.last;
-  fault = then.fault ∙ first.fault;
+same_then a b c first later = record {
+  parts = later.parts ∙ first.parts;
+  remote = later.remote ∙ first.remote;
+  clock = later.clock ∙ first.clock;
+  entries = record { entries = (later.entries).entries ∙ (first.entries).entries; calls = (later.entries).calls ∙ (first.entries).calls };
+  upkeep = later.upkeep ∙ first.upkeep;
+  collector = later.collector ∙ first.collector;
+  last = later.last ∙ first.last;
+  fault = later.fault ∙ first.fault;
 }
 
 module _ {D E C : Type 0} (d : Ghosts D) (e : Ghosts E) (clock : clocks.Ghosts C) where

@@ -51,7 +51,7 @@ pub record WasDone {D E C : Type 0} (d : Ghosts D) (e : Ghosts E) (clock : clock
 
 -- The acts of these events were done, one after another, and nothing else.
 abbrev pub WereDone : {D E C : Type 0} → Ghosts D → Ghosts E → clocks.Ghosts C → Core D E C → List Event → Core D E C → Type 0
-WereDone d e clock old [] new = SameCore old new
+WereDone {D} {E} {C} d e clock old [] new = SameCore old new
 WereDone {D} {E} {C} d e clock old (v ∷ vs) new = (next : Core D E C) × WasDone d e clock old v next × WereDone d e clock next vs new
 
 -- From a first core, which recorded a history without events, the core came to these events. Whatever history without events the first core

@@ -1,5 +1,6 @@
 use Rattle.std.proofs.Common.{◌≡◌, ◌≤◌, ◌++◌, [], None, false, length, refl, ap, sym, subst, ◌∙◌, arith}
 use Rattle.core_state.specs.History.{began}
+use Rattle.core_state.specs.Upkeeps.{touches_kept}
 use Rattle.store_history.specs.RemoteDisk.{RemoteStays, faults_of}
 use Rattle.lane.specs.Entries.{has_kind}
 use Rattle.lane.specs.Served.{RanAs}
@@ -68,10 +69,13 @@ returns-in-Ok-serve_all-clause-ended g c =
     let given : lanes.items ≡ reports = c.push_all.ensures ∙ ap (λ xs. xs ++ c.as_slice.result.now) c.in-Ok.ensures.items ∙ c.as_slice.ensures.value in
     let status : left.status ≡ first_of (run_facts (left.order).items (endings_of reports) not_saved false) =
     ap (λ xs. first_of (run_facts (left.order).items (endings_of xs) not_saved false)) given in
+    let rested = rests d e g.C.Clock s k first core old new reports on h begun refl (left.order).items ((left.report).calls).items entries_are calls_are (opened.begun).fault
+    (λ x. opened.book ((opened.serves).kept.1 x)) in
+    let saving = saves d e g.C.Clock s k first core old new reports on h begun refl saved (left.order).items not_saved entries_are ends in
     let both = has_both d e s k readings c.args.clock disk c.args.remote first core saved old new (left.order).items ((left.report).calls).items not_saved reports on.runs on.events left.disk
+    (touches_kept core.upkeep) rested saving
     (g.met.D.Disk g.world.𝓛 g.world.𝓜 g.world.𝓡 ((λ s x. x), (λ x. x), (λ x. x), λ x. x)).told (opened.handed).0 opened.opened opened.touches opened.recovers (opened.begun).last opened.book opened.cleaned
     now on.lanes on.each ends refl refl refl in
-    let saving = saves d e g.C.Clock s k first core old new reports on h begun refl saved (left.order).items not_saved entries_are ends in
     let order = order_is d e g.C.Clock s k first core old new reports on h begun refl (saved.parts).disk (left.order).items ((left.report).calls).items disk left.disk c.args.remote left.remote (opened.handed).0
     (ap (λ x. x.remote) ends.rest)
     entries_are calls_are (opened.serves).count (ends.serves).count refl in
@@ -87,9 +91,9 @@ returns-in-Ok-serve_all-clause-ended g c =
       opened = (first.parts).disk;
       was_opened = record { serves = opened.serves; opens = (opened.recovers).opens; cleaned = opened.cleaned };
       at_rest = (core.parts).disk;
-      rests = rests d e g.C.Clock s k first core old new reports on h begun refl (left.order).items ((left.report).calls).items entries_are calls_are (opened.begun).fault
-          (λ x. opened.book ((opened.serves).kept.1 x));
-      saves = saving;
+      touches = touches_kept core.upkeep;
+      rests = both.rests;
+      saves = both.saves;
       since_is = both.since_is;
       plain = both.plain;
       stops = both.stops;
