@@ -18,7 +18,7 @@ use Rattle.core_state.specs.Kept.{kept_at}
 use Rattle.core_state.specs.Passes.{MayChange}
 use Rattle.core_state.specs.Upkeeps.{touches_kept}
 use Rattle.shared_store.specs.Applied.{HasApplied}
-use Rattle.shared_store.specs.Comes.{SameCore, WasDone, WereDone}
+use Rattle.shared_store.specs.Comes.{WasDone, WereDone}
 use Rattle.pbs_server.specs.ActByAct.{ActLeaves, AllLeave, IsChange}
 use Rattle.pbs_server.proofs.BookSaved.{first_some, halted_by, none_is}
 

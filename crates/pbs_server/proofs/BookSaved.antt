@@ -34,6 +34,9 @@ failed_none e = cc
 failed_want : Some NoMemory ≡ Some Failed → ⊥
 failed_want e = cc
 
+none_told : (e : DiskError) → IsErrOf (saving_of None) e → ⊥
+none_told e is = cc
+
 -- the disk failed in it
 pub saving_failed : (o : Option DiskError) → IsErrOf (saving_of o) Failed → o ≡ Some Failed
 saving_failed None is = cc
@@ -119,7 +122,7 @@ not_tried d core failed = record {
   serves = record { kept = (λ h. h, λ h. h); count = omega arith; cause = λ is. absurd (failed_none is) };
   later = omega arith;
   crash = inl refl;
-  wanting = λ is. cc;
+  wanting = λ is. absurd (none_told NoMemory is);
   saved = λ none. absurd (some_none core.fault failed none);
   foreign = λ honest calm q own. refl;
   history = record {
