@@ -22,15 +22,11 @@ use Rattle.shared_store.specs.Comes.{WasDone, WereDone}
 use Rattle.pbs_server.specs.ActByAct.{ActLeaves, AllLeave, IsChange}
 use Rattle.pbs_server.proofs.BookSaved.{first_some, halted_by, none_is}
 
+true_false : true ≡ false → ⊥
+true_false e = cc
+
 clash : {P : Type 0} (b : Bool) → b ≡ true → b ≡ false → P
-clash true yes no = absurd (true_false no)
-  where
-    true_false : true ≡ false → ⊥
-    true_false x = cc
-clash false yes no = absurd (false_true yes)
-  where
-    false_true : false ≡ true → ⊥
-    false_true x = cc
+clash b is differs = absurd (true_false (sym is ∙ differs))
 
 -- after an entry of a fault the disk has failed
 failed_on : (place k : ℕ) (o : Option ℕ) → ((k == FAULT_KIND) || is_some o) ≡ is_some (fault_after place k o)
@@ -65,7 +61,7 @@ module _ {D E C : Type 0} (d : Ghosts D) (e : Ghosts E) (clock : clocks.Ghosts C
       uncalled = uncalled;
       reads = (x.keeps).reads;
       change = by_reply (change_at old.parts lane v.act) (reply v);
-      change_is = inl (plain, kept_at old.parts lane, refl);
+      change_is = inl (plain, (kept_at old.parts lane, refl));
       content = λ calm unfailed honest. (x.keeps).content plain (none calm) unfailed honest;
       crash = (x.keeps).crash plain;
       touches = record {

@@ -188,7 +188,7 @@ pub has_both : {D E C S K : Type 0} (d : Ghosts D) (e : Ghosts E) (source : sour
     → EndsSaved d core saved not_saved
     → order ≡ (saved.journal).entries.items → calls ≡ (saved.journal).calls.items → last ≡ (saved.parts).disk
     → HasBoth d e source sink (readings clock) remote core.remote (recovers.opens).start disk (first.parts).disk (core.parts).disk last old new order calls not_saved reports (saved.parts).catalogue.listed touches
-has_both d e source sink readings clock disk remote first core saved old new order calls not_saved reports runs events last touches rests saves moments handed opens booking recovers last_is booked cleaned reaches lanes each ends order_as calls_as disk_as = record {
+has_both {D = D} {E = E} {C = C} d e source sink readings clock disk remote first core saved old new order calls not_saved reports runs events last touches rests saves moments handed opens booking recovers last_is booked cleaned reaches lanes each ends order_as calls_as disk_as = record {
   told = record {
     runs = runs;
     events = events;
