@@ -115,13 +115,6 @@ pub fn play_alone(
     }
 }
 
-// A folder as it is read. Each read of its names is a call of the host.
-#[derive(Drop)]
-pub struct WatchedDir<'a> {
-    dir: <HostRuntime as Files>::Dir,
-    record: &'a Record,
-}
-
 #[derive(Drop)]
 pub struct WatchedFile<'a> {
     file: File,
@@ -161,7 +154,7 @@ impl Alloc for Watched<'_> {
 impl<'a> Files for Watched<'a> {
     type File = WatchedFile<'a>;
 
-    type Dir = WatchedDir<'a>;
+    type Dir = <HostRuntime as Files>::Dir;
 
     fn open_file(&self, how: &OpenOptions, path: &str) -> io::Result<WatchedFile<'a>> {
         self.record.count()?;
@@ -172,15 +165,12 @@ impl<'a> Files for Watched<'a> {
         })
     }
 
-    fn open_dir(&self, path: &str) -> io::Result<WatchedDir<'a>> {
+    fn open_dir(&self, path: &str) -> io::Result<Self::Dir> {
         self.record.count()?;
         self.record
             .reads
             .set(self.record.reads.get().saturating_add(1));
-        Ok(WatchedDir {
-            dir: self.rt.open_dir(path)?,
-            record: self.record,
-        })
+        self.rt.open_dir(path)
     }
 
     fn metadata(&self, path: &str) -> io::Result<Metadata> {
@@ -262,13 +252,6 @@ impl Read for WatchedFile<'_> {
         self.record.count()?;
         let most = self.record.moved(buf.len());
         self.file.read(&mut buf[..most])
-    }
-}
-
-impl Read for WatchedDir<'_> {
-    fn read(&mut self, buf: &mut [u8]) -> io::Result<usize> {
-        self.record.count()?;
-        self.dir.read(buf)
     }
 }
 
