@@ -120,7 +120,8 @@ class Copies(Served):
     def test_a_copy(self):
         self.done("backup", "host/web", self.tree("web"), at=self.other.root)
         self.assertIn("copied", self.done("copy", "host/web"))
-        self.assertEqual(self.objects("snapshots"), self.objects("snapshots", at=self.other.root))
+        # (the server's program has the other store too, until nobody came for its time)
+        self.assertEqual(self.objects("snapshots"), self.objects("--wait", "60", "snapshots", at=self.other.root))
         self.done("verify")
 
 
