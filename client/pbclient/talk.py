@@ -248,12 +248,19 @@ class Run:
             raise self.ended()
 
     def close(self):
-        if self.process:
-            try:
-                self.process.wait(END_SECONDS if all(it.pipe and it.pipe.closed for it in self.talks) else 0)
-            except subprocess.TimeoutExpired:
-                self.process.terminate()
+        if self.process and not self.ends_in(END_SECONDS if all(it.pipe and it.pipe.closed for it in self.talks) else 0):
+            self.process.terminate()
+            # (so that the next run finds the store free)
+            self.ends_in(END_SECONDS)
         shutil.rmtree(self.work, ignore_errors=True)
+
+    def ends_in(self, seconds):
+        """Whether the program ends in so many seconds."""
+        try:
+            self.process.wait(seconds)
+            return True
+        except subprocess.TimeoutExpired:
+            return False
 
 
 @contextlib.contextmanager

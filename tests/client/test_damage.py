@@ -152,7 +152,8 @@ class Killed(stores.WithStore):
 
     def started(self):
         """A backup of standard input under way, some of which is stored, and its program's process."""
-        words = [stores.CLIENT, "-r", self.root, "backup", "host/me", "--stdin", "data"]
+        # (the program of a client that was interrupted may still end)
+        words = [stores.CLIENT, "-r", self.root, "--wait", "60", "backup", "host/me", "--stdin", "data"]
         more = {"env": {**os.environ, "TMPDIR": self.places}, "stdin": subprocess.PIPE, "stdout": subprocess.PIPE, "stderr": subprocess.PIPE}
         more["preexec_fn"] = stores.heeds_interrupts
         client, before = subprocess.Popen(words, **more), self.count()
@@ -172,7 +173,7 @@ class Killed(stores.WithStore):
 
     def after(self):
         """The next call of each kind is done."""
-        self.assertEqual(len(self.objects("--wait", "20", "snapshots")), 4)
+        self.assertEqual(len(self.objects("--wait", "120", "snapshots")), 4)
         write(os.path.join(self.work, "source", "data"), bytes(MIB))
         self.done("backup", "host/me", os.path.join(self.work, "source"))
         self.assertIn("nothing is damaged", self.done("verify"))

@@ -1,7 +1,7 @@
 """The server beside the real program: what is finished, held, stopped and owed."""
-import os, resource, signal, struct, time, unittest
+import os, resource, signal, struct, threading, time, unittest
 
-from harness import Server, at_once, noise, program, s, snapshot, wait_until
+from harness import Server, at_once, await_ended, noise, program, s, snapshot, wait_until
 from inputs import writer
 
 LIST = s.list_after()
@@ -23,9 +23,6 @@ class Served(unittest.TestCase):
         for body in BEGUN:
             self.assertEqual(client.ask(body)[0], 0)
 
-    def await_gone(self, programs):
-        wait_until(lambda: not any(os.path.exists(f"/proc/{it}") for it in programs))
-
     def saved(self, server):
         """How many chunks the book of touches has."""
         with open(os.path.join(server.root, ".chunks", "book"), "rb") as book:
@@ -46,7 +43,7 @@ class Ends(Served):
             self.begin(it)
             programs = server.programs()
             server.stop(signal.SIGKILL)
-        self.await_gone(programs)
+        await_ended(programs)
         self.assertEqual(self.saved(server), 1)
         server.start()
         self.assertEqual(self.ask(server, LIST), s.rows())
@@ -58,7 +55,7 @@ class Ends(Served):
             programs = server.programs()
             it.send(*[LIST] * 20_000, s.gc())
             server.stop(signal.SIGKILL)
-        self.await_gone(programs)
+        await_ended(programs)
         # (it ended by itself, and not by SIGPIPE)
         self.assertEqual(self.saved(server), 1)
         server.start()
@@ -87,8 +84,10 @@ class Ends(Served):
 
     def test_a_run_is_renewed_at_its_age(self):
         server = self.serve("--linger", "1000", patch="limits.RUN_COMMANDS = 100")
-        self.ask(server, *[LIST] * 101)
-        before = server.programs()
+        with server.client() as it:
+            for _ in range(101):
+                self.assertEqual(it.ask(LIST), s.rows())
+            before = server.programs()
         wait_until(lambda: server.programs() != before)
         self.assertEqual(self.ask(server, LIST), s.rows())
         self.assertNotEqual(server.programs(), before)
@@ -128,17 +127,20 @@ class Together(Served):
 
     def test_a_sync_from_a_store_that_has_a_server_too(self):
         """Each keeps the other out while it has that store, and comes again."""
-        other = self.serve("--linger", "0.5")
-        self.ask(other, *writer(snapshot("host/a", 1), b"abc", b"de"))
-        server, told, row = self.serve("--remote", other.root, "--linger", "2"), [], (snapshot("host/a", 1), 2)
+        other, row = self.serve("--linger", "0.5"), (snapshot("host/a", 1), 2)
+        self.ask(other, *writer(row[0], b"abc", b"de"))
+        server, told, came = self.serve("--remote", other.root, "--linger", "0.5"), [], []
         wait_until(lambda: not other.programs())
         with server.client() as it:
             self.assertEqual(it.ask(s.sync("host/a")), s.keys(row[0]))
             self.assertEqual(it.ask(s.verify(row[0])), s.verified(2, 2, 5))
-        with other.client(told.append) as it:
+            coming = threading.Thread(target=lambda: came.append(other.client(told.append)))
+            coming.start()
+            wait_until(lambda: "another program has the store" in told)
+        coming.join()
+        with came[0] as it:
             self.assertEqual(it.ask(LIST), s.rows(row))
             self.assertEqual(self.ask(server, s.sync("host/a")), s.refused(30))
-        self.assertIn("another program has the store", told)
 
 
 class Memory(Served):
