@@ -120,7 +120,7 @@ class Copies(Served):
     def test_a_copy(self):
         self.done("backup", "host/web", self.tree("web"), at=self.other.root)
         self.assertIn("copied", self.done("copy", "host/web"))
-        # (the server's program has the other store too, until nobody came for its time)
+        # (after a copy the other store is in use until the server's program ends)
         self.assertEqual(self.objects("snapshots"), self.objects("--wait", "60", "snapshots", at=self.other.root))
         self.done("verify")
 
@@ -143,11 +143,11 @@ class Folders(Served):
 
     def test_a_server_that_comes_later(self):
         self.server.stop()
-        words = [sys.executable, "-B", PBCLIENT, "-q", "-r", self.address, "--wait", "60", "backup", "host/web", self.tree("web")]
+        words = [sys.executable, "-B", PBCLIENT, "-q", "-r", self.address, "--wait", "120", "backup", "host/web", self.tree("web")]
         with subprocess.Popen(words) as client:
             time.sleep(1)
             self.server.start()
-            self.assertEqual(client.wait(60), 0)
+            self.assertEqual(client.wait(120), 0)
 
     def test_a_server_that_ends_within_a_backup(self):
         self.server.stop()
