@@ -150,6 +150,16 @@ class Killed(stores.WithStore):
         self.places = os.path.join(self.work, "tmp")
         os.mkdir(self.places)
 
+    def program_of(self, client):
+        """The process of a client's program, once it is started."""
+        for _ in range(300_000):
+            with open(f"/proc/{client.pid}/task/{client.pid}/children") as it:
+                found = it.read().split()
+            if found:
+                return int(found[0])
+            time.sleep(0.001)
+        self.fail("it does not begin")
+
     def started(self):
         """A backup of standard input under way, some of which is stored, and its program's process."""
         # (the program of a client that was interrupted may still end)
@@ -162,8 +172,7 @@ class Killed(stores.WithStore):
         client.stdin.flush()
         for _ in range(3000):
             if self.count() > before:
-                found = subprocess.run(["pgrep", "-P", str(client.pid)], stdout=subprocess.PIPE, check=True).stdout.split()
-                return client, int(found[-1])
+                return client, self.program_of(client)
             time.sleep(0.1)
         self.fail("it does not begin")
 
@@ -195,6 +204,15 @@ class Killed(stores.WithStore):
         client.kill()
         client.communicate()
         self.assertEqual(os.listdir(self.places), [])
+        self.after()
+
+    def test_the_client_while_the_program_opens_the_store(self):
+        for seconds in (0, 0, 0.01, 0.02):
+            client = subprocess.Popen([stores.CLIENT, "-r", self.root, "--wait", "120", "snapshots"], stdout=subprocess.DEVNULL, stderr=subprocess.DEVNULL)
+            self.program_of(client)
+            time.sleep(seconds)
+            client.kill()
+            client.wait()
         self.after()
 
     def test_an_interrupt(self):

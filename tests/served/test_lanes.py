@@ -110,7 +110,7 @@ class UsedUp(Served):
         slow = "import time; from pbclient.served import sessions; "
         for patch in (
             "rest = sessions.Session.rest; sessions.Session.rest = lambda it: (time.sleep(0.5), rest(it))",
-            "reply = lanes.Lane.reply; lanes.Lane.reply = lambda *words: (time.sleep(0.5), reply(*words))",
+            "reply = lanes.Lane.reply; lanes.Lane.reply = lambda *words, **more: (time.sleep(0.5), reply(*words, **more))",
         ):
             server = self.serve("--lanes", "1", patch=slow + patch)
             with self.subTest(patch), server.client() as it:

@@ -7,6 +7,19 @@ from inputs import writer
 LIST = s.list_after()
 # A backup's commands up to its FINISH.
 BEGUN = writer(snapshot("host/a", 1), b"abc")[:-1]
+# What has a server killed so long after it started its program, whose process it tells first.
+KILLED = """
+import os, time
+from pbclient.served import runs
+
+def killed(run):
+    with open({told!r}, "w") as out:
+        out.write(str(run.program.pid))
+    time.sleep({seconds})
+    os.kill(os.getpid(), 9)
+
+runs.Run.open = killed
+"""
 
 
 class Served(unittest.TestCase):
@@ -61,16 +74,21 @@ class Ends(Served):
         server.start()
         self.assertEqual(self.ask(server, LIST), s.rows())
 
-    def test_it_is_killed_while_it_opens_the_lanes(self):
-        for number in (0, 1, 32, 63):
-            kill = f"import os; one = lanes.Lane.open; lanes.Lane.open = lambda it: os.kill(os.getpid(), 9) if it.number == {number} else one(it)"
-            server = self.serve(patch=kill)
-            with self.assertRaises(Exception):
+    def test_it_is_killed_while_the_program_opens_the_store(self):
+        """The program ends, however far it came, and does not keep the next one out."""
+        for seconds in (0, 0.02, 0.1, 1):
+            server = self.serve(is_started=False)
+            told = os.path.join(server.work, "program")
+            server.patch = KILLED.format(told=told, seconds=seconds)
+            server.start()
+            with self.subTest(seconds), self.assertRaises(Exception):
                 server.client()
             self.assertEqual(server.process.wait(), -9)
             server.patch = ""
             server.start()
             self.assertEqual(self.ask(server, LIST), s.rows())
+            with open(told) as it:
+                await_ended([int(it.read())])
 
     def test_a_stop_saves_the_book(self):
         server = self.serve("--linger", "1000", "--grace", "1")
