@@ -231,9 +231,11 @@ class Run:
             raise self.ended()
 
     def close(self):
+        seconds = END_SECONDS if all(it.pipe.closed for it in self.talks) else 0
         for it in self.talks:
             it.pipes.hand_over()
-        if self.process and not self.ends_in(END_SECONDS if all(it.pipe.closed for it in self.talks) else 0):
+            it.close()
+        if self.process and not self.ends_in(seconds):
             self.process.terminate()
             # (so that the next run finds the store free)
             self.ends_in(END_SECONDS)

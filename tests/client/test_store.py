@@ -296,6 +296,12 @@ class Ends(stores.WithStore):
         self.make()
         self.fails(1, "/proc is not mounted", "snapshots", become=lambda: setattr(pipes, "DESCRIPTORS", "/nowhere"))
 
+    def test_no_standard_input(self):
+        self.make()
+        for words in (["snapshots"], ["forget", "host/a/latest"], ["prune", "--all", "--keep-last", "1"]):
+            found = subprocess.run([stores.CLIENT, "-r", self.root, *words], preexec_fn=lambda: os.close(0), stdout=subprocess.PIPE, stderr=subprocess.PIPE)
+            self.assertEqual(found.returncode, 0, found)
+
     def test_a_log(self):
         self.make()
         log = os.path.join(self.work, "log")
