@@ -36,6 +36,9 @@ def main(given):
     try:
         if sys.stdout is None or sys.stderr is None:
             return FAILED
+        if sys.stdin is None:
+            # (it is closed: the next file that is opened would have its number)
+            sys.stdin = open(os.devnull)
         command, options = words.read(given)
         if command is None:
             print(options)

@@ -1,10 +1,11 @@
 """Conversations with the store: the program on a folder, with sessions at once that are sent command by command.
 
-A session and its replies go through two named pipes, so that neither takes room on the disk. Their names go as soon as both ends are open.
+A session and its replies go through two pipes, so that neither takes room on the disk. Their names go as soon as the program has opened them.
 """
-import contextlib, errno, fcntl, os, shutil, struct, subprocess, tempfile, time
+import contextlib, os, shutil, struct, subprocess, tempfile
 
-from .session import REFUSALS, bye, frame
+from .pipes import Pipes
+from .session import REFUSALS, abort, bye, frame
 
 STATUSES = {
     1: "a frame of the session holds no command",
@@ -53,8 +54,8 @@ WORDS = {
 DISK_REFUSALS, DAMAGES = ("DiskFault", "Halted"), ("Damaged", "Unreadable")
 # So long a run is waited for whose sessions have all ended.
 END_SECONDS = 5
-# (`fcntl.F_SETPIPE_SZ` is in Python from 3.10 on)
-SET_PIPE_SIZE, PIPE_SIZE = 1031, 1 << 20
+# (so that neither end waits for the other as often where pieces are large)
+PIPE_SIZE = 1 << 20
 
 
 class Refused(Exception):
@@ -114,12 +115,6 @@ def program(named=None):
     raise NoProgram(f"{asked} is no program" if asked else "the program pbstore is not built, and not on the path")
 
 
-def widen(pipe):
-    """Gives a pipe room for a large piece, if the system has that (Linux), so that neither end waits for the other as often."""
-    with contextlib.suppress(OSError):
-        fcntl.fcntl(pipe.fileno(), SET_PIPE_SIZE, PIPE_SIZE)
-
-
 class Talk:
     """A session: `with it as store: store.ask(command)` gives the reply's fields, or raises Refused. `read`, `write` and `close` are its way
     to the store."""
@@ -155,37 +150,21 @@ class PipedTalk(Talk):
 
     def __init__(self, run, path):
         super().__init__(run)
-        self.path, self.pipe = path, None
-        os.mkfifo(path)
-        os.mkfifo(path + ".out")
-        # (each end of a pipe waits for the other: the store opens that of the replies first)
-        self.replies = open(os.open(path + ".out", os.O_RDONLY | os.O_NONBLOCK), "rb", buffering=0)
+        self.pipes = Pipes(path, PIPE_SIZE)
+        self.pipe = open(self.pipes.commands, "wb", buffering=0)
+        self.replies = open(self.pipes.replies, "rb", buffering=0)
 
     def __enter__(self):
-        self.pipe = open(self.opened(), "wb", buffering=0)
+        """Waits until the store is open, which answers then that nothing is to be aborted."""
+        with contextlib.suppress(Refused):
+            self.ask(abort())
         self.unlink()
-        os.set_blocking(self.replies.fileno(), True)
-        widen(self.pipe)
-        widen(self.replies)
         return self
-
-    def opened(self):
-        """The session's pipe, once the store reads it."""
-        while self.run.process.poll() is None:
-            try:
-                pipe = os.open(self.path, os.O_WRONLY | os.O_NONBLOCK)
-                os.set_blocking(pipe, True)
-                return pipe
-            except OSError as error:
-                if error.errno != errno.ENXIO:
-                    raise
-                time.sleep(0.001)
-        raise self.run.ended()
 
     def unlink(self):
         """Takes the pipes' names away, and their folder with the last of them, so that nothing is left if this process is killed."""
-        os.unlink(self.path)
-        os.unlink(self.path + ".out")
+        for name in self.pipes.names:
+            os.unlink(name)
         with contextlib.suppress(OSError):
             os.rmdir(self.run.work)
 
@@ -209,9 +188,8 @@ class PipedTalk(Talk):
             raise self.run.ended() from None
 
     def close(self):
-        for it in (self.pipe, self.replies):
-            if it:
-                it.close()
+        self.pipe.close()
+        self.replies.close()
 
 
 class Run:
@@ -225,9 +203,14 @@ class Run:
         try:
             for number in range(count):
                 self.talks.append(PipedTalk(self, os.path.join(self.work, f"session-{number}")))
-            words = [path, "run", root, *beside, *(it.path for it in self.talks)]
+            words = [path, "run", root, *beside, *(it.pipes.names[0] for it in self.talks)]
             # (what it says on standard error is its status in one word)
-            self.process = subprocess.Popen(words, stdin=subprocess.DEVNULL, stdout=subprocess.DEVNULL, stderr=subprocess.DEVNULL)
+            self.process = subprocess.Popen(
+                words, stdin=subprocess.DEVNULL, stdout=subprocess.DEVNULL, stderr=subprocess.DEVNULL,
+                pass_fds=[end for it in self.talks for end in it.pipes.given],
+            )
+            for it in self.talks:
+                it.pipes.hand_over()
         except BaseException:
             self.close()
             raise
@@ -248,12 +231,23 @@ class Run:
             raise self.ended()
 
     def close(self):
-        if self.process:
-            try:
-                self.process.wait(END_SECONDS if all(it.pipe and it.pipe.closed for it in self.talks) else 0)
-            except subprocess.TimeoutExpired:
-                self.process.terminate()
+        seconds = END_SECONDS if all(it.pipe.closed for it in self.talks) else 0
+        for it in self.talks:
+            it.pipes.hand_over()
+            it.close()
+        if self.process and not self.ends_in(seconds):
+            self.process.terminate()
+            # (so that the next run finds the store free)
+            self.ends_in(END_SECONDS)
         shutil.rmtree(self.work, ignore_errors=True)
+
+    def ends_in(self, seconds):
+        """Whether the program ends in so many seconds."""
+        try:
+            self.process.wait(seconds)
+            return True
+        except subprocess.TimeoutExpired:
+            return False
 
 
 @contextlib.contextmanager

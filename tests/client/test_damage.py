@@ -150,9 +150,20 @@ class Killed(stores.WithStore):
         self.places = os.path.join(self.work, "tmp")
         os.mkdir(self.places)
 
+    def program_of(self, client):
+        """The process of a client's program, once it is started."""
+        for _ in range(300_000):
+            with open(f"/proc/{client.pid}/task/{client.pid}/children") as it:
+                found = it.read().split()
+            if found:
+                return int(found[0])
+            time.sleep(0.001)
+        self.fail("it does not begin")
+
     def started(self):
         """A backup of standard input under way, some of which is stored, and its program's process."""
-        words = [stores.CLIENT, "-r", self.root, "backup", "host/me", "--stdin", "data"]
+        # (the program of a client that was interrupted may still end)
+        words = [stores.CLIENT, "-r", self.root, "--wait", "60", "backup", "host/me", "--stdin", "data"]
         more = {"env": {**os.environ, "TMPDIR": self.places}, "stdin": subprocess.PIPE, "stdout": subprocess.PIPE, "stderr": subprocess.PIPE}
         more["preexec_fn"] = stores.heeds_interrupts
         client, before = subprocess.Popen(words, **more), self.count()
@@ -161,8 +172,7 @@ class Killed(stores.WithStore):
         client.stdin.flush()
         for _ in range(3000):
             if self.count() > before:
-                found = subprocess.run(["pgrep", "-P", str(client.pid)], stdout=subprocess.PIPE, check=True).stdout.split()
-                return client, int(found[-1])
+                return client, self.program_of(client)
             time.sleep(0.1)
         self.fail("it does not begin")
 
@@ -172,7 +182,7 @@ class Killed(stores.WithStore):
 
     def after(self):
         """The next call of each kind is done."""
-        self.assertEqual(len(self.objects("--wait", "20", "snapshots")), 4)
+        self.assertEqual(len(self.objects("--wait", "120", "snapshots")), 4)
         write(os.path.join(self.work, "source", "data"), bytes(MIB))
         self.done("backup", "host/me", os.path.join(self.work, "source"))
         self.assertIn("nothing is damaged", self.done("verify"))
@@ -194,6 +204,15 @@ class Killed(stores.WithStore):
         client.kill()
         client.communicate()
         self.assertEqual(os.listdir(self.places), [])
+        self.after()
+
+    def test_the_client_while_the_program_opens_the_store(self):
+        for seconds in (0, 0, 0.01, 0.02):
+            client = subprocess.Popen([stores.CLIENT, "-r", self.root, "--wait", "120", "snapshots"], stdout=subprocess.DEVNULL, stderr=subprocess.DEVNULL)
+            self.program_of(client)
+            time.sleep(seconds)
+            client.kill()
+            client.wait()
         self.after()
 
     def test_an_interrupt(self):

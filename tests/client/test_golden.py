@@ -18,7 +18,7 @@ COMMANDS = [
 ]
 NIGHT = "[prune]\nall = yes\nkeep-last = 2\n\n[gc]\n\n[check]\nread-data = yes\n"
 SHOWN = [
-    (r"\d+ d \d+ h", "AGE"), (r'"age": \d+', '"age": AGE'), (r"[\d.]+ GiB free", "FREE free"), (r'"free": \d+', '"free": FREE'),
+    (r"\d+ d \d+ h", "AGE"), (r'"age": \d+', '"age": AGE'), (r"[\d.,]+ [KMGT]iB free", "FREE free"), (r'"free": \d+', '"free": FREE'),
     (r"20(2[6-9]|[3-9]\d)-\d\d-\d\dT\d\d:\d\d:\d\dZ", "LATER"), (r"in (\d+ min )?\d+ s", "in TIME"),
 ]
 

@@ -3,7 +3,7 @@ user's."""
 import fcntl, os, signal, stat, subprocess, time, unittest
 
 import stores
-from pbclient import store
+from pbclient import pipes, store
 
 DAY = "2026-01-02T00:00:00Z"
 NOBODY = 65534
@@ -291,6 +291,16 @@ class Ends(stores.WithStore):
     def test_no_program(self):
         self.make()
         self.fails(1, "is no program", "--program", "/nowhere/pbstore", "snapshots")
+
+    def test_no_proc(self):
+        self.make()
+        self.fails(1, "/proc is not mounted", "snapshots", become=lambda: setattr(pipes, "DESCRIPTORS", "/nowhere"))
+
+    def test_no_standard_input(self):
+        self.make()
+        for words in (["snapshots"], ["forget", "host/a/latest"], ["prune", "--all", "--keep-last", "1"]):
+            found = subprocess.run([stores.CLIENT, "-r", self.root, *words], preexec_fn=lambda: os.close(0), stdout=subprocess.PIPE, stderr=subprocess.PIPE)
+            self.assertEqual(found.returncode, 0, found)
 
     def test_a_log(self):
         self.make()

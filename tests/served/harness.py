@@ -9,6 +9,9 @@ from pbclient import talk
 from pbclient.served import dial
 
 STAND_IN = os.path.join(HERE, "stand_in.py")
+HELLO = b"pbstore 1 -\n"
+# What a server says once it has started.
+SERVED = " is served at "
 # The server under test looks ten times a second where it looks once.
 START = """
 import sys
@@ -40,6 +43,19 @@ def wait_until(holds, seconds=120):
         if time.monotonic() > end:
             raise AssertionError("it did not come")
         time.sleep(0.01)
+
+
+def is_running(process):
+    """Whether it has not ended. One that nobody waited for stays in the system's list."""
+    try:
+        with open(f"/proc/{process}/stat") as it:
+            return it.read().rpartition(")")[2].split()[0] != "Z"
+    except (FileNotFoundError, ProcessLookupError):
+        return False
+
+
+def await_ended(processes):
+    wait_until(lambda: not any(map(is_running, processes)))
 
 
 def at_once(count, act):
@@ -79,8 +95,10 @@ class Server:
         words = [sys.executable, "-B", "-c", start, "serve", self.root, "--name", "main", "--socket", self.socket, *self.options]
         self.close_log()
         self.log = open(os.path.join(self.work, "log"), "a")
+        before = self.said().count(SERVED)
         self.process = subprocess.Popen(words, stderr=self.log, env={**os.environ, **self.env})
-        wait_until(lambda: self.answers() or self.process.poll() is not None)
+        # (it says so once its folder leads to its socket and it heeds signals)
+        wait_until(lambda: self.said().count(SERVED) > before or self.process.poll() is not None)
 
     def connect(self):
         peer = socket.socket(socket.AF_UNIX)
@@ -104,6 +122,12 @@ class Server:
             peer.sendall(b"".join(lines))
             return [it for it in peer.makefile() if not it.startswith("wait")][0].strip()
 
+    def told(self, data):
+        """What a client is told after `ready` that sends all at once, and no more: so that a slow machine makes no pause."""
+        with self.connect() as peer:
+            peer.sendall(HELLO + data)
+            return peer.makefile("rb").read().partition(b"ready ")[2].partition(b"\n")[2]
+
     def status(self):
         with self.connect() as peer:
             peer.sendall(b"status 1 -\n")
@@ -112,6 +136,18 @@ class Server:
     def await_free(self):
         """Each lane is at rest again."""
         wait_until(lambda: self.status()[1:] == ["0 wait"])
+
+    def await_commands(self, count):
+        """A session has passed so many commands, and goes on."""
+        wait_until(lambda: any(f" {count} commands" in it for it in self.status()))
+
+    def hold(self):
+        """The stand-in's collections last from now on, until they are let go."""
+        with open(os.path.join(self.root, ".chunks", "hold"), "w"):
+            pass
+
+    def let_go(self):
+        os.unlink(os.path.join(self.root, ".chunks", "hold"))
 
     def said(self):
         with open(os.path.join(self.work, "log")) as log:

@@ -3,8 +3,8 @@
 
 OPEN_WRITER of a snapshot whose group is `host/disk`, `host/memory`, `host/kill` or `host/cut` makes the disk fail, lets want of memory end the
 lane (its pipes stay open, as the program's do), kills the program, or kills it within the reply. After one of `host/room` a frame above 128 KiB
-is answered NoMemory by its length, and ends the lane; after one of `host/short` the lane goes on. GC takes the seconds of STAND_IN_GC. As it
-ends it leaves a file ROOT/.chunks/ended.
+is answered NoMemory by its length, and ends the lane; after one of `host/short` the lane goes on. GC lasts as long as the file ROOT/.chunks/hold
+is there. As it ends it leaves a file ROOT/.chunks/ended.
 """
 import fcntl, os, signal, struct, sys, threading, time
 
@@ -25,8 +25,8 @@ def read(pipe, size):
 
 
 class Lane:
-    def __init__(self, path, out):
-        self.path, self.out, self.state, self.offset, self.room = path, out, NONE, 0, LIMIT
+    def __init__(self, root, path, out):
+        self.root, self.path, self.out, self.state, self.offset, self.room = root, path, out, NONE, 0, LIMIT
 
     def say(self, body):
         view = frame(body)
@@ -67,7 +67,8 @@ class Lane:
         if code == 30:
             return b"\0\0\0"
         if code == 36:
-            time.sleep(float(os.environ.get("STAND_IN_GC", "0")))
+            while os.path.exists(os.path.join(self.root, ".chunks", "hold")):
+                time.sleep(0.01)
             return b"\0" + bytes(40)
         moves = {10: (NONE, WRITER), 18: (WRITER, NONE), 19: (WRITER, NONE), 14: (WRITER, WRITER), 20: (NONE, READER), 24: (READER, NONE)}
         if code not in moves:
@@ -101,7 +102,7 @@ def main(words):
         fcntl.flock(folder, fcntl.LOCK_EX | fcntl.LOCK_NB)
     except OSError:
         return 3
-    lanes = [Lane(path, os.open(path + ".out", os.O_WRONLY)) for path in paths]
+    lanes = [Lane(root, path, os.open(path + ".out", os.O_WRONLY)) for path in paths]
     threads = [threading.Thread(target=it.serve) for it in lanes]
     for it in threads:
         it.start()

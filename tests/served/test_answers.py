@@ -1,5 +1,5 @@
 """Drawn sessions by a server, beside the same as files; and of many sessions at once what `pbstore check` says of the whole run."""
-import os, random, shutil, subprocess, tempfile, unittest
+import os, random, shlex, shutil, subprocess, tempfile, unittest
 
 from compared import PATIENT, Compared
 from harness import Server, at_once, program, s
@@ -30,7 +30,7 @@ class Drawn(Compared):
         with tempfile.TemporaryDirectory() as work:
             fixed = os.path.join(work, "pbstore")
             with open(fixed, "w") as out:
-                out.write(f"#!/bin/sh\nLD_PRELOAD={FAKETIME} FAKETIME='2026-06-01 00:00:00' FAKETIME_DONT_FAKE_MONOTONIC=1 exec {program()} \"$@\"\n")
+                out.write(f"#!/bin/sh\nLD_PRELOAD={FAKETIME} FAKETIME='2026-06-01 00:00:00' FAKETIME_DONT_FAKE_MONOTONIC=1 exec {shlex.quote(program())} \"$@\"\n")
             os.chmod(fixed, 0o755)
             for seed in range(FIRST, FIRST + 3 * SEEDS):
                 self.compare(fixed, 1000 + seed, lambda data, replies: replies, whole_tree)

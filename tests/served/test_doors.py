@@ -1,11 +1,10 @@
 """Who comes in: the first lines, accounts, addresses, and the command `connect`, beside a program that stands in."""
-import os, socket, subprocess, sys, time, unittest
+import os, subprocess, sys, time, unittest
 from unittest import mock
 
-from harness import CLIENT, STAND_IN, Server, s, wait_until
-from pbclient.served import dial, hello, sockets
+from harness import CLIENT, HELLO, STAND_IN, Server, s, wait_until
+from pbclient.served import dial, sockets
 
-HELLO = b"pbstore 1 -\n"
 BYE = s.frame(s.bye())
 PBCLIENT = os.path.join(CLIENT, "bin", "pbclient")
 
@@ -19,7 +18,7 @@ class Served(unittest.TestCase):
 
 
 class FirstLines(Served):
-    patch = "limits.HELLO = 1"
+    patch = "limits.HELLO = 3"
 
     def test_each(self):
         for sent, told in (
@@ -31,7 +30,7 @@ class FirstLines(Served):
             (b"user web1\nuser web2\n", "no line"),
             (b"user ../x\n" + HELLO, "no user that is no user's name"),
             (b"x" * 600, "no line a line of more than 512 bytes"),
-            (b"pbstore", "no line the first lines did not come in 1 s"),
+            (b"pbstore", "no line the first lines did not come in 3 s"),
         ):
             with self.subTest(sent=sent):
                 self.assertEqual(self.server.first(sent)[: len(told)], told)
@@ -41,13 +40,13 @@ class FirstLines(Served):
         began = time.monotonic()
         with self.server.connect() as peer:
             peer.setblocking(False)
-            while time.monotonic() < began + 10:
+            while time.monotonic() < began + 60:
                 try:
                     peer.send(b"x")
                     time.sleep(0.1)
                 except OSError:
                     break
-        self.assertLess(time.monotonic() - began, 9)
+        self.assertLess(time.monotonic() - began, 50)
 
     def test_frames_right_after_the_lines(self):
         with self.server.connect() as peer:
@@ -61,8 +60,9 @@ class Connect(Served):
 
     def setUp(self):
         super().setUp()
-        # (so that nobody waits)
+        # (so that nobody waits, and the first lane is free)
         self.server.client().stream.close()
+        self.server.await_free()
 
     def pbclient(self, *words, sent=b""):
         done = subprocess.run([sys.executable, "-B", PBCLIENT, *words], input=sent, capture_output=True)
@@ -92,7 +92,7 @@ class Connect(Served):
             it.stdin.flush()
             it.stdout.readline()
             self.server.stop()
-            it.wait(20)
+            it.wait(120)
 
 
 class Addresses(Served):
@@ -100,8 +100,6 @@ class Addresses(Served):
         link = os.path.join(self.server.work, "another-name")
         os.symlink(self.server.root, link)
         with mock.patch.object(sockets, "folders", lambda: [self.server.work]):
-            # (the server listens before the folder leads to it)
-            wait_until(lambda: dial.way_to(link))
             stream, lane = dial.begin(dial.way_to(link))
             stream.write(s.frame(s.list_after()))
             self.assertEqual((lane, stream.read(7)), (0, s.frame(s.rows())))

@@ -1,7 +1,7 @@
 """Kills under load, and the disk's faults, beside the real program. The disk's want root, for mount. KILLS is how often a kill comes."""
 import os, random, signal, socket, subprocess, sys, time, unittest
 
-from harness import Server, make_store, noise, program, s, snapshot, wait_until
+from harness import HELLO, Server, await_ended, is_running, make_store, noise, program, s, snapshot, wait_until
 from inputs import reader, writer
 from load import Load
 from pbclient.served.hello import Refused
@@ -51,7 +51,7 @@ class Kills(Loaded):
             self.server.stop(signal.SIGKILL)
             # (at once: the new server waits for the old one's program)
             self.server.start()
-            wait_until(lambda: not any(os.path.exists(f"/proc/{it}") for it in programs), 60)
+            await_ended(programs)
         self.pause(KILLS)
         self.look()
 
@@ -63,7 +63,7 @@ class Kills(Loaded):
         self.pause(KILLS)
         programs = self.server.programs()
         self.assertEqual(self.server.stop(), 0)
-        self.assertFalse(any(os.path.exists(f"/proc/{it}") for it in programs))
+        self.assertFalse(any(map(is_running, programs)))
         self.load.stop()
         self.server.start()
         self.look()
@@ -126,7 +126,7 @@ class Disks(unittest.TestCase):
         """A new client gets no lane of the run whose disk failed."""
         with self.server.connect() as peer:
             peer.settimeout(1)
-            peer.sendall(b"pbstore 1 -\n")
+            peer.sendall(HELLO)
             with self.assertRaises(socket.timeout):
                 while True:
                     self.assertNotIn(b"ready", peer.recv(200))

@@ -1,7 +1,7 @@
 """A client on a lane, beside a program that stands in: each end of a session, faults, and limits."""
 import contextlib, socket, threading, time, unittest
 
-from harness import STAND_IN, Server, s, wait_until
+from harness import HELLO, STAND_IN, Server, s, wait_until
 
 OPENED, NOTHING, PART = s.base(), s.rows(), 1 << 18
 LIST = s.list_after()
@@ -17,13 +17,13 @@ def piece(size):
 
 
 class Served(unittest.TestCase):
-    options, env, patch = [], {}, ""
+    options, patch = [], ""
 
     def setUp(self):
         self.server = self.serve(*self.options)
 
     def serve(self, *options, patch=None):
-        server = Server(STAND_IN, "--linger", "1000", *options, env=self.env, patch=self.patch if patch is None else patch)
+        server = Server(STAND_IN, "--linger", "1000", *options, patch=self.patch if patch is None else patch)
         self.addCleanup(server.close)
         return server
 
@@ -79,7 +79,7 @@ class Ends(Served):
 
         def send():
             with contextlib.suppress(OSError):
-                hung.sendall(b"pbstore 1 -\n" + s.frame(LIST) * 200_000)
+                hung.sendall(HELLO + s.frame(LIST) * 200_000)
 
         thread = threading.Thread(target=send)
         thread.start()
@@ -110,7 +110,7 @@ class UsedUp(Served):
         slow = "import time; from pbclient.served import sessions; "
         for patch in (
             "rest = sessions.Session.rest; sessions.Session.rest = lambda it: (time.sleep(0.5), rest(it))",
-            "reply = lanes.Lane.reply; lanes.Lane.reply = lambda *words: (time.sleep(0.5), reply(*words))",
+            "reply = lanes.Lane.reply; lanes.Lane.reply = lambda *words, **more: (time.sleep(0.5), reply(*words, **more))",
         ):
             server = self.serve("--lanes", "1", patch=slow + patch)
             with self.subTest(patch), server.client() as it:
@@ -128,8 +128,7 @@ class UsedUp(Served):
 
 
 class Faults(Served):
-    options, patch = ["--lanes", "2", "--idle", "1"], "limits.ALIVE = 1"
-    env = {"STAND_IN_GC": "2"}
+    options = ["--lanes", "2"]
 
     def test_the_program_is_killed(self):
         with self.server.client() as one, self.server.client() as two:
@@ -154,27 +153,35 @@ class Faults(Served):
             self.assertEqual(it.ask(LIST), NOTHING)
         self.assertIn("its disk failed", self.server.said())
 
-    def test_a_silent_client_is_left_and_told(self):
-        with self.server.client() as it:
-            it.ask(opened("a"))
-            self.assertEqual(it.body(), b"\xffnothing was sent for 1 s")
-        with self.server.client() as it:
-            self.assertEqual(it.ask(opened("a")), OPENED)
-
-    def test_a_long_job_is_no_silence(self):
-        with self.server.client() as it:
-            self.assertEqual(it.ask(s.gc()), bytes(41))
-
     def test_a_job_whose_client_went_holds_its_lane(self):
+        self.server.hold()
         with self.server.client() as it:
             it.send(s.gc())
-            wait_until(lambda: any("1 commands" in row for row in self.server.status()))
+            self.server.await_commands(1)
         with self.server.client() as it:
             self.assertEqual(it.ask(LIST), NOTHING)
             self.assertEqual(len(self.server.status()), 4)
+        self.server.let_go()
+        self.server.await_free()
+
+
+class Silence(Served):
+    options = ["--lanes", "1", "--idle", "1"]
+    left = s.frame(b"\xffnothing was sent for 1 s")
+
+    def test_who_is_silent_is_left_and_told(self):
+        for _ in range(2):
+            self.assertEqual(self.server.told(s.frame(opened("a"))), s.frame(OPENED) + self.left)
+
+    def test_a_long_job_is_no_silence(self):
+        self.server.hold()
+        threading.Timer(2, self.server.let_go).start()
+        self.assertEqual(self.server.told(s.frame(s.gc())), s.frame(bytes(41)) + self.left)
 
 
 class Memory(Served):
+    """Memory is wanting, and the lane ends."""
+
     options, patch = ["--lanes", "2"], "limits.ALIVE = 1"
 
     def await_used_up(self, server, count):
@@ -214,7 +221,11 @@ class Memory(Served):
                 self.assertEqual(it.ask(piece(1 + size)), s.no_memory())
             self.await_used_up(server, 2)
 
-    def test_the_lane_goes_on(self):
+
+class MemoryComesBack(Served):
+    """Memory is wanting for one command, and the lane goes on."""
+
+    def test_each_command(self):
         job = s.frames(opened("short"), s.gc())
         with self.server.client() as it:
             self.assertEqual((it.ask(opened("short")), it.ask(LIST)), (s.no_memory(), NOTHING))

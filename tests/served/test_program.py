@@ -1,12 +1,25 @@
 """The server beside the real program: what is finished, held, stopped and owed."""
-import os, resource, signal, struct, time, unittest
+import os, resource, signal, struct, threading, time, unittest
 
-from harness import Server, at_once, noise, program, s, snapshot, wait_until
+from harness import Server, at_once, await_ended, noise, program, s, snapshot, wait_until
 from inputs import writer
 
 LIST = s.list_after()
 # A backup's commands up to its FINISH.
 BEGUN = writer(snapshot("host/a", 1), b"abc")[:-1]
+# What has a server killed so long after it started its program, whose process it tells first.
+KILLED = """
+import os, time
+from pbclient.served import runs
+
+def killed(run):
+    with open({told!r}, "w") as out:
+        out.write(str(run.program.pid))
+    time.sleep({seconds})
+    os.kill(os.getpid(), 9)
+
+runs.Run.open = killed
+"""
 
 
 class Served(unittest.TestCase):
@@ -22,9 +35,6 @@ class Served(unittest.TestCase):
     def begin(self, client):
         for body in BEGUN:
             self.assertEqual(client.ask(body)[0], 0)
-
-    def await_gone(self, programs):
-        wait_until(lambda: not any(os.path.exists(f"/proc/{it}") for it in programs))
 
     def saved(self, server):
         """How many chunks the book of touches has."""
@@ -46,7 +56,7 @@ class Ends(Served):
             self.begin(it)
             programs = server.programs()
             server.stop(signal.SIGKILL)
-        self.await_gone(programs)
+        await_ended(programs)
         self.assertEqual(self.saved(server), 1)
         server.start()
         self.assertEqual(self.ask(server, LIST), s.rows())
@@ -58,22 +68,27 @@ class Ends(Served):
             programs = server.programs()
             it.send(*[LIST] * 20_000, s.gc())
             server.stop(signal.SIGKILL)
-        self.await_gone(programs)
+        await_ended(programs)
         # (it ended by itself, and not by SIGPIPE)
         self.assertEqual(self.saved(server), 1)
         server.start()
         self.assertEqual(self.ask(server, LIST), s.rows())
 
-    def test_it_is_killed_while_it_opens_the_lanes(self):
-        for number in (0, 1, 32, 63):
-            kill = f"import os; one = lanes.Lane.open; lanes.Lane.open = lambda it: os.kill(os.getpid(), 9) if it.number == {number} else one(it)"
-            server = self.serve(patch=kill)
-            with self.assertRaises(Exception):
+    def test_it_is_killed_while_the_program_opens_the_store(self):
+        """The program ends, however far it came, and does not keep the next one out."""
+        for seconds in (0, 0.02, 0.1, 1):
+            server = self.serve(is_started=False)
+            told = os.path.join(server.work, "program")
+            server.patch = KILLED.format(told=told, seconds=seconds)
+            server.start()
+            with self.subTest(seconds), self.assertRaises(Exception):
                 server.client()
             self.assertEqual(server.process.wait(), -9)
             server.patch = ""
             server.start()
             self.assertEqual(self.ask(server, LIST), s.rows())
+            with open(told) as it:
+                await_ended([int(it.read())])
 
     def test_a_stop_saves_the_book(self):
         server = self.serve("--linger", "1000", "--grace", "1")
@@ -87,8 +102,10 @@ class Ends(Served):
 
     def test_a_run_is_renewed_at_its_age(self):
         server = self.serve("--linger", "1000", patch="limits.RUN_COMMANDS = 100")
-        self.ask(server, *[LIST] * 101)
-        before = server.programs()
+        with server.client() as it:
+            for _ in range(101):
+                self.assertEqual(it.ask(LIST), s.rows())
+            before = server.programs()
         wait_until(lambda: server.programs() != before)
         self.assertEqual(self.ask(server, LIST), s.rows())
         self.assertNotEqual(server.programs(), before)
@@ -128,17 +145,20 @@ class Together(Served):
 
     def test_a_sync_from_a_store_that_has_a_server_too(self):
         """Each keeps the other out while it has that store, and comes again."""
-        other = self.serve("--linger", "0.5")
-        self.ask(other, *writer(snapshot("host/a", 1), b"abc", b"de"))
-        server, told, row = self.serve("--remote", other.root, "--linger", "2"), [], (snapshot("host/a", 1), 2)
+        other, row = self.serve("--linger", "0.5"), (snapshot("host/a", 1), 2)
+        self.ask(other, *writer(row[0], b"abc", b"de"))
+        server, told, came = self.serve("--remote", other.root, "--linger", "0.5"), [], []
         wait_until(lambda: not other.programs())
         with server.client() as it:
             self.assertEqual(it.ask(s.sync("host/a")), s.keys(row[0]))
             self.assertEqual(it.ask(s.verify(row[0])), s.verified(2, 2, 5))
-        with other.client(told.append) as it:
+            coming = threading.Thread(target=lambda: came.append(other.client(told.append)))
+            coming.start()
+            wait_until(lambda: "another program has the store" in told)
+        coming.join()
+        with came[0] as it:
             self.assertEqual(it.ask(LIST), s.rows(row))
             self.assertEqual(self.ask(server, s.sync("host/a")), s.refused(30))
-        self.assertIn("another program has the store", told)
 
 
 class Memory(Served):

@@ -1,7 +1,7 @@
 """How a run of the program begins and ends, and how the server stops, beside a program that stands in."""
-import fcntl, os, signal, threading, time, unittest
+import fcntl, os, signal, threading, unittest
 
-from harness import STAND_IN, Server, at_once, s, wait_until
+from harness import HELLO, STAND_IN, Server, at_once, s, wait_until
 from pbclient.served import hello
 
 LIST, OPENED, NOTHING = s.list_after(), s.base(), s.rows()
@@ -12,11 +12,15 @@ def opened(group):
 
 
 class Served(unittest.TestCase):
-    options, env = [], {}
+    options = []
 
     def setUp(self):
-        self.server = Server(STAND_IN, *self.options, env=self.env)
-        self.addCleanup(self.server.close)
+        self.server = self.serve(*self.options)
+
+    def serve(self, *options):
+        server = Server(STAND_IN, *options)
+        self.addCleanup(server.close)
+        return server
 
     def look_stopped(self):
         """The server has ended, and the program by itself before it."""
@@ -26,8 +30,7 @@ class Served(unittest.TestCase):
 
 
 class Stops(Served):
-    options = ["--lanes", "2", "--linger", "1000", "--grace", "2"]
-    env = {"STAND_IN_GC": "2"}
+    options = ["--lanes", "2", "--linger", "1000", "--grace", "5"]
 
     def term(self):
         self.server.process.send_signal(signal.SIGTERM)
@@ -53,20 +56,23 @@ class Stops(Served):
             self.assertEqual(two.body(), b"\xffthe server was stopped")
         self.look_stopped()
 
-    def test_a_job_is_waited_for(self):
+    def test_a_job_is_waited_for_beyond_the_grace(self):
+        self.server = self.serve("--linger", "1000", "--grace", "0")
+        self.server.hold()
         with self.server.client() as it:
             it.send(s.gc())
-            wait_until(lambda: any("1 commands" in row for row in self.server.status()))
+            self.server.await_commands(1)
             self.term()
+            threading.Timer(1, self.server.let_go).start()
             self.assertEqual(it.body(), bytes(41))
         self.look_stopped()
 
     def test_a_program_that_does_not_end_is_killed(self):
-        server = Server(STAND_IN, "--linger", "1000", "--grace", "0", "--stop-limit", "1", env={"STAND_IN_GC": "60"})
-        self.addCleanup(server.close)
+        server = self.serve("--linger", "1000", "--grace", "0", "--stop-limit", "1")
+        server.hold()
         with server.client() as it:
             it.send(s.gc())
-            wait_until(lambda: any("1 commands" in row for row in server.status()))
+            server.await_commands(1)
             self.assertEqual(server.stop(), 0)
             self.assertEqual(it.body()[0], 255)
         self.assertIn("its book is not saved", server.said())
@@ -124,8 +130,7 @@ class Renewals(Served):
             told.append("served")
 
     def test_who_uses_lanes_up_is_refused(self):
-        server = Server(STAND_IN, "--linger", "1000")
-        self.addCleanup(server.close)
+        server = self.serve("--linger", "1000")
         with server.client() as other:
             for _ in range(3):
                 with server.client() as it:
@@ -135,6 +140,7 @@ class Renewals(Served):
                 server.client()
             self.assertEqual(refused.exception.cause, "broken")
             self.assertEqual(other.ask(s.bye()), s.done())
+        server.await_free()
         with server.client() as it:
             self.assertEqual(it.ask(LIST), NOTHING)
 
@@ -153,10 +159,17 @@ class Openings(Served):
     def test_another_program_has_the_store(self):
         folder, told = os.open(self.server.root, os.O_RDONLY), []
         fcntl.flock(folder, fcntl.LOCK_EX)
-        threading.Timer(1.5, lambda: os.close(folder)).start()
-        with self.server.client(told.append) as it:
-            self.assertEqual(it.ask(LIST), NOTHING)
-        self.assertEqual(told[0], "another program has the store")
+
+        def come():
+            with self.server.client(told.append) as it:
+                told.append(it.ask(LIST))
+
+        client = threading.Thread(target=come)
+        client.start()
+        wait_until(lambda: "another program has the store" in told)
+        os.close(folder)
+        client.join()
+        self.assertEqual(told[-1], NOTHING)
 
     def test_a_store_that_is_not_there_any_more(self):
         book = os.path.join(self.server.root, ".chunks", "book")
@@ -207,7 +220,7 @@ class Many(Served):
         self.server.await_free()
         self.assertEqual(len(self.server.programs()), 1)
         # (two pipes a lane, and some)
-        self.assertLess(len(os.listdir(f"/proc/{self.server.process.pid}/fd")), 160)
+        wait_until(lambda: len(os.listdir(f"/proc/{self.server.process.pid}/fd")) < 160)
 
     def test_a_thousand_by_twenty(self):
         wrong = []
@@ -245,7 +258,7 @@ class Order(Served):
 
     def test_who_goes_while_waiting_is_forgotten(self):
         with self.server.client(), self.server.connect() as peer:
-            peer.sendall(b"pbstore 1 -\n")
+            peer.sendall(HELLO)
             wait_until(lambda: self.server.status()[-1] == "1 wait")
             peer.close()
             wait_until(lambda: self.server.status()[-1] == "0 wait")

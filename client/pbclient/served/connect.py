@@ -4,7 +4,7 @@
 
 What ssh was asked to run (SSH_ORIGINAL_COMMAND) is not looked at.
 """
-import os, socket, threading
+import os, threading
 
 from ..failures import FAILED
 from . import dial, hello

@@ -2,10 +2,10 @@
 import contextlib, shutil, time
 
 from .. import damage, store
-from ..failures import IN_USE, Failure
+from ..failures import FAILED, IN_USE, Failure
 from . import limits
 from .lending import OPENING, OTHERS
-from .runs import NotOpened, Run, let_go
+from .runs import NotOpened, Run
 
 STATUSES = {3: "its disk failed, or the folder is not there or in use", 6: "out of memory"}
 STOPPED, HALTED, GONE = "the server was stopped", "the store's disk failed", "the store's program ended"
@@ -20,7 +20,7 @@ def why(status):
 class Keeper:
     def __init__(self, options, lending, say):
         self.options, self.lending, self.changed, self.say = options, lending, lending.changed, say
-        # The pipes of the run. They are beside the socket, so that the next server finds those that a killed one left.
+        # The names of the run's sessions. They are beside the socket, so that the next server takes away those that a killed one left.
         self.work = options.socket + ".lanes"
 
     def keep(self):
@@ -46,8 +46,6 @@ class Keeper:
             with self.changed:
                 self.lending.state = OPENING
             run = self.start(root)
-        except NotOpened as not_opened:
-            return self.fail(why(not_opened.status))
         except Failure as failure:
             return self.await_other() if failure.status == IN_USE else self.fail(failure)
         except OSError as error:
@@ -57,10 +55,9 @@ class Keeper:
         return run
 
     def await_other(self):
-        """Another program has the store. If a server was killed as it opened the lanes, it is that server's, and is let go."""
+        """Another program has the store."""
         with self.changed:
             self.lending.state = OTHERS
-            let_go(self.work)
             self.changed.wait(limits.TICK)
 
     def start(self, root):
@@ -68,7 +65,12 @@ class Keeper:
         # (a killed server's)
         shutil.rmtree(self.work, ignore_errors=True)
         remote = ["--remote", self.options.remote] if self.options.remote else []
-        return Run([self.options.program, "run", root, *remote], self.options.lanes, self.work)
+        try:
+            return Run([self.options.program, "run", root, *remote], self.options.lanes, self.work)
+        except NotOpened as not_opened:
+            # (the program of a server that was killed as it started it may have come first)
+            status = IN_USE if store.is_locked(root) else FAILED
+            raise Failure(why(not_opened.status), "look at the store's folder", status) from None
 
     def set_aside(self, root):
         """Damaged chunks go out of the way of those that are sent again. A store that can only be read is served with them."""

@@ -1,16 +1,16 @@
-"""A lane of the running program: two named pipes, which serve one client after another.
+"""A lane of the running program: two pipes, which serve one client after another.
 
 A lane is *at rest* if it has no session, owes no reply and has no frame begun. It then answers as a new one does, but that it counts the
 offsets of BadFrame from its own first byte; `reply` counts them from the client's.
 """
-import fcntl, os, select, struct, time
+import os, select, struct, time
 
 from .. import session as s
+from ..pipes import Pipes
 from . import limits
 
 # A pipe's, in bytes; and of a reply so many are read at once.
 PIPE_SIZE = PART = 1 << 18
-SET_PIPE_SIZE = 1031
 # LIST after the last name that there can be: legal in any state, and tells nothing.
 LOOK = s.list_after("vm/" + "z" * 64 + "/9999-12-31T23:59:59Z")
 JOBS = {s.PRUNE, s.VERIFY, s.SYNC, s.GC}
@@ -29,39 +29,18 @@ def wait_for(pipe, event, seconds):
     return bool(waiting.poll(seconds * 1000))
 
 
-def widen(pipe):
-    """A longer pipe takes fewer turns; if the system gives none, it stays."""
-    try:
-        fcntl.fcntl(pipe, SET_PIPE_SIZE, PIPE_SIZE)
-    except OSError:
-        pass
-
-
 class Lane:
     """One thread sends, one reads replies."""
 
     def __init__(self, number, path):
-        self.number, self.path, self.commands = number, path, None
+        self.number, self.pipes = number, Pipes(path, PIPE_SIZE)
+        self.commands, self.replies = self.pipes.commands, self.pipes.replies
+        os.set_blocking(self.commands, False)
         # Bytes of the lane that the program took, and those before the client's first.
         self.taken = self.began = 0
         # A client has it; the program reads it no more; memory was wanting, and perhaps it reads it no more.
         self.is_lent = self.is_used_up = self.is_doubtful = False
         self.part = bytearray(PART)
-        os.mkfifo(path)
-        os.mkfifo(path + ".out")
-        # (each end of a pipe waits for the other: the program opens that of the replies first)
-        self.replies = os.open(path + ".out", os.O_RDONLY | os.O_NONBLOCK)
-
-    def open(self):
-        """Opens the pipe of the commands, if the program reads it already."""
-        try:
-            self.commands = os.open(self.path, os.O_WRONLY | os.O_NONBLOCK)
-        except OSError:
-            return False
-        os.set_blocking(self.replies, True)
-        for pipe in (self.commands, self.replies):
-            widen(pipe)
-        return True
 
     def is_free(self):
         return not self.is_lent and not self.is_used_up and self.taken < limits.LANE_FULL

@@ -1,7 +1,7 @@
 """A run of the program, whose lanes serve one client after another."""
-import contextlib, os, shutil, subprocess, time
+import os, shutil, subprocess, time
 
-from .lanes import Lane
+from .lanes import Lane, LaneEnded
 
 
 class NotOpened(Exception):
@@ -16,7 +16,7 @@ class Run:
     """The program, started on ROOT, with its lanes. Each write end is this process's alone: when it dies, all sessions end."""
 
     def __init__(self, words, count, work):
-        """`words` are the program and its words but for the sessions, `work` a folder for the pipes that is not there."""
+        """`words` are the program and its words but for the sessions, `work` a folder for the sessions' names that is not there."""
         self.work, self.lanes, self.program = work, [], None
         self.is_halted, self.began = False, time.monotonic()
         # How many lanes each user used up.
@@ -28,8 +28,9 @@ class Run:
             # In a session of its own, so that a terminal's interrupt does not reach it. SIGPIPE stays ignored, as Python has it: when the
             # server dies, a reply that nobody reads ends its lane and not the program.
             self.program = subprocess.Popen(
-                [*words, *(it.path for it in self.lanes)],
+                [*words, *(it.pipes.names[0] for it in self.lanes)],
                 stdin=subprocess.DEVNULL, stdout=subprocess.DEVNULL, start_new_session=True, restore_signals=False,
+                pass_fds=[end for it in self.lanes for end in it.pipes.given],
             )
             self.open()
         except BaseException:
@@ -37,14 +38,15 @@ class Run:
             raise
 
     def open(self):
-        """Waits until the program has opened ROOT and reads its sessions."""
+        """Waits until the program has opened ROOT, and each of its sessions."""
         for lane in self.lanes:
-            pause = 0.001
-            while not lane.open():
-                if not self.is_alive():
-                    raise NotOpened(self.program.returncode)
-                time.sleep(pause)
-                pause = min(0.1, pause * 1.5)
+            lane.pipes.hand_over()
+        try:
+            for lane in self.lanes:
+                lane.rest()
+        except LaneEnded:
+            raise NotOpened(self.program.wait()) from None
+        shutil.rmtree(self.work, ignore_errors=True)
 
     def is_alive(self):
         return self.program.poll() is None
@@ -65,17 +67,9 @@ class Run:
         self.clear()
 
     def clear(self):
-        """Takes away the pipes of a program that has ended."""
+        """Closes the pipes of a program that has ended, and takes their names away."""
         for lane in self.lanes:
             lane.close()
+            lane.pipes.hand_over()
             os.close(lane.replies)
         shutil.rmtree(self.work, ignore_errors=True)
-
-
-def let_go(work):
-    """A program whose server was killed while it opened the pipes in this folder waits for its partner at the others. It gets one, which
-    ends."""
-    for name in os.listdir(work) if os.path.isdir(work) else []:
-        side = os.O_RDONLY if name.endswith(".out") else os.O_WRONLY
-        with contextlib.suppress(OSError):
-            os.close(os.open(os.path.join(work, name), side | os.O_NONBLOCK))

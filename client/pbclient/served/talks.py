@@ -1,5 +1,5 @@
 """Sessions of a store's server, as `talk` has them of a run of the program here."""
-import struct, time
+import contextlib, struct, time
 
 from ..failures import FAILED, IN_USE, MISTYPED, Failure
 from ..talk import Refused, Talk
@@ -56,10 +56,12 @@ class ServedTalk(Talk):
         return self
 
     def read(self, size):
-        found = self.stream.read(size)
-        if len(found) < size:
-            raise ended("the connection ended")
-        return found
+        # (a server that is killed before it read all resets the connection)
+        with contextlib.suppress(ConnectionResetError):
+            found = self.stream.read(size)
+            if len(found) == size:
+                return found
+        raise ended("the connection ended")
 
     def write(self, data):
         try:
