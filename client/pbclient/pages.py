@@ -109,7 +109,7 @@ def service(command):
     return f"""[Unit]
 Description=Backups by {CONFIG}
 Documentation=man:pbclient(1)
-ConditionPathExists={CONFIG}
+AssertPathExists={CONFIG}
 
 [Service]
 Type=oneshot
@@ -139,7 +139,7 @@ def server(command):
     return f"""[Unit]
 Description=The store %i, served
 Documentation=man:pbclient(1)
-ConditionPathExists={SERVED}/%i
+AssertPathExists={SERVED}/%i
 
 [Service]
 User=pbstore
