@@ -159,9 +159,23 @@ TimeoutStopSec=700
 Restart=on-failure
 LimitNOFILE=4096
 NoNewPrivileges=yes
+CapabilityBoundingSet=
 ProtectSystem=full
+ProtectKernelTunables=yes
+ProtectKernelModules=yes
+ProtectKernelLogs=yes
+ProtectControlGroups=yes
+ProtectClock=yes
+ProtectHostname=yes
 PrivateTmp=yes
+PrivateDevices=yes
 RestrictAddressFamilies=AF_UNIX
+RestrictNamespaces=yes
+RestrictRealtime=yes
+RestrictSUIDSGID=yes
+LockPersonality=yes
+SystemCallArchitectures=native
+SystemCallFilter=@system-service
 
 [Install]
 WantedBy=multi-user.target
