@@ -142,6 +142,7 @@ Documentation=man:pbclient(1)
 AssertPathExists={SERVED}/%i
 
 [Service]
+Type=notify
 User=pbstore
 # (the file has a line STORE=/srv/store, and perhaps one OPTIONS="--group backup-ssh --trust backup-ssh")
 EnvironmentFile={SERVED}/%i
