@@ -7,8 +7,8 @@ from .report import failure_of
 from .served import dial, talks
 from .talk import Ended, NoProgram, Refused, Run, program
 
-# The status of the program for a fault of the disk.
-DISK_FAULT = 3
+# The status of the program for a fault of the disk, and if the processor does not know its instructions (SIGILL).
+DISK_FAULT, ILLEGAL = 3, -4
 ADVICE = {
     "GroupBusy": "wait for the other backup's end",
     "SnapshotBusy": "wait for the end of what uses it",
@@ -169,6 +169,8 @@ class Call:
             return Failure(f"the store's disk failed: {error}", "look at the server's log and at the store's disk, then run again")
         if isinstance(error, Refused) or error.status == DISK_FAULT:
             return store.why_ended(self.root, error)
+        if error.status == ILLEGAL:
+            return Failure(f"the program can't run here: {error}", "take a newer machine; give a virtual one the processor of its host")
         return Failure(f"the store ended: {error}", "run again; no finished snapshot was lost")
 
 

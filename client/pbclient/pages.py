@@ -109,7 +109,7 @@ def service(command):
     return f"""[Unit]
 Description=Backups by {CONFIG}
 Documentation=man:pbclient(1)
-ConditionPathExists={CONFIG}
+AssertPathExists={CONFIG}
 
 [Service]
 Type=oneshot
@@ -139,9 +139,10 @@ def server(command):
     return f"""[Unit]
 Description=The store %i, served
 Documentation=man:pbclient(1)
-ConditionPathExists={SERVED}/%i
+AssertPathExists={SERVED}/%i
 
 [Service]
+Type=notify
 User=pbstore
 # (the file has a line STORE=/srv/store, and perhaps one OPTIONS="--group backup-ssh --trust backup-ssh")
 EnvironmentFile={SERVED}/%i
@@ -159,9 +160,23 @@ TimeoutStopSec=700
 Restart=on-failure
 LimitNOFILE=4096
 NoNewPrivileges=yes
+CapabilityBoundingSet=
 ProtectSystem=full
+ProtectKernelTunables=yes
+ProtectKernelModules=yes
+ProtectKernelLogs=yes
+ProtectControlGroups=yes
+ProtectClock=yes
+ProtectHostname=yes
 PrivateTmp=yes
+PrivateDevices=yes
 RestrictAddressFamilies=AF_UNIX
+RestrictNamespaces=yes
+RestrictRealtime=yes
+RestrictSUIDSGID=yes
+LockPersonality=yes
+SystemCallArchitectures=native
+SystemCallFilter=@system-service
 
 [Install]
 WantedBy=multi-user.target

@@ -220,7 +220,7 @@ def closed(path, root):
     at = path
     while at != root and not os.access(os.path.dirname(at), os.X_OK):
         at = os.path.dirname(at)
-    advice = f"run as {owner(at)}" + (f", or give it to {owner(root)}: chown" if owner(at) != owner(root) else "")
+    advice = f"run as {owner(at)}" if owner(at) == owner(root) else f"give it to {owner(root)}: chown {owner(root)} {at}"
     return Failure(f"{path} may not be read or written: it is {owner(at)}'s", advice)
 
 

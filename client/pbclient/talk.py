@@ -17,6 +17,8 @@ STATUSES = {
     7: "there are more than 64 sessions at once",
     9: "the session is too long",
     10: "a read of the second store failed",
+    # (SIGILL)
+    -4: "this processor is older than the program needs, which is x86-64-v2",
 }
 STATES = {0: "no session", 1: "a writer", 2: "a reader"}
 WORDS = {

@@ -52,6 +52,12 @@ class Installed(stores.WithStore):
         done = subprocess.run(["systemd-analyze", "verify", "--man=no", *units], stdout=subprocess.PIPE, stderr=subprocess.STDOUT)
         self.assertNotIn(b"pbclient", done.stdout)
 
+    def test_a_unit_without_its_file_fails(self):
+        for unit, file in (("pbclient.service", pages.CONFIG), ("pbclient-serve@.service", f"{pages.SERVED}/%i")):
+            with open(self.path("lib", "systemd", "system", unit)) as it:
+                # (by ConditionPathExists nothing would be started, and systemctl would end with 0)
+                self.assertIn(f"\nAssertPathExists={file}\n", it.read())
+
     def test_no_program(self):
         done = subprocess.run([INSTALL, self.prefix, "--program", "/nowhere"], stderr=subprocess.PIPE)
         self.assertEqual((done.returncode, done.stderr.count(b"\n")), (1, 1), done)

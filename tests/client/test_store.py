@@ -218,6 +218,25 @@ class States(stores.WithStore):
         self.fails(1, "ROOT/vm may not be read or written: it is root's", "gc", **become)
         self.assertNotIn("nobody's", self.call("snapshots")[2])
 
+    def test_a_processor_that_is_too_old(self):
+        self.make()
+        program = os.path.join(self.work, "program")
+        with open(program, "w") as out:
+            out.write("#!/bin/sh\nkill -ILL $$\n")
+        os.chmod(program, 0o755)
+        self.fails(1, "this processor is older than the program needs", "--program", program, "snapshots")
+
+    @unittest.skipIf(os.getuid(), "this needs root, to become another user")
+    def test_at_the_top_of_a_file_system(self):
+        lost, become = os.path.join(self.root, "lost+found"), {"become": lambda: os.setuid(NOBODY)}
+        os.makedirs(lost, 0o700)
+        os.chmod(self.work, 0o755)
+        os.chown(self.root, NOBODY, NOBODY)
+        self.fails(1, "ROOT/lost+found may not be read or written: it is root's", "init", **become)
+        self.assertIn("chown nobody ROOT/lost+found", self.call("init", **become)[2])
+        os.chown(lost, NOBODY, NOBODY)
+        self.done("init", **become)
+
     @unittest.skipIf(os.getuid(), "this needs root, to mount")
     def test_mounted_read_only(self):
         self.make()

@@ -7,14 +7,18 @@ from . import limits
 from .lending import OPENING, OTHERS
 from .runs import NotOpened, Run
 
-STATUSES = {3: "its disk failed, or the folder is not there or in use", 6: "out of memory"}
+STATUSES = {
+    3: "its disk failed, or the folder is not there or in use",
+    6: "out of memory",
+    # (SIGILL)
+    -4: "this processor is older than the program needs, which is x86-64-v2",
+}
 STOPPED, HALTED, GONE = "the server was stopped", "the store's disk failed", "the store's program ended"
 
 
 def why(status):
-    if status < 0:
-        return f"the program was ended by the signal {-status}"
-    return STATUSES.get(status, f"the program ended with status {status}")
+    other = f"the program was ended by the signal {-status}" if status < 0 else f"the program ended with status {status}"
+    return STATUSES.get(status, other)
 
 
 class Keeper:

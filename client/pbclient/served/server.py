@@ -218,6 +218,15 @@ def part_from(client):
             pass
 
 
+def tell_ready():
+    """Tells systemd, if it waits for that, that clients may come."""
+    path = os.environ.pop("NOTIFY_SOCKET", None)
+    if path:
+        with socket.socket(socket.AF_UNIX, socket.SOCK_DGRAM) as peer:
+            # (`@` stands for a socket that has no file)
+            peer.sendto(b"READY=1", "\0" + path[1:] if path.startswith("@") else path)
+
+
 def serve(options, say):
     """Serves until a signal ends it. `options` are those of the command `serve`."""
     server = Server(options, say)
@@ -229,5 +238,6 @@ def serve(options, say):
         at_end.callback(os.unlink, put_link(options.root, options.socket))
         server.take_signals()
         say(f"{options.root} is served at {options.socket}")
+        tell_ready()
         server.accept(listener)
     return 0

@@ -66,7 +66,7 @@ fn the_clock_of_the_system(rt: HostRuntime) {
     let path = "port_traits_time.bin";
     let before = tell(&mut WallClock::new(rt));
     must(&rt, fs::write(&rt, path, "now"));
-    let made = must(&rt, fs::metadata(&rt, path)).mtime() as u64;
+    let made = must(&rt, fs::metadata(&rt, path)).mtime().unsigned_abs();
     let after = tell(&mut WallClock::new(rt));
     let is_between = before <= made.saturating_add(2) && made <= after;
     same_at(&rt, (before, made, after), is_between, true);

@@ -27,7 +27,7 @@ fn a_sink_goes_on_behind_a_short_write(rt: HostRuntime) {
 
 // The call of the host by which a source over a file is opened, and those by which it is read: what is read, a part a call,
 // where one of them fails. It goes on behind that.
-static READ: [(u64, [Result<usize, Failed>; 4]); 5] = [
+const READ: [(u64, [Result<usize, Failed>; 4]); 5] = [
     (1, [Err(Failed), Ok(3), Ok(2), Ok(0)]),
     (2, [Err(Failed), Ok(3), Ok(2), Ok(0)]),
     (3, [Ok(3), Err(Failed), Ok(2), Ok(0)]),
@@ -39,7 +39,8 @@ static READ: [(u64, [Result<usize, Failed>; 4]); 5] = [
 fn a_source_tells_each_failed_read(rt: HostRuntime) {
     let path = "disk_tests_source";
     must(&rt, fs::write(&rt, path, "hello"));
-    for (call, wanted) in &READ {
+    let reads = READ;
+    for (call, wanted) in &reads {
         let record = Record::new(rt.alloc());
         record.fails_at.set(Some(*call));
         let watched = Watched {

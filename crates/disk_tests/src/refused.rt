@@ -36,27 +36,55 @@ fn failed_calls<D: Disk>(rt: &impl Abort, alloc: Global, disk: &mut D) -> u64 {
     failed
 }
 
-// Makes the calls on an empty folder where a call of the host fails: how many of the disk's failed, and of the host's were made.
-fn try_calls(rt: HostRuntime, abort: &impl Abort, fails_at: Option<u64>) -> (u64, u64) {
+// What came of the calls on an empty folder.
+#[derive(Clone, Copy)]
+struct Tried {
+    // How many of the disk's calls failed, how many the host was asked for, and how many folders it read.
+    failed: u64,
+    calls: u64,
+    folders: usize,
+}
+
+// Makes the calls where a call of the host fails, or a read of a folder's names.
+fn try_calls(
+    rt: HostRuntime,
+    abort: &impl Abort,
+    fails_at: Option<u64>,
+    unread: Option<(usize, usize)>,
+) -> Tried {
     let _ = fs::remove_dir_all(&rt, ROOT);
     must(abort, fs::create_dir(&rt, ROOT));
     let alloc = rt.alloc();
     let record = Record::new(alloc);
     record.fails_at.set(fails_at);
+    record.unread.set(unread);
     let mut disk = must(abort, alone_at(rt, &record, ROOT));
     let failed = failed_calls(abort, alloc, &mut disk);
     drop(disk);
-    (failed, record.calls.get())
+    Tried {
+        failed,
+        calls: record.calls.get(),
+        folders: record.reads.get(),
+    }
 }
 
 #[test]
 fn each_call_of_the_host_fails(rt: HostRuntime) {
-    let (failed, calls) = try_calls(rt, &rt, None);
+    let Tried {
+        failed,
+        calls,
+        folders,
+    } = try_calls(rt, &rt, None, None);
     same(&rt, failed, 0);
-    same(&rt, calls > 50, true);
+    same(&rt, (calls > 50, folders > 2), (true, true));
     for call in 1..=calls {
-        let (failed, _) = try_calls(rt, &rt, Some(call));
-        same_at(&rt, call, failed, 1);
+        same_at(&rt, call, try_calls(rt, &rt, Some(call), None).failed, 1);
     }
+    for folder in 1..=folders {
+        let tried = try_calls(rt, &rt, None, Some((folder, 0)));
+        same_at(&rt, folder, tried.failed, 1);
+    }
+    // Some names of the root were read before that.
+    same(&rt, try_calls(rt, &rt, None, Some((1, 1))).failed, 1);
     must(&rt, fs::remove_dir_all(&rt, ROOT));
 }

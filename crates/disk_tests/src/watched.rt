@@ -27,6 +27,8 @@ pub struct Record {
     // How many calls of the host were made, and which of them fails.
     pub calls: Cell<u64>,
     pub fails_at: Cell<Option<u64>>,
+    // Which of the folders that are read fails to be, and behind how many reads of its names.
+    pub unread: Cell<Option<(usize, usize)>>,
 }
 
 impl Record {
@@ -39,6 +41,7 @@ impl Record {
             by_bytes: Cell::new(false),
             calls: Cell::new(0),
             fails_at: Cell::new(None),
+            unread: Cell::new(None),
         }
     }
 
@@ -115,11 +118,11 @@ pub fn play_alone(
     }
 }
 
-// A folder as it is read. Each read of its names is a call of the host.
+// A folder as it is read, and how many reads of its names are left where one is to fail.
 #[derive(Drop)]
-pub struct WatchedDir<'a> {
+pub struct WatchedDir {
     dir: <HostRuntime as Files>::Dir,
-    record: &'a Record,
+    left: Option<usize>,
 }
 
 #[derive(Drop)]
@@ -161,7 +164,7 @@ impl Alloc for Watched<'_> {
 impl<'a> Files for Watched<'a> {
     type File = WatchedFile<'a>;
 
-    type Dir = WatchedDir<'a>;
+    type Dir = WatchedDir;
 
     fn open_file(&self, how: &OpenOptions, path: &str) -> io::Result<WatchedFile<'a>> {
         self.record.count()?;
@@ -172,14 +175,17 @@ impl<'a> Files for Watched<'a> {
         })
     }
 
-    fn open_dir(&self, path: &str) -> io::Result<WatchedDir<'a>> {
+    fn open_dir(&self, path: &str) -> io::Result<WatchedDir> {
         self.record.count()?;
-        self.record
-            .reads
-            .set(self.record.reads.get().saturating_add(1));
+        let folder = self.record.reads.get().saturating_add(1);
+        self.record.reads.set(folder);
+        let left = match self.record.unread.get() {
+            Some((unread, left)) if unread == folder => Some(left),
+            _ => None,
+        };
         Ok(WatchedDir {
             dir: self.rt.open_dir(path)?,
-            record: self.record,
+            left,
         })
     }
 
@@ -265,9 +271,12 @@ impl Read for WatchedFile<'_> {
     }
 }
 
-impl Read for WatchedDir<'_> {
+impl Read for WatchedDir {
     fn read(&mut self, buf: &mut [u8]) -> io::Result<usize> {
-        self.record.count()?;
+        if self.left == Some(0) {
+            return Err(io::Error::from(ErrorKind::Other));
+        }
+        self.left = self.left.map(|left| left.saturating_sub(1));
         self.dir.read(buf)
     }
 }

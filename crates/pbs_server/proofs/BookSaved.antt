@@ -8,11 +8,11 @@ use Rattle.std.proofs.Common.{◌≡◌, ◌≤◌, ◌+◌, inl, inr, ℕ, Bool
 use Rattle.std.specs.Prelude.{IsErrOf, is_some}
 use Rattle.std.specs.Result.{result_err}
 use Rattle.std.specs.FinMap.{get}
+use Rattle.store_types.specs.declared.order.Entry.{Entry}
 use Rattle.store_types.specs.declared.order.TheConstants.{FAULT_KIND}
-use Rattle.file_install.proofs.InstallLaws.{installed_other, installed_name}
+use Rattle.file_install.proofs.InstallLaws.{installed_other}
 use Rattle.store_model.specs.Weave.{first_fault}
-use Rattle.pbs_server.specs.Headline.{HasBookOf}
-use Rattle.atime_book.specs.Touches.{as_of}
+use Rattle.atime_book.specs.Touches.{NoneAfter, as_of}
 use Rattle.pbs_server.proofs.Tests.{neither}
 use Rattle.store_history.specs.declared.act.Event.{Event}
 use Rattle.store_history.specs.History.{entries, kind}
@@ -20,8 +20,10 @@ use Rattle.store_history.specs.Saved.{book_name}
 use Rattle.core_state.specs.declared.state.Core.{Core}
 use Rattle.store_history.specs.Answered.{fault_after, fault_in}
 use Rattle.store_history.specs.Foreign.{IsForeign}
+use Rattle.core_state.specs.Upkeeps.{touches_kept}
 use Rattle.core_state.specs.Saving.{HasSaved, KeepsRest, LeavesBook, SavesBook, text_of_book}
 use Rattle.lane.specs.Entries.{has_kind}
+use Rattle.pbs_server.specs.AtRest.{SaveLeaves}
 use Rattle.pbs_server.specs.Saving.{EndsSaved, saving_of}
 
 -- ---- what the saving came to
@@ -31,6 +33,9 @@ failed_none e = cc
 
 failed_want : Some NoMemory ≡ Some Failed → ⊥
 failed_want e = cc
+
+none_told : (e : DiskError) → IsErrOf (saving_of None) e → ⊥
+none_told e is = cc
 
 -- the disk failed in it
 pub saving_failed : (o : Option DiskError) → IsErrOf (saving_of o) Failed → o ≡ Some Failed
@@ -73,6 +78,7 @@ module _ {D E C : Type 0} (d : Ghosts D) (old new : Core D E C) where
     serves = record { kept = serves.kept; count = serves.count; cause = λ is. absurd (failed_none is) };
     later = later_by crash;
     crash = crash;
+    wanting = unchanged;
     saved = λ _. saved;
     foreign = λ honest calm. installed_foreign saved honest;
     history = history;
@@ -83,6 +89,7 @@ module _ {D E C : Type 0} (d : Ghosts D) (old new : Core D E C) where
     serves = record { kept = serves.kept; count = serves.count; cause = λ is. absurd (failed_want is) };
     later = later_by crash;
     crash = crash;
+    wanting = unchanged;
     saved = λ _. saved;
     foreign = λ honest calm q own. ap (λ m. get m q) ((unchanged refl).0 honest);
     history = history;
@@ -93,6 +100,7 @@ module _ {D E C : Type 0} (d : Ghosts D) (old new : Core D E C) where
     serves = record { kept = serves.kept; count = serves.count; cause = λ is. serves.cause refl };
     later = later_by crash;
     crash = crash;
+    wanting = unchanged;
     saved = λ _. saved;
     foreign = λ honest calm. absurd (calm refl);
     history = history;
@@ -114,6 +122,7 @@ not_tried d core failed = record {
   serves = record { kept = (λ h. h, λ h. h); count = omega arith; cause = λ is. absurd (failed_none is) };
   later = omega arith;
   crash = inl refl;
+  wanting = λ is. absurd (none_told NoMemory is);
   saved = λ none. absurd (some_none core.fault failed none);
   foreign = λ honest calm q own. refl;
   history = record {
@@ -130,7 +139,7 @@ not_tried d core failed = record {
 
 -- ---- after an entry of kind 5 the disk has failed
 
-first_some : (place : ℕ) (o : Option ℕ) → IsSome (first_fault place o)
+pub first_some : (place : ℕ) (o : Option ℕ) → IsSome (first_fault place o)
 first_some place None = refl
 first_some place (Some first) = refl
 
@@ -161,13 +170,6 @@ no_five place (v ∷ vs) none =
     let both = neither (kind v == FAULT_KIND) (has_kind 5 (entries vs)) none in
     ap (λ b. fault_in (place + 1) (if b then first_fault place None else None) vs) both.0 ∙ no_five (place + 1) vs both.1
 
--- then the book that was saved is there
-pub book_of : {D E C : Type 0} (d : Ghosts D) (old new : Core D E C) (not_saved : Option DiskError) → EndsSaved d old new not_saved → old.fault ≡ None → not_saved ≡ None → d.honest (old.parts).disk
-    → (m : ℕ) → old.last ≡ m → HasBookOf (d.content (new.parts).disk) m
-book_of d old new not_saved ends none is honest m last =
-    let s : HasSaved d old new = subst (λ o. OnOk (saving_of o) (HasSaved d old new)) is (ends.saved none) in
-    (as_of old.last (old.upkeep).book, ap (λ files. get files book_name) (s.content honest) ∙ installed_name (d.content (old.parts).disk) book_name (text_of_book old), last)
-
 -- so the book was not saved
 pub halted_by : {P : Type 0} (o : Option ℕ) → IsSome o → IfSome o (λ _. P) → P
 halted_by None some p = absurd (false_true some)
@@ -175,3 +177,26 @@ halted_by None some p = absurd (false_true some)
     false_true : false ≡ true → ⊥
     false_true e = cc
 halted_by (Some place) some p = p
+
+-- what it leaves, by the order of a run and its last moment
+pub save_leaves : {D E C : Type 0} (d : Ghosts D) (old new : Core D E C) (order : List Entry) (not_saved : Option DiskError) → EndsSaved d old new not_saved
+    → (has_kind 5 order ≡ true → IsSome old.fault) → (has_kind 5 order ≡ false → old.fault ≡ None) → NoneAfter (old.upkeep).book old.last → (m : ℕ) → old.last ≡ m
+    → SaveLeaves d order not_saved m (touches_kept old.upkeep) (old.parts).disk (new.parts).disk
+save_leaves {D} {E} {C} d old new order not_saved ends failed calm early m last = record {
+  book = as_of old.last (old.upkeep).book;
+  moment_is = last;
+  touches_are = λ x. refl;
+  early = early;
+  halted = λ five.
+      let both : (new ≡ old) × (not_saved ≡ None) = halted_by old.fault (failed five) ends.halted in
+      (ap (λ (c : Core D E C). (c.parts).disk) both.0, both.1);
+  serves = ends.serves;
+  later = ends.later;
+  leaves = ends.crash;
+  wanting = ends.wanting;
+  fits = λ five none. (has five none).fits;
+  saved = λ five none. (has five none).content;
+}
+  where
+    has : has_kind 5 order ≡ false → not_saved ≡ None → HasSaved d old new
+    has five is = subst (λ o. OnOk (saving_of o) (HasSaved d old new)) is (ends.saved (calm five))

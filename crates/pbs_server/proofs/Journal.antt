@@ -77,6 +77,10 @@ module _ {D E : Type 0} (d : Ghosts D) (e : Ghosts E) (disk : D) (remote : Optio
           told = h.told;
           opened = h.opened;
           was_opened = h.was_opened;
+          at_rest = h.at_rest;
+          touches = h.touches;
+          rests = h.rests;
+          saves = h.saves;
           since_is = h.since_is;
           plain = h.plain;
           stops = h.stops;
@@ -92,9 +96,7 @@ module _ {D E : Type 0} (d : Ghosts D) (e : Ghosts E) (disk : D) (remote : Optio
           order = h.order;
           save = h.save;
           faults = h.faults;
-          rests = h.rests;
           kept = h.kept;
-          saved = h.saved;
           not_opened = h.not_opened;
         }
 

@@ -7,6 +7,7 @@ pub mod Statuses
 pub mod Endings
 pub mod Causes
 pub mod BookSaved
+pub mod ActByAct
 pub mod Leaving
 pub mod Running
 pub mod Rules

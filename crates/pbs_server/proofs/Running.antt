@@ -1,8 +1,10 @@
 -- Sessions on a core that came of an opened one: the history that it came to, and what was entered.
 use Rattle.disk_trait.specs.declared.disk.Disk.{Ghosts}
+use Rattle.disk_trait.specs.declared.disk.DiskError.{DiskError}
 use Rattle.disk_trait.specs.Disk.{Rose}
-use Rattle.std.proofs.Common.{◌≡◌, ◌≤◌, ◌<◌, ◌+◌, ℕ, true, List, [], ◌∷◌, length, Option, None, IsSome, refl, sym, ap, subst, ◌∙◌, arith, ◌↔◌}
-use Rattle.std.specs.List.{All}
+use Rattle.std.proofs.Common.{◌≡◌, ◌≤◌, ◌<◌, ◌+◌, ℕ, Bool, true, false, List, [], ◌∷◌, map, length, Option, None, Some, IsSome, refl, sym, ap, subst, ◌∙◌, arith, ◌↔◌}
+use Rattle.std.specs.Prelude.{is_some}
+use Rattle.std.specs.List.{All, last_or}
 use Rattle.std.proofs.lemmas.List.{length-map}
 use Rattle.std.proofs.lemmas.List.Elements.{All-nil, All-cons}
 use Rattle.port_traits.specs.declared.clock.Clock as clocks
@@ -11,24 +13,29 @@ use Rattle.port_traits.specs.declared.sink.Sink as sinks
 use Rattle.store_types.specs.declared.order.Entry.{Entry}
 use Rattle.store_history.specs.declared.act.Event.{Event}
 use Rattle.store_history.specs.History.{Opening, entry, entries, kind, moment}
+use Rattle.store_history.specs.Legal.{moment_after}
 use Rattle.store_history.specs.Woven.{AreLanes}
 use Rattle.core_state.specs.declared.state.Core.{Core}
 use Rattle.store_history.specs.Answered.{fault_after, AreKept}
 use Rattle.core_state.specs.History.{History, began}
 use Rattle.core_state.specs.Records.{Reaches, Records}
 use Rattle.store_history.specs.RemoteDisk.{failed_reads, faults_of}
-use Rattle.core_opening.specs.Opening.{RecordsOpened}
+use Rattle.core_state.specs.Upkeeps.{touches_kept}
+use Rattle.core_opening.specs.Opening.{HasBook, RecordsOpened}
 use Rattle.seat_history.specs.Lanes.{LastsAreWants}
-use Rattle.shared_store.specs.Comes.{IsFresh, with_events, last_calls}
+use Rattle.shared_store.specs.Comes.{IsFresh, WereDone, with_events, last_calls}
 use Rattle.store_history.specs.declared.port.LaneReport.{LaneReport}
 use Rattle.store_history.specs.declared.port.Port.{Port}
 use Rattle.lane.specs.Entries.{has_kind}
 use Rattle.lane.proofs.Caused.{rose_later}
 use Rattle.lane.specs.Together.{RanTogether}
 use Rattle.pbs_server.specs.declared.status.Status.TheVariants as statuses
+use Rattle.pbs_server.specs.AtRest.{ActsLeave, SaveLeaves}
 use Rattle.pbs_server.specs.Causes.{IsOrder}
+use Rattle.pbs_server.specs.Saving.{EndsSaved}
 use Rattle.pbs_server.specs.Statuses.{endings_of, some_tells}
-use Rattle.pbs_server.proofs.BookSaved.{five_fails}
+use Rattle.pbs_server.proofs.ActByAct.{all_done}
+use Rattle.pbs_server.proofs.BookSaved.{five_fails, no_five, save_leaves}
 use Rattle.pbs_server.proofs.Lanes.{wants_entered}
 
 -- ---- the core that was opened
@@ -51,6 +58,11 @@ lasts_are : (place : ℕ) (fault : Option ℕ) (before : ℕ) (es : List Event) 
 lasts_are place fault before [] kept = tt
 lasts_are place fault before (v ∷ vs) kept = ((kept.0).last, lasts_are (place + 1) (fault_after place (kind v) fault) (moment v) vs kept.1)
 
+-- the last of the numbers beside the entries
+last_called : (calls : ℕ) (es : List Event) → last_or (Some calls) (map (λ e. e.calls) es) ≡ Some (last_calls calls es)
+last_called calls [] = refl
+last_called calls (v ∷ vs) = last_called v.calls vs
+
 -- a count that rose before is risen still
 rose_still : (a b c : ℕ) → Rose a b → b ≤ c → Rose a c
 rose_still a b c rose le = omega (arith, rose, le)
@@ -69,21 +81,47 @@ module _ {D E C S K : Type 0} (d : Ghosts D) (e : Ghosts E) (clock : clocks.Ghos
   no_entries : (first.journal).entries.items ≡ []
   no_entries = begun.entries ∙ ap entries none
 
-  -- the disk is as honest, and was called as often as the last of the run's events tells
+  -- the disk is as honest
   pub kept : d.honest (first.parts).disk ↔ d.honest (core.parts).disk
   kept = subst (λ (c : Core D E C). d.honest (c.parts).disk ↔ d.honest (core.parts).disk) (x.comes).is (x.comes).kept
-
-  pub rests : d.calls (core.parts).disk ≡ last_calls (d.calls (first.parts).disk) x.events
-  rests = (x.comes).at_rest ∙ ap (λ (c : Core D E C). last_calls (d.calls (c.parts).disk) x.events) (x.comes).is
 
   -- the disk's count of faults never falls, and an entry of kind 5 comes only where it rose
   pub count : d.faults (first.parts).disk ≤ d.faults (core.parts).disk
   count = subst (λ (c : Core D E C). d.faults (c.parts).disk ≤ d.faults (core.parts).disk) (x.comes).is (x.comes).count
 
+  told : {order : List Entry} {b : Bool} → order ≡ (core.journal).entries.items → has_kind 5 order ≡ b → has_kind 5 (entries x.events) ≡ b
+  told entries_are five = sym (ap (has_kind 5) (entries_are ∙ (reached.records).entries)) ∙ five
+
   fails : has_kind 5 (entries x.events) ≡ true → Rose (d.faults (first.parts).disk) (d.faults (core.parts).disk)
   fails five =
       subst (λ (c : Core D E C). Rose (d.faults (c.parts).disk) (d.faults (core.parts).disk)) (x.comes).is
       ((x.comes).fault (subst (λ (o : Option ℕ). IsSome o) (sym (reached.records).fault) (five_fails 0 None x.events five)))
+
+  -- as the last act was answered, each act has done what it does to the disk
+  pub rests : (order : List Entry) (calls : List ℕ) → order ≡ (core.journal).entries.items → calls ≡ (core.journal).calls.items
+      → first.fault ≡ None → (d.honest (first.parts).disk → HasBook d first)
+      → ActsLeave d (first.parts).disk x.events order calls (core.parts).disk (touches_kept core.upkeep)
+  rests order calls entries_are calls_are unfailed booked = record {
+    before = touches_kept first.upkeep;
+    book = λ honest. (first.upkeep, booked honest, refl);
+    each = all_done d e clock first core x.events false (sym (ap is_some unfailed))
+        (subst (λ (c : Core D E C). WereDone d e clock c x.events core) (x.comes).is (x.comes).done);
+    calls_are =
+        ap (last_or (Some (d.calls (first.parts).disk))) (calls_are ∙ (reached.records).calls)
+        ∙ last_called (d.calls (first.parts).disk) x.events
+        ∙ sym (ap (λ n. Some n) ((x.comes).at_rest ∙ ap (λ (c : Core D E C). last_calls (d.calls (c.parts).disk) x.events) (x.comes).is));
+    serves = record { kept = kept; count = count; cause = λ five. fails (told entries_are five) };
+  }
+
+  -- and then the book was saved
+  pub saves : (saved : Core D E C) (order : List Entry) (not_saved : Option DiskError) → order ≡ (core.journal).entries.items → EndsSaved d core saved not_saved
+      → SaveLeaves d order not_saved (moment_after (h.opening).moment x.events) (touches_kept core.upkeep) (core.parts).disk (saved.parts).disk
+  saves saved order not_saved entries_are ends =
+      let r = reached.records in
+      save_leaves d core saved order not_saved ends
+      (λ five. subst (λ (o : Option ℕ). IsSome o) (sym r.fault) (five_fails 0 None x.events (told entries_are five)))
+      (λ none. r.fault ∙ no_five 0 x.events (told entries_are none))
+      r.early (moment_after (h.opening).moment x.events) r.last
 
   -- where a lane ended by want of memory, the order has an entry of it
   pub memory : some_tells statuses.NoMemory (endings_of reports) ≡ true → has_kind 2 (entries x.events) ≡ true

@@ -1,28 +1,27 @@
 -- Sessions that were served are answered as by the plain store.
 use Rattle.disk_trait.specs.declared.disk.Disk.{Ghosts}
 use Rattle.disk_trait.specs.declared.disk.DiskError.{DiskError}
-use Rattle.std.proofs.Common.{◌≡◌, ◌≤◌, ◌↔◌, ℕ, zero, suc, true, false, ◌==◌, ◌⊎◌, inl, inr, List, [], ◌∷◌, ◌++◌, map, length, Option, Some, None, is_some, IfSome, IsSome, IsTrue, Result, Ok, OnOk, refl, sym, ap, subst, ◌∙◌, arith}
+use Rattle.std.proofs.Common.{◌≡◌, ◌≤◌, ℕ, zero, suc, true, false, ◌==◌, ◌⊎◌, inl, inr, List, [], ◌∷◌, ◌++◌, map, length, Option, Some, None, is_some, IfSome, IsTrue, Result, Ok, OnOk, refl, sym, ap, subst, ◌∙◌, arith}
 use Rattle.std.specs.FinMap.{get}
 use Rattle.port_traits.specs.declared.sink.Sink as sinks
 use Rattle.port_traits.specs.declared.source.Source as sources
 use Rattle.port_traits.specs.Readings.{Readings}
 use Rattle.disk_trait.specs.Files.{Files}
-use Rattle.std.specs.List.{All, last_or}
+use Rattle.std.specs.List.{All}
 use Rattle.store_types.specs.Names.{IsKey}
 use Rattle.store_types.specs.declared.order.Entry.{Entry}
 use Rattle.store_types.specs.declared.order.TheConstants.{FAULT_KIND}
 use Rattle.store_files.specs.Archive.{Snapshot}
-use Rattle.store_files.specs.Folder.{IsDigest, chunk_name}
 use Rattle.store_model.specs.Clash.{NoClash, chunk_pieces}
 use Rattle.store_model.specs.Load.{load}
 use Rattle.store_model.specs.Stands.{StandsFor as Stands}
 use Rattle.store_model.specs.AdminSteps.{list_row}
 use Rattle.store_model.specs.Store.{Store}
 use Rattle.store_model.specs.Weave.{Woven, weave}
-use Rattle.core_state.specs.Saving.{text_of_book}
 use Rattle.store_history.specs.declared.act.Event.{Event}
 use Rattle.store_history.specs.History.{Opening, World, opened, after, after_all, moved, entries, sent, kind, kind_of, EntryKind, step_kind, pass_kind, short_kind, start_kind, close_kind, fault_kind, end_kind, remote_kind, no_kind}
 use Rattle.store_history.specs.LaneRun.{plain_text}
+use Rattle.store_history.specs.LastTouches.{LastTouches}
 use Rattle.store_history.proofs.Whole.{served_woven}
 use Rattle.store_history.specs.Legal.{IsTimed, moment_after, readings_left}
 use Rattle.store_history.specs.Remote.{IsRemote}
@@ -35,7 +34,6 @@ use Rattle.core_state.specs.declared.kept.Listed.{Listed}
 use Rattle.core_state.specs.declared.state.Core.{Core}
 use Rattle.core_state.specs.History.{History, StandsFor, began, world}
 use Rattle.core_state.specs.KeepsTouches.{KeepsTouches, touches_of_history}
-use Rattle.store_history.specs.ChunkFiles.{HoldsOnly}
 use Rattle.store_history.specs.Foreign.{IsForeign}
 use Rattle.core_state.specs.Records.{Records, Reaches, Starts, opened_with}
 use Rattle.store_history.specs.RemoteDisk.{ReadNoRemote}
@@ -43,14 +41,15 @@ use Rattle.core_state.specs.Recovers.{Recovers, TellsMoments}
 use Rattle.snapshot_files.specs.Leaving.{IsFileOf, IsLeaving, Cleans}
 use Rattle.core_opening.specs.Opening.{HasBook, TouchesOpened, RecoversOpened, StandsOpened}
 use Rattle.store_history.specs.Opened.{opening_of}
-use Rattle.shared_store.specs.Comes.{with_events, last_calls}
+use Rattle.shared_store.specs.Comes.{with_events}
 use Rattle.store_history.specs.declared.port.LaneReport.{LaneReport}
 use Rattle.store_history.specs.declared.port.Port.{Port}
 use Rattle.lane.specs.Entries.{has_kind}
 use Rattle.lane.specs.Served.{EachRan, RanAs, Run}
 use Rattle.pbs_server.specs.Causes.{NoDiskFault}
 use Rattle.pbs_server.specs.Ended.{rows_of}
-use Rattle.pbs_server.specs.Headline.{HasBookOf, HasTold, IsBeside, IsPlain, SavesSince, StopsLeave, inputs_of, told_by}
+use Rattle.pbs_server.specs.AtRest.{ActsLeave, HoldsStore, SaveLeaves}
+use Rattle.pbs_server.specs.Headline.{HasTold, IsBeside, IsPlain, StopsLeave, inputs_of, told_by}
 use Rattle.pbs_server.specs.Saving.{EndsSaved, saving_of}
 use Rattle.pbs_server.specs.Statuses.{endings_of}
 use Rattle.pbs_server.proofs.Acknowledged.{found_after}
@@ -59,7 +58,7 @@ use Rattle.pbs_server.proofs.Remotes.{beside_first, beside_list, beside_there, l
 use Rattle.pbs_server.proofs.Rows.{rows_shown}
 use Rattle.pbs_server.proofs.Rules.{kept_rules}
 use Rattle.pbs_server.proofs.Tests.{neither}
-use Rattle.pbs_server.proofs.BookSaved.{book_of, five_fails, no_five, halted_by, saving_failed}
+use Rattle.pbs_server.proofs.BookSaved.{saving_failed}
 
 -- only a fault's entry leaves a fault
 moved_fault : (R : Option (List Snapshot)) (w : World) (k m : ℕ) (a : Rattle.store_history.specs.declared.act.Act.Act) (x : EntryKind) → (x ≡ fault_kind → ⊥) → (moved R w k m a x).fault ≡ w.fault
@@ -155,46 +154,41 @@ woven_is : {E : Type 0} (r : Result Woven E) (v w : Woven) → r ≡ Ok v → r 
 woven_is r v w a b = let both : Ok v ≡ Ok w = sym a ∙ b in cc
 
 -- the plain store's answers give one
-same_store : (o : Opening) (R : Option (List Snapshot)) (since now : ℕ) (is_honest : Type 0) (runs : List Run) (events : List Event) (order : List Entry) (not_saved : Option DiskError) (reports : List LaneReport) (before files : Files)
-    (p : IsPlain o R since now is_honest runs events order not_saved reports before files) (s : Store)
+same_store : (o : Opening) (R : Option (List Snapshot)) (since now : ℕ) (is_honest : Type 0) (runs : List Run) (events : List Event) (order : List Entry) (not_saved : Option DiskError) (reports : List LaneReport) (before at_rest files : Files)
+    (p : IsPlain o R since now is_honest runs events order not_saved reports before at_rest files) (s : Store)
     → weave (load before) R order (inputs_of runs) (endings_of reports) ≡ Ok (record { store = s; replies = map plain_text (told_by runs) }) → s ≡ p.store
-same_store o R since now is_honest runs events order not_saved reports before files p s is =
+same_store o R since now is_honest runs events order not_saved reports before at_rest files p s is =
     ap (λ (w : Woven). w.store) (woven_is (weave (load before) R order (inputs_of runs) (endings_of reports)) (record { store = s; replies = map plain_text (told_by runs) })
     (record { store = p.store; replies = map plain_text (told_by runs) }) is p.woven)
 
--- the last of the numbers beside the entries
-last_called : (calls : ℕ) (es : List Event) → last_or (Some calls) (map (λ e. e.calls) es) ≡ Some (last_calls calls es)
-last_called calls [] = refl
-last_called calls (v ∷ vs) = last_called v.calls vs
-
 -- what the sessions did on any disk, and on an honest one, which was opened at a moment; and the snapshots that the core then keeps
-pub record HasBoth {D E S K : Type 0} (d : Ghosts D) (e : Ghosts E) (source : sources.Ghosts S) (sink : sinks.Ghosts K) (clock : Option Readings) (remote remote' : Option E) (start : ℕ) (disk opened last : D)
-    (old new : List (Port S K)) (order : List Entry) (calls : List ℕ) (not_saved : Option DiskError) (reports : List LaneReport) (listed : List Listed) : Type 0 where
+pub record HasBoth {D E S K : Type 0} (d : Ghosts D) (e : Ghosts E) (source : sources.Ghosts S) (sink : sinks.Ghosts K) (clock : Option Readings) (remote remote' : Option E) (start : ℕ) (disk opened at_rest last : D)
+    (old new : List (Port S K)) (order : List Entry) (calls : List ℕ) (not_saved : Option DiskError) (reports : List LaneReport) (listed : List Listed) (touches : LastTouches) : Type 0 where
   pub told : HasTold clock source sink old new order calls reports
+  pub rests : ActsLeave d opened told.events order calls at_rest touches
+  pub saves : SaveLeaves d order not_saved (moment_after told.since told.events) touches at_rest last
   pub since_is : d.honest disk → told.since ≡ (saved_book (d.content opened)).moment
-  pub halted : has_kind 5 order ≡ true → not_saved ≡ None
-  pub rests : SavesSince d (last_or (Some (d.calls opened)) calls) last
-  pub saved : d.honest disk → has_kind 5 order ≡ false → not_saved ≡ None → HasBookOf (d.content last) (moment_after told.since told.events)
   pub plain : (L : List Snapshot) (R : Option (List Snapshot)) → IsBeside e remote R told.events → d.honest disk → Stands (d.content disk) L → NoClash (chunk_pieces (d.content disk) ++ sent told.events)
-      → IsPlain (opening_of d disk opened L) R told.since (d.calls last) (d.honest last) told.runs told.events order not_saved reports (d.content disk) (d.content last)
+      → IsPlain (opening_of d disk opened L) R told.since (d.calls last) (d.honest last) told.runs told.events order not_saved reports (d.content disk) (d.content at_rest) (d.content last)
   pub stops : (L : List Snapshot) (R : Option (List Snapshot)) → IsBeside e remote R told.events → d.honest disk → Stands (d.content disk) L → NoClash (chunk_pieces (d.content disk) ++ sent told.events)
       → StopsLeave d start last R (opening_of d disk opened L) told.events
   pub unread : ReadNoRemote told.events → remote' ≡ remote
   pub rows : (L : List Snapshot) (R : Option (List Snapshot)) → IsBeside e remote R told.events → d.honest disk → Stands (d.content disk) L → NoClash (chunk_pieces (d.content disk) ++ sent told.events)
-      → (p : IsPlain (opening_of d disk opened L) R told.since (d.calls last) (d.honest last) told.runs told.events order not_saved reports (d.content disk) (d.content last))
+      → (p : IsPlain (opening_of d disk opened L) R told.since (d.calls last) (d.honest last) told.runs told.events order not_saved reports (d.content disk) (d.content at_rest) (d.content last))
       → rows_of listed ≡ map list_row (p.store).snapshots
 
 pub has_both : {D E C S K : Type 0} (d : Ghosts D) (e : Ghosts E) (source : sources.Ghosts S) (sink : sinks.Ghosts K) (readings : C → Option Readings) (clock : C) (disk : D) (remote : Option E) (first core saved : Core D E C)
-    (old new : List (Port S K)) (order : List Entry) (calls : List ℕ) (not_saved : Option DiskError) (reports : List LaneReport) (runs : List Run) (events : List Event) (last : D)
+    (old new : List (Port S K)) (order : List Entry) (calls : List ℕ) (not_saved : Option DiskError) (reports : List LaneReport) (runs : List Run) (events : List Event) (last : D) (touches : LastTouches)
+    → ActsLeave d (first.parts).disk events order calls (core.parts).disk touches → SaveLeaves d order not_saved (moment_after first.last events) touches (core.parts).disk last
     → TellsMoments d → first.remote ≡ remote → StandsOpened d readings disk clock first → TouchesOpened d readings disk clock first → (recovers : RecoversOpened d readings disk clock first)
     → first.last ≡ (first.upkeep).book.moment → (d.honest disk → HasBook d first)
     → (d.honest disk → Cleans (d.content disk) (d.content (first.parts).disk))
     → Reaches d e readings first (began (opening_at d disk first []) None (readings clock)) core (with_events (began (opening_at d disk first []) None (readings clock)) events)
     → AreLanes (length old) events → EachRan (RanAs source sink) 0 old new reports runs events
-    → EndsSaved d core saved not_saved → (d.honest disk → d.honest (core.parts).disk) → d.calls (core.parts).disk ≡ last_calls (d.calls (first.parts).disk) events
+    → EndsSaved d core saved not_saved
     → order ≡ (saved.journal).entries.items → calls ≡ (saved.journal).calls.items → last ≡ (saved.parts).disk
-    → HasBoth d e source sink (readings clock) remote core.remote (recovers.opens).start disk (first.parts).disk last old new order calls not_saved reports (saved.parts).catalogue.listed
-has_both d e source sink readings clock disk remote first core saved old new order calls not_saved reports runs events last moments handed opens touches recovers last_is booked cleaned reaches lanes each ends kept at_rest order_as calls_as disk_as = record {
+    → HasBoth d e source sink (readings clock) remote core.remote (recovers.opens).start disk (first.parts).disk (core.parts).disk last old new order calls not_saved reports (saved.parts).catalogue.listed touches
+has_both {D = D} {E = E} {C = C} d e source sink readings clock disk remote first core saved old new order calls not_saved reports runs events last touches rests saves moments handed opens booking recovers last_is booked cleaned reaches lanes each ends order_as calls_as disk_as = record {
   told = record {
     runs = runs;
     events = events;
@@ -207,26 +201,15 @@ has_both d e source sink readings clock disk remote first core saved old new ord
     order_is = order_is;
     calls_are = calls_as ∙ ap (λ x. (x.journal).calls.items) ends.rest ∙ r.calls;
   };
+  rests = rests;
+  saves = saves;
   since_is = λ honest. last_is ∙ ((booked honest).keeps).read;
-  halted = λ five.
-      let failed : IsSome core.fault = subst (λ (o : Option ℕ). IsSome o) (sym r.fault) (five_fails 0 None events (sym (ap (has_kind 5) order_is) ∙ five)) in
-      let both : (saved ≡ core) × (not_saved ≡ None) = halted_by core.fault failed ends.halted in
-      both.1;
-  rests = subst (SavesSince d (last_or (Some (d.calls (first.parts).disk)) calls)) (sym disk_as) (record {
-    rested = (core.parts).disk;
-    calls_are = ap (last_or (Some (d.calls (first.parts).disk))) (calls_as ∙ ap (λ x. (x.journal).calls.items) ends.rest ∙ r.calls) ∙ last_called (d.calls (first.parts).disk) events ∙ ap (λ n. Some n) (sym at_rest);
-    later = ends.later;
-    text = text_of_book core;
-    leaves = ends.crash;
-  });
-  saved = λ honest five none. subst (λ x. HasBookOf (d.content x) (moment_after first.last events)) (sym disk_as)
-      (book_of d core saved not_saved ends (r.fault ∙ no_five 0 events (sym (ap (has_kind 5) order_is) ∙ five)) none (kept honest) (moment_after first.last events) r.last);
   plain = λ L R beside honest stands clear.
       let there = ap is_some handed ∙ beside_there e remote R events beside in
       let at = last_at L R there honest stands in
       let starts = begins L R at there honest stands in
       let shows = beside_first e remote first.remote R events reaches.since handed reaches.behind beside in
-      subst (λ o. IsPlain o R first.last (d.calls last) (d.honest last) runs events order not_saved reports (d.content disk) (d.content last)) (sym (is_opening L at))
+      subst (λ o. IsPlain o R first.last (d.calls last) (d.honest last) runs events order not_saved reports (d.content disk) (d.content (core.parts).disk) (d.content last)) (sym (is_opening L at))
       (plain L R at (beside_list e remote R events beside) (list_keys (d.content disk) L stands) (loaded (d.content disk) L stands) (reaches.stands L R starts shows clear)
       (reaches.touches L R starts shows clear)
       (λ none q own. reaches.foreign L R starts shows clear none q own ∙ foreign_cleaned _ _ (cleaned honest) q own));
@@ -252,7 +235,7 @@ has_both d e source sink readings clock disk remote first core saved old new ord
       ap (λ x. rows_of (x.parts).catalogue.listed) ends.rest
       ∙ rows_shown (core.parts).catalogue.listed (world (history L R)).store (s.shows).catalogue ((s.shows).sound).each
       ∙ ap (λ (t : Store). map list_row t.snapshots)
-      (same_store (opening_of d disk (first.parts).disk L) R first.last (d.calls last) (d.honest last) runs events order not_saved reports (d.content disk) (d.content last) p (world (history L R)).store is);
+      (same_store (opening_of d disk (first.parts).disk L) R first.last (d.calls last) (d.honest last) runs events order not_saved reports (d.content disk) (d.content (core.parts).disk) (d.content last) p (world (history L R)).store is);
 }
   where
     opening : List Snapshot → Opening
@@ -271,7 +254,7 @@ has_both d e source sink readings clock disk remote first core saved old new ord
         → Starts d readings first (opened_with L R (began (opening_at d disk first []) None (readings clock)))
     begins L R at there honest stands = record {
       stands = subst (λ o. StandsFor d readings first (began o R (readings clock))) (is_opening L at) (opens L R there honest stands);
-      touches = subst (λ o. KeepsTouches d first (began o R (readings clock))) (is_opening L at) (touches L R honest stands);
+      touches = subst (λ o. KeepsTouches d first (began o R (readings clock))) (is_opening L at) (booking L R honest stands);
     }
 
     r : Records readings core (with_events (began (opening []) None (readings clock)) events)
@@ -317,28 +300,36 @@ has_both d e source sink readings clock disk remote first core saved old new ord
     plain : (L : List Snapshot) (R : Option (List Snapshot)) → first.last ≡ (saved_book (d.content disk)).moment → IsRemote R → All (λ x. IsKey x.key) L → load (d.content disk) ≡ L
         → StandsFor d readings core (history L R) → KeepsTouches d core (history L R)
         → (core.fault ≡ None → (q : List ℕ) → IsForeign q → get (d.content (core.parts).disk) q ≡ get (d.content disk) q)
-        → IsPlain (opening L) R first.last (d.calls last) (d.honest last) runs events order not_saved reports (d.content disk) (d.content last)
+        → IsPlain (opening L) R first.last (d.calls last) (d.honest last) runs events order not_saved reports (d.content disk) (d.content (core.parts).disk) (d.content last)
     plain L R at beside keys loads s m foreign =
         let h = history L R in
         record {
           store = (world h).store;
           woven = woven L R beside keys loads s;
           legal = s.legal;
-          collected = record {
-            is_swept = m.is_swept;
-            left = λ unfailed. subst (λ x. (n : List ℕ) → IsDigest n → IsSome (get (d.content x) (chunk_name n)) ↔ IsSome ((swept R (opening L) events).touches.last n)) (sym disk_as)
-                ((minded_later L R s m unfailed).present (ap (λ x. x.fault) ends.rest ∙ s.fault ∙ calm L R unfailed.acts));
-          };
+          collected = m.is_swept;
           since_is = at;
           reached = subst (λ x. (world h).calls ≤ d.calls x) (sym disk_as) (le_more (world h).calls (d.calls (core.parts).disk) (d.calls (saved.parts).disk) s.reached ends.later);
           honest = subst d.honest (sym disk_as) ((ends.serves).kept.0 s.honest);
-          stands = λ unfailed. subst (λ x. Stands (d.content x) (world h).store.snapshots) (sym disk_as) ((later L R s unfailed).files (calm L R unfailed.acts)).snapshots;
-          chunks = λ unfailed. subst (λ x. HoldsOnly (d.content x) (chunk_pieces (d.content disk) ++ sent events)) (sym disk_as) ((later L R s unfailed).chunks (calm L R unfailed.acts));
+          rested = λ five. holds core s m (calm L R five) (s.fault ∙ calm L R five) (foreign (s.fault ∙ calm L R five));
+          holds = λ unfailed.
+              let none : (world h).fault ≡ None = calm L R unfailed.acts in
+              subst (λ x. HoldsStore (world h).store (chunk_pieces (d.content disk) ++ sent events) (swept R (opening L) events).touches (d.content disk) (d.content x)) (sym disk_as)
+              (holds saved (later L R s unfailed) (minded_later L R s m unfailed) none (ap (λ x. x.fault) ends.rest ∙ s.fault ∙ none)
+              (λ q own. ends.foreign s.honest unfailed.saving q own ∙ foreign (s.fault ∙ none) q own));
           book = λ is saved_is.
               let held : OnOk (saving_of not_saved) (HoldsBook (d.content (saved.parts).disk) core.last (touches_of_history h)) = (ends.history).holds readings h (s.fault ∙ calm L R is) s m in
               let kept : HoldsBook (d.content (saved.parts).disk) core.last (touches_of_history h) = subst (λ o. OnOk (saving_of o) (HoldsBook (d.content (saved.parts).disk) core.last (touches_of_history h))) saved_is held in
               subst (λ x. HoldsBook (d.content x) (moment_after first.last events) (swept R (opening L) events).touches) (sym disk_as)
               (subst (λ n. HoldsBook (d.content (saved.parts).disk) n (swept R (opening L) events).touches) r.last kept);
-          foreign = λ unfailed q own.
-              ap (λ x. get (d.content x) q) disk_as ∙ ends.foreign s.honest unfailed.saving q own ∙ foreign (s.fault ∙ calm L R unfailed.acts) q own;
+        }
+      where
+        holds : (c : Core D E C) → StandsFor d readings c (history L R) → KeepsTouches d c (history L R) → (world (history L R)).fault ≡ None → c.fault ≡ None
+            → ((q : List ℕ) → IsForeign q → get (d.content (c.parts).disk) q ≡ get (d.content disk) q)
+            → HoldsStore (world (history L R)).store (chunk_pieces (d.content disk) ++ sent events) (swept R (opening L) events).touches (d.content disk) (d.content (c.parts).disk)
+        holds c stands minds none unfailed same = record {
+          stands = (stands.files none).snapshots;
+          chunks = stands.chunks none;
+          left = minds.present unfailed;
+          foreign = same;
         }

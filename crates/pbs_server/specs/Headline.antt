@@ -3,7 +3,6 @@ use Rattle.disk_trait.specs.declared.disk.Disk.{Ghosts}
 use Rattle.disk_trait.specs.declared.disk.DiskError.{DiskError}
 use Rattle.disk_trait.specs.Disk.{Serves}
 use Rattle.std.specs.Prelude.{◌≡◌, ◌≢◌, ◌≤◌, ◌⊎◌, ℕ, false, List, [], ◌∷◌, ◌++◌, map, length, Option, Some, None, is_some, IfSome, IsTrue, Ok, ◌↔◌}
-use Rattle.std.specs.FinMap.{get}
 use Rattle.port_traits.specs.declared.sink.Sink as sinks
 use Rattle.port_traits.specs.declared.source.Source as sources
 use Rattle.port_traits.specs.Readings.{Readings}
@@ -17,20 +16,15 @@ use Rattle.store_model.specs.Load.{load}
 use Rattle.store_model.specs.Store.{Store}
 use Rattle.store_model.specs.Stands.{StandsFor}
 use Rattle.store_model.specs.Weave.{weave}
-use Rattle.disk_trait.specs.Effects.{LeavesBy}
-use Rattle.file_install.specs.Install.{Installs}
-use Rattle.store_files.specs.Book.{Book, book_text}
-use Rattle.std.specs.List.{last_or}
 use Rattle.store_history.specs.declared.act.Event.{Event}
 use Rattle.store_history.specs.History.{Opening, opened, after_all, entries, sent}
 use Rattle.store_history.specs.LaneRun.{plain_text}
+use Rattle.store_history.specs.LastTouches.{LastTouches}
 use Rattle.store_history.specs.Legal.{IsLegal, IsTimed, moment_after}
 use Rattle.store_history.specs.Remote.{IsRemote}
-use Rattle.store_history.specs.Saved.{HoldsBook, saved_book, book_name}
-use Rattle.store_history.specs.Sweeping.{swept}
+use Rattle.store_history.specs.Saved.{HoldsBook, saved_book}
+use Rattle.store_history.specs.Sweeping.{IsSwept, swept, swept_at}
 use Rattle.store_history.specs.Woven.{AreLanes}
-use Rattle.store_history.specs.ChunkFiles.{HoldsOnly}
-use Rattle.store_history.specs.Foreign.{IsForeign}
 use Rattle.store_history.specs.Answered.{AreKept}
 use Rattle.store_history.specs.RemoteDisk.{ReadNoRemote, RemoteStays, ShowsRemote, faults_of}
 use Rattle.snapshot_files.specs.Leaving.{MayClean, Cleans}
@@ -47,7 +41,7 @@ use Rattle.pbs_server.specs.declared.served.Served.{Served}
 use Rattle.pbs_server.specs.declared.status.Status.TheVariants as statuses
 use Rattle.pbs_server.specs.Acknowledged.{FoundAfter}
 use Rattle.pbs_server.specs.Causes.{IsOrder, SaveIsTold, NoDiskFault, HasCause}
-use Rattle.pbs_server.specs.Collections.{HasCollected}
+use Rattle.pbs_server.specs.AtRest.{ActsLeave, HoldsStore, SaveLeaves}
 use Rattle.pbs_server.specs.Statuses.{endings_of, first_of, run_facts, status_of_opening}
 
 -- the inputs of lanes, and what each told
@@ -81,32 +75,35 @@ pub record HasTold {S K : Type 0} (readings : Option Readings) (source : sources
   pub order_is : order ≡ entries events
   pub calls_are : calls ≡ map (λ e. e.calls) events
 
--- What opening did to a disk: up to a moment a crash leaves what it could before, and from it on only files that opening takes away are gone.
--- An honest disk lacks them all, and else it reads as before.
+-- What opening did to a disk, which did not fail in it: up to a moment a crash leaves what it could before, and from it on only files that
+-- opening takes away are gone. An honest disk lacks them all, and else it reads as before.
 pub record WasOpened {D : Type 0} (d : Ghosts D) (disk opened : D) : Type 0 where
+  pub serves : Serves d.honest d.faults disk opened ⊥
   pub opens : Opens d disk opened
   pub cleaned : d.honest disk → Cleans (d.content disk) (d.content opened)
 
 -- The plain store of whole archives, opened with what the disk is loaded as and asked by the sessions' commands in the returned order, each
 -- session's in its own, gives the bytes of the replies to each, but for the numbers in the reports of collections, and this last store. The
 -- answers are the plain store's, and a collection is a sweep and reports what it did. The disk is honest still, its count of calls is not below
--- the last entry's. Where it did not fail, what it holds stands for the last store's snapshots, its chunk files are of pieces that were there or
--- that a session sent, and what stood at names that are none of the store's stands there still. Where the book was saved, it is of the last
--- moment, and has the last touch of each chunk that is there.
+-- the last entry's. Where it did not fail, it holds the last store, once the last act was answered and at the end. Where the book was saved, it
+-- is of the last moment, and has the last touch of each chunk that is there.
 pub record IsPlain (opening : Opening) (remote : Option (List Snapshot)) (since now : ℕ) (is_honest : Type 0) (runs : List Run) (events : List Event)
-    (order : List Entry) (not_saved : Option DiskError) (reports : List LaneReport) (before files : Files) : Type 0 where
+    (order : List Entry) (not_saved : Option DiskError) (reports : List LaneReport) (before at_rest files : Files) : Type 0 where
   pub store : Store
   pub woven : weave (load before) remote order (inputs_of runs) (endings_of reports) ≡ Ok (record { store = store; replies = map plain_text (told_by runs) })
   pub legal : IsLegal remote (opened opening) events
-  pub collected : HasCollected remote opening events (NoDiskFault order not_saved) files
+  -- Each collection is a sweep, which began at its start. It marks and visits until the sweep is over, or memory was wanting, and then ends.
+  -- Where memory was not wanting, its reply is the report of the sweep: its start, its cutoff, how many chunks are used and how many pending,
+  -- and how many it took out.
+  pub collected : IsSwept remote (opened opening) (swept_at opening) events
   -- the last moment of the book that was saved before
   pub since_is : since ≡ (saved_book before).moment
   pub reached : (after_all remote (opened opening) events).calls ≤ now
   pub honest : is_honest
-  pub stands : NoDiskFault order not_saved → StandsFor files store.snapshots
-  pub chunks : NoDiskFault order not_saved → HoldsOnly files (chunk_pieces before ++ sent events)
+  -- what it holds, also where it failed in the save of the book
+  pub rested : has_kind 5 order ≡ false → HoldsStore store (chunk_pieces before ++ sent events) (swept remote opening events).touches before at_rest
+  pub holds : NoDiskFault order not_saved → HoldsStore store (chunk_pieces before ++ sent events) (swept remote opening events).touches before files
   pub book : has_kind 5 order ≡ false → not_saved ≡ None → HoldsBook files (moment_after since events) (swept remote opening events).touches
-  pub foreign : NoDiskFault order not_saved → (q : List ℕ) → IsForeign q → get files q ≡ get before q
 
 -- What a crash leaves of a moment since this one stands for the plain store's snapshots after the events that were answered by then, or after
 -- one more: of a moment without a fault before it, a front of the events with each that was answered. Among these each stands whole that was
@@ -119,19 +116,6 @@ StopsLeave d start disk remote opening events =
 abbrev pub IsBeside : {E : Type 0} → Ghosts E → Option E → Option (List Snapshot) → List Event → Type 0
 IsBeside e remote R events = ShowsRemote e remote R ⊎ (ReadNoRemote events × (is_some remote ≡ is_some R) × IsRemote R)
 
--- the folder has a book of this moment
-abbrev pub HasBookOf : Files → ℕ → Type 0
-HasBookOf files moment = (b : Book) × (get files book_name ≡ Some (book_text b)) × (b.moment ≡ moment)
-
--- All that was done to a disk since its count of calls was this is that the book was put, or was to be: what a crash leaves is of the disk as
--- it was then, or has this book.
-pub record SavesSince {D : Type 0} (d : Ghosts D) (calls : Option ℕ) (result : D) : Type 0 where
-  pub rested : D
-  pub calls_are : calls ≡ Some (d.calls rested)
-  pub later : d.calls rested ≤ d.calls result
-  pub text : List ℕ
-  pub leaves : LeavesBy d rested result (Installs (d.content rested) book_name text)
-
 -- The sessions of these ports were served at once.
 pub record HasServed {D E S K : Type 0} (d : Ghosts D) (e : Ghosts E) (source : sources.Ghosts S) (sink : sinks.Ghosts K) (readings : Option Readings) (disk : D) (remote : Option E)
     (old new : List (Port S K)) (reports : List LaneReport) (result : Served D E) : Type 0 where
@@ -140,13 +124,18 @@ pub record HasServed {D E S K : Type 0} (d : Ghosts D) (e : Ghosts E) (source : 
   -- the disk once it was opened, before the first command
   pub opened : D
   pub was_opened : WasOpened d disk opened
+  -- once the last act was answered, before the book was saved, with the last touches of its chunks then; and what was saved
+  pub at_rest : D
+  pub touches : LastTouches
+  pub rests : ActsLeave d opened told.events (result.order).items ((result.report).calls).items at_rest touches
+  pub saves : SaveLeaves d (result.order).items (result.report).not_saved (moment_after told.since told.events) touches at_rest result.disk
   -- the last moment before the first command, whatever an honest disk holds: that of the saved book
   pub since_is : d.honest disk → told.since ≡ (saved_book (d.content opened)).moment
   -- on an honest disk that stands for any list of snapshots, beside an honest remote that stands for any list, where there is one, or that no act
   -- reads; and where no two unequal pieces have one digest of those in the chunk files at opening and those that the sessions sent
   pub plain : (L : List Snapshot) (R : Option (List Snapshot)) → IsBeside e remote R told.events → d.honest disk → StandsFor (d.content disk) L → NoClash (chunk_pieces (d.content disk) ++ sent told.events)
       → IsPlain (opening_of d disk opened L) R told.since (d.calls result.disk) (d.honest result.disk) told.runs told.events
-      (result.order).items (result.report).not_saved reports (d.content disk) (d.content result.disk)
+      (result.order).items (result.report).not_saved reports (d.content disk) (d.content at_rest) (d.content result.disk)
   -- under the same premises, what a crash leaves from that moment of opening on, also as the book was saved
   pub stops : (L : List Snapshot) (R : Option (List Snapshot)) → IsBeside e remote R told.events → d.honest disk → StandsFor (d.content disk) L → NoClash (chunk_pieces (d.content disk) ++ sent told.events)
       → StopsLeave d ((was_opened.opens).start) result.disk R (opening_of d disk opened L) told.events
@@ -161,11 +150,8 @@ pub record HasServed {D E S K : Type 0} (d : Ghosts D) (e : Ghosts E) (source : 
   pub order : IsOrder (length old) (result.order).items ((result.report).calls).items (d.faults disk) (d.faults result.disk) (faults_of e remote) (faults_of e result.remote)
   pub save : SaveIsTold (result.order).items (result.report).not_saved (d.faults disk) (d.faults result.disk)
   pub faults : d.faults disk ≤ d.faults result.disk
-  -- the number beside the last entry is the disk's count as that act was answered, and nothing but the book came behind it
-  pub rests : SavesSince d (last_or (Some (d.calls opened)) ((result.report).calls).items) result.disk
-  -- whatever it holds, a disk is honest still where it was, and where no call of it failed and its book was saved, it has one of the last moment
+  -- whatever it holds, a disk is honest still where it was
   pub kept : d.honest disk ↔ d.honest result.disk
-  pub saved : d.honest disk → has_kind 5 (result.order).items ≡ false → (result.report).not_saved ≡ None → HasBookOf (d.content result.disk) (moment_after told.since told.events)
   pub not_opened : (result.report).not_opened ≡ None
 
 -- Where the run did not come to open the datastore, the disk was not called; else by why it was not opened.

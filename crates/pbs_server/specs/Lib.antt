@@ -1,9 +1,10 @@
 pub mod Words
 pub mod Statuses
 pub mod Saving
+pub mod ActByAct
+pub mod AtRest
 pub mod Causes
 pub mod Checking
-pub mod Collections
 pub mod Headline
 pub mod Journal
 pub mod Ended

@@ -3,6 +3,7 @@ use Rattle.disk_trait.specs.declared.disk.Disk.{Ghosts}
 use Rattle.disk_trait.specs.declared.disk.DiskError.{DiskError}
 use Rattle.disk_trait.specs.declared.disk.DiskError.TheVariants.{Failed}
 use Rattle.disk_trait.specs.Disk.{Serves}
+use Rattle.disk_trait.specs.Effects.{DiskWantKeeps}
 use Rattle.std.specs.Prelude.{◌≡◌, ◌≢◌, ◌≤◌, ℕ, List, Option, None, Some, Result, Ok, Err, IfSome, OnOk}
 use Rattle.std.specs.FinMap.{get}
 use Rattle.core_state.specs.declared.state.Core.{Core}
@@ -23,6 +24,7 @@ pub record EndsSaved {D E C : Type 0} (d : Ghosts D) (old new : Core D E C) (not
   pub later : d.calls (old.parts).disk ≤ d.calls (new.parts).disk
   -- the book was installed: a crash leaves the one that was there before, or this one
   pub crash : LeavesBook d old new
+  pub wanting : DiskWantKeeps d (old.parts).disk (new.parts).disk (saving_of not_saved)
   pub saved : old.fault ≡ None → OnOk (saving_of not_saved) (HasSaved d old new)
   pub foreign : d.honest (old.parts).disk → not_saved ≢ Some Failed → (q : List ℕ) → IsForeign q
       → get (d.content (new.parts).disk) q ≡ get (d.content (old.parts).disk) q

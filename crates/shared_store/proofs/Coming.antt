@@ -20,8 +20,9 @@ use Rattle.store_history.specs.Answered.{fault_after, fault_in}
 use Rattle.core_state.specs.History.{History, event_of}
 use Rattle.core_state.specs.Records.{Reaches}
 use Rattle.core_state.proofs.Reaching.{reaches_first, reaches_more}
-use Rattle.shared_store.specs.Applied.{ActsOn, HasActed, HasApplied}
-use Rattle.shared_store.specs.Comes.{AreAnswered, ComesTo, IsFresh, SameCore, last_calls, with_events}
+use Rattle.shared_store.specs.Acted.{ActsOn, HasActed}
+use Rattle.shared_store.specs.Applied.{HasApplied}
+use Rattle.shared_store.specs.Comes.{AreAnswered, ComesTo, IsFresh, SameCore, WasDone, WereDone, last_calls, with_events}
 use Rattle.shared_store.proofs.Reserving.{reserved_reaches}
 
 no_events : (h : History) → h.events ≡ [] → with_events h [] ≡ h
@@ -39,6 +40,48 @@ calls_last : (calls : ℕ) (es : List Event) (v : Event) → last_calls calls (e
 calls_last calls [] v = refl
 calls_last calls (e ∷ es) v = calls_last e.calls es v
 
+-- ---- act by act
+
+same_core : {D E C : Type 0} (core : Core D E C) → SameCore core core
+same_core core = record {
+  parts = refl;
+  remote = refl;
+  clock = refl;
+  entries = record { entries = refl; calls = refl };
+  upkeep = refl;
+  collector = refl;
+  last = refl;
+  fault = refl;
+}
+
+same_then : {D E C : Type 0} (a b c : Core D E C) → SameCore a b → SameCore b c → SameCore a c
+same_then a b c first later = record {
+  parts = later.parts ∙ first.parts;
+  remote = later.remote ∙ first.remote;
+  clock = later.clock ∙ first.clock;
+  entries = record { entries = (later.entries).entries ∙ (first.entries).entries; calls = (later.entries).calls ∙ (first.entries).calls };
+  upkeep = later.upkeep ∙ first.upkeep;
+  collector = later.collector ∙ first.collector;
+  last = later.last ∙ first.last;
+  fault = later.fault ∙ first.fault;
+}
+
+module _ {D E C : Type 0} (d : Ghosts D) (e : Ghosts E) (clock : clocks.Ghosts C) where
+  done_room : (first old new : Core D E C) (es : List Event) → SameCore old new → WereDone d e clock first es old → WereDone d e clock first es new
+  done_room first old new [] same done = same_then first old new done same
+  done_room first old new (v ∷ vs) same done = (done.0, done.1, done_room done.0 old new vs same done.2)
+
+  done_more : (first old new : Core D E C) (es : List Event) (v : Event) → WereDone d e clock first es old → WasDone d e clock old v new
+      → WereDone d e clock first (es ++ v ∷ []) new
+  done_more first old new [] v done one = (
+    new,
+    record { found = one.found; room = same_then first old one.found done one.room; lane = one.lane; applied = one.applied; calls_are = one.calls_are },
+    same_core new,
+  )
+  done_more first old new (w ∷ ws) v done one = (done.0, done.1, done_more done.0 old new ws v done.2 one)
+
+-- ---- the whole
+
 pub comes_first : {D E C : Type 0} (d : Ghosts D) (e : Ghosts E) (clock : clocks.Ghosts C) (is_first : Core D E C → Type 0) (core : Core D E C)
     → is_first core → IsFresh clock core → ComesTo d e clock is_first core []
 comes_first d e clock is_first core is fresh = record {
@@ -53,6 +96,7 @@ comes_first d e clock is_first core is fresh = record {
   kept = (λ h. h, λ h. h);
   count = omega arith;
   fault = λ some. absurd (none_some core.fault ((fresh.recorded).fault ∙ ap (λ es. fault_in 0 None es) fresh.none) some);
+  done = same_core core;
   at_rest = refl;
 }
 
@@ -100,6 +144,7 @@ comes_room {D} d e clock is_first old new es same c =
       kept = subst (λ (p : Parts D). d.honest (c.first.parts).disk ↔ d.honest p.disk) (sym same.parts) c.kept;
       count = let was = c.count in omega (arith, was, disk);
       fault = λ some. subst (λ n. Rose (d.faults (c.first.parts).disk) n) (sym disk) (c.fault (subst IsSome same.fault some));
+      done = done_room d e clock c.first old new es same c.done;
       at_rest = ap (λ (p : Parts D). d.calls p.disk) same.parts ∙ c.at_rest;
     }
 
@@ -121,6 +166,7 @@ comes_act d e clock is_first old new es lane act answer lt below x c =
       kept = (λ h. (is.kept).0 ((c.kept).0 h), λ h. (c.kept).1 ((is.kept).1 h));
       count = let was = c.count in let on = is.count in omega (arith, was, on);
       fault = rises d old new lane answer (d.faults (c.first.parts).disk) is c.count c.fault;
+      done = done_more d e clock c.first old new es v c.done (record { found = old; room = same_core old; lane = lane; applied = x; calls_are = refl });
       at_rest = sym (calls_last (d.calls (c.first.parts).disk) es v);
     }
 

@@ -1,22 +1,18 @@
--- What the dispatch promises of one act on a core, and what the turn promises of one act on the core behind it.
+-- What the dispatch promises of one act on a core.
 use Rattle.disk_trait.specs.declared.disk.Disk.{Ghosts}
-use Rattle.std.specs.Prelude.{ℕ, ◌≡◌, true, false, List, [], ◌∷◌, ◌++◌}
-use mathlib.Core.List.{IsPrefix}
+use Rattle.std.specs.Prelude.{ℕ, ◌≡◌, true, false}
 use Rattle.port_traits.specs.declared.clock.Clock as clocks
 use Rattle.store_types.specs.declared.order.TheConstants.{MEMORY_KIND}
 use Rattle.store_history.specs.declared.act.Act.{Act}
 use Rattle.store_history.specs.declared.act.Act.TheVariants.{Short}
 use Rattle.store_history.specs.declared.act.Answer.{Answer}
-use Rattle.store_history.specs.declared.act.Event.{Event}
 use Rattle.core_state.specs.declared.state.Core.{Core}
 use Rattle.core_state.specs.Applies.{ActApplies, ActKeeps, CoreApplies}
 use Rattle.core_state.specs.Commands.{is_collectors}
 use Rattle.store_history.specs.RemoteDisk.{is_remotes, reads_remote}
-use Rattle.core_state.specs.History.{event_of}
 use Rattle.core_state.specs.Tells.{CoreTells}
 use Rattle.core_remote.specs.RemoteActs.{RemoteGives, RemoteTells}
 use Rattle.core_collect.specs.Acts.{CoreAnswersBy}
-use Rattle.shared_store.specs.Comes.{ComesTo}
 use Rattle.shared_store.specs.Words.{words_of}
 
 pub record HasApplied {D E C : Type 0} (d : Ghosts D) (e : Ghosts E) (clock : clocks.Ghosts C) (old new : Core D E C) (lane : ℕ) (act : Act) (answer : Answer) : Type 0 where
@@ -36,19 +32,3 @@ pub record HasApplied {D E C : Type 0} (d : Ghosts D) (e : Ghosts E) (clock : cl
   -- on any remote: what refuses the read; and of an honest one, whatever it holds, what it gives
   pub by_remote : is_remotes act ≡ true → RemoteTells old new lane act answer × RemoteGives e old act answer
   pub short : act ≡ Short → (answer.entry).kind ≡ MEMORY_KIND
-
--- One act behind the turn: it found a core that had come to this history, and left it one that has come to that with the act's event more.
-pub record HasActed {D E C : Type 0} (d : Ghosts D) (e : Ghosts E) (clock : clocks.Ghosts C) (is_first : Core D E C → Type 0) (left : Core D E C) (before : List Event) (lane : ℕ) (act : Act) (answer : Answer) : Type 0 where
-  pub found : Core D E C
-  pub came : ComesTo d e clock is_first found before
-  pub applied : HasApplied d e clock found left lane act answer
-  pub comes : ComesTo d e clock is_first left (before ++ event_of act answer (d.calls (left.parts).disk) ∷ [])
-
--- One act of a seat: the history that it found behind the turn begins with all that the seat had seen, and what the seat has seen now ends with
--- the act, as it was answered at the disk's count of calls.
-pub record ActsOn {D E C : Type 0} (d : Ghosts D) (e : Ghosts E) (clock : clocks.Ghosts C) (is_first : Core D E C → Type 0) (lane : ℕ) (act : Act) (answer : Answer) (old now : List Event) : Type 0 where
-  pub before : List Event
-  pub seen : IsPrefix old before
-  pub left : Core D E C
-  pub acted : HasActed d e clock is_first left before lane act answer
-  pub ends : now ≡ before ++ event_of act answer (d.calls (left.parts).disk) ∷ []

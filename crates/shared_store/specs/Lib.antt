@@ -1,4 +1,5 @@
 pub mod Words
-pub mod Comes
 pub mod Applied
+pub mod Comes
+pub mod Acted
 pub mod Views

@@ -12,7 +12,8 @@ ghost use Rattle.core_state.specs.History.{event_of};
 ghost use Rattle.core_state.specs.Reserved.{HasRoom};
 ghost use Rattle.listing_views.specs.Listings.{rows};
 ghost use Rattle.listing_views.specs.Rows.{all_rows};
-ghost use Rattle.shared_store.specs.Applied.{HasActed, HasApplied};
+ghost use Rattle.shared_store.specs.Acted.{HasActed};
+ghost use Rattle.shared_store.specs.Applied.{HasApplied};
 ghost use Rattle.shared_store.specs.Comes.{ComesTo, IsFresh, SameCore, StandsFor};
 ghost use Rattle.shared_store.specs.Views.{IsActedOn, IsNoteOf, posted, rows_of};
 

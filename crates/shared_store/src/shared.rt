@@ -10,7 +10,7 @@ ghost use Rattle.store_history.specs.Acts.{IsWellFormed};
 ghost use Rattle.core_state.specs.declared.state.Core.{Core};
 ghost use Rattle.core_state.specs.Answers.{IsTold};
 ghost use Rattle.seat_history.specs.Entered.{HasEntered, OwnRises};
-ghost use Rattle.shared_store.specs.Applied.{ActsOn};
+ghost use Rattle.shared_store.specs.Acted.{ActsOn};
 ghost use Rattle.shared_store.specs.Comes.{AreAnswered, CanAct, ComesTo, HasCome, IsFresh};
 
 use crate::board::make_board;

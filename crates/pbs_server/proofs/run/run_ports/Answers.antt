@@ -1,5 +1,6 @@
 use Rattle.std.proofs.Common.{◌≡◌, ◌≤◌, ◌++◌, [], None, false, length, refl, ap, sym, subst, ◌∙◌, arith}
 use Rattle.core_state.specs.History.{began}
+use Rattle.core_state.specs.Upkeeps.{touches_kept}
 use Rattle.store_history.specs.RemoteDisk.{RemoteStays, faults_of}
 use Rattle.lane.specs.Entries.{has_kind}
 use Rattle.lane.specs.Served.{RanAs}
@@ -10,7 +11,7 @@ use Rattle.pbs_server.proofs.Causes.{caused, save_told}
 use Rattle.pbs_server.proofs.Generated.{ended_of, unheld}
 use Rattle.pbs_server.proofs.Leaving.{memory_asks, opening_asks, unopened, unturned}
 use Rattle.pbs_server.proofs.Remotes.{rose_by}
-use Rattle.pbs_server.proofs.Running.{count, kept, memory, opened_fresh, order_is, reached, rests}
+use Rattle.pbs_server.proofs.Running.{count, kept, memory, opened_fresh, order_is, reached, rests, saves}
 use Rattle.pbs_server.proofs.Woven.{has_both, opening_at}
 use Rattle.pbs_server.proofs.run.run_ports.Goals as goal
 
@@ -60,21 +61,27 @@ returns-in-Ok-serve_all-clause-ended g c =
     let h = began o None (readings c.args.clock) in
     let begun = opened.records o None refl in
     let now = reached d e g.C.Clock s k first core old new reports on h begun refl in
-    let honest = kept d e g.C.Clock s k first core old new reports on h begun refl in
-    let counted = count d e g.C.Clock s k first core old new reports on h begun refl in
     let ends = c.save-not_saved.ensures in
+    let honest = kept d e g.C.Clock s k first core old new reports on h begun refl in
+    let entries_are : (saved.journal).entries.items ≡ (core.journal).entries.items = ap (λ x. (x.journal).entries.items) ends.rest in
+    let calls_are : (saved.journal).calls.items ≡ (core.journal).calls.items = ap (λ x. (x.journal).calls.items) ends.rest in
+    let counted = count d e g.C.Clock s k first core old new reports on h begun refl in
     let given : lanes.items ≡ reports = c.push_all.ensures ∙ ap (λ xs. xs ++ c.as_slice.result.now) c.in-Ok.ensures.items ∙ c.as_slice.ensures.value in
     let status : left.status ≡ first_of (run_facts (left.order).items (endings_of reports) not_saved false) =
     ap (λ xs. first_of (run_facts (left.order).items (endings_of xs) not_saved false)) given in
+    let rested = rests d e g.C.Clock s k first core old new reports on h begun refl (left.order).items ((left.report).calls).items entries_are calls_are (opened.begun).fault
+    (λ x. opened.book ((opened.serves).kept.1 x)) in
+    let saving = saves d e g.C.Clock s k first core old new reports on h begun refl saved (left.order).items not_saved entries_are ends in
     let both = has_both d e s k readings c.args.clock disk c.args.remote first core saved old new (left.order).items ((left.report).calls).items not_saved reports on.runs on.events left.disk
+    (touches_kept core.upkeep) rested saving
     (g.met.D.Disk g.world.𝓛 g.world.𝓜 g.world.𝓡 ((λ s x. x), (λ x. x), (λ x. x), λ x. x)).told (opened.handed).0 opened.opened opened.touches opened.recovers (opened.begun).last opened.book opened.cleaned
-    now on.lanes on.each ends (λ h. honest.0 ((opened.serves).kept.0 h)) (rests d e g.C.Clock s k first core old new reports on h begun refl) refl refl refl in
+    now on.lanes on.each ends refl refl refl in
     let order = order_is d e g.C.Clock s k first core old new reports on h begun refl (saved.parts).disk (left.order).items ((left.report).calls).items disk left.disk c.args.remote left.remote (opened.handed).0
     (ap (λ x. x.remote) ends.rest)
-    (ap (λ x. (x.journal).entries.items) ends.rest) (ap (λ x. (x.journal).calls.items) ends.rest) (opened.serves).count (ends.serves).count refl in
+    entries_are calls_are (opened.serves).count (ends.serves).count refl in
     let count_before : d.faults disk ≤ d.faults (core.parts).disk = let a = (opened.serves).count in omega (arith, a, counted) in
     let save = save_told (left.order).items not_saved (d.faults disk) (d.faults (core.parts).disk) (d.faults (saved.parts).disk) (d.faults left.disk)
-    both.halted count_before (ends.serves).cause refl in
+    (λ five. (saving.halted five).1) count_before (ends.serves).cause refl in
     let wants = memory d e g.C.Clock s k first core old new reports on h begun refl in
     let some = (each_counts (RanAs s k) 0 old new reports on.runs on.events on.each).0 in
     ended_of d e s k (readings c.args.clock) disk c.args.remote old new (record { core = saved; lanes = lanes; not_saved = not_saved }) reports given
@@ -82,22 +89,24 @@ returns-in-Ok-serve_all-clause-ended g c =
     (record {
       told = both.told;
       opened = (first.parts).disk;
-      was_opened = record { opens = (opened.recovers).opens; cleaned = opened.cleaned };
+      was_opened = record { serves = opened.serves; opens = (opened.recovers).opens; cleaned = opened.cleaned };
+      at_rest = (core.parts).disk;
+      touches = touches_kept core.upkeep;
+      rests = both.rests;
+      saves = both.saves;
       since_is = both.since_is;
       plain = both.plain;
       stops = both.stops;
       status = status;
       why = caused s k left.status (left.order).items not_saved false old new reports (both.told).runs (both.told).events status (both.told).each _ _ _ _ order.faults save.faults
           (rose_by (left.order).items (faults_of e c.args.remote) (faults_of e left.remote) order.reads)
-          (λ is. ap (has_kind 2) (ap (λ x. (x.journal).entries.items) ends.rest ∙ (now.records).entries) ∙ wants is);
+          (λ is. ap (has_kind 2) (entries_are ∙ (now.records).entries) ∙ wants is);
       stays = subst (λ r. RemoteStays e c.args.remote r) (sym (ap (λ x. x.remote) ends.rest)) (subst (λ r. RemoteStays e r core.remote) (opened.handed).0 (now.remote).stays);
       unread = λ none. ap (λ x. x.remote) ends.rest ∙ both.unread none;
       order = order;
       save = save;
       faults = let a = (opened.serves).count in let n = (ends.serves).count in omega (arith, a, n, counted);
-      rests = both.rests;
       kept = (λ x. (ends.serves).kept.0 (honest.0 ((opened.serves).kept.0 x)), λ x. (opened.serves).kept.1 (honest.1 ((ends.serves).kept.1 x)));
-      saved = both.saved;
       not_opened = refl;
     })
     (λ L R beside honest stands clear. both.rows L R beside honest stands clear (both.plain L R beside honest stands clear))

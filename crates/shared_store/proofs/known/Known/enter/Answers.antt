@@ -7,7 +7,7 @@ use Rattle.store_history.specs.declared.act.Event.{Event}
 use Rattle.core_state.specs.History.{event_of}
 use Rattle.listing_views.specs.Listings.{rows}
 use Rattle.listing_views.specs.Rows.{all_rows}
-use Rattle.shared_store.specs.Applied.{HasActed}
+use Rattle.shared_store.specs.Acted.{HasActed}
 use Rattle.shared_store.specs.Comes.{CameTo, StandsFor}
 use Rattle.shared_store.specs.Views.{rows_of}
 use Rattle.shared_store.proofs.Coming.{comes_more}

@@ -6,7 +6,7 @@ use Rattle.turn_lock.specs.State.{SeatState}
 use Rattle.store_history.specs.declared.act.Event.{Event}
 use Rattle.core_state.specs.History.{event_of}
 use Rattle.listing_views.specs.Listings.{rows}
-use Rattle.shared_store.specs.Applied.{ActsOn}
+use Rattle.shared_store.specs.Acted.{ActsOn}
 use Rattle.shared_store.specs.Comes.{AreAnswered, ComesTo, StandsFor}
 use Rattle.shared_store.specs.Views.{IsNoteOf}
 use Rattle.shared_store.proofs.Coming.{acts_on, came_to, comes_answered}
