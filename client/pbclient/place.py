@@ -227,10 +227,11 @@ class Place:
         return user_number(member.user, member.uid), group_number(member.group, member.gid)
 
     def set_rights(self, file, member):
-        """Owner, attributes, mode and times of an open file or folder. (A new owner takes capabilities away, so it comes first.)"""
+        """Owner, attributes, mode and times of an open file or folder. (A new owner takes capabilities away, so it comes first; an ACL may take
+        the right to set attributes away, so it is the last of them.)"""
         if self.owners:
             os.chown(file, *self.owner_of(member))
-        for name, value in member.xattrs:
+        for name, value in sorted(member.xattrs, key=lambda it: it[0].startswith("system.")):
             self.set_xattr(file, member, name, value)
         # (a program that is to run as its owner is not to run as another)
         os.chmod(file, member.mode if self.owners or stat.S_ISDIR(os.fstat(file).st_mode) else member.mode & ~SET_IDS)

@@ -114,6 +114,9 @@ class Tree:
             if stat.S_ISREG(status.st_mode) or stat.S_ISDIR(status.st_mode):
                 self.set_xattrs(path, stat.S_ISREG(status.st_mode))
             bits = self.chance.choice([0o644, 0o600, 0o755, 0o4755, 0o2750, 0o1777, 0o444, 0o700])
+            if not IS_ROOT and not stat.S_ISDIR(status.st_mode):
+                # (which a restore sets for root alone)
+                bits &= 0o1777
             os.chmod(path, bits | (0o700 if stat.S_ISDIR(status.st_mode) else 0o400))
         moment = self.chance.choice([*MOMENTS, self.chance.randrange(10**18, 2 * 10**18)])
         os.utime(path, ns=(moment, moment), follow_symlinks=False)
@@ -131,6 +134,8 @@ class Tree:
         for _ in range(count):
             path = self.chance.choice(list(self.paths()))
             status = os.lstat(path)
+            if stat.S_ISREG(status.st_mode) and not os.access(path, os.W_OK):
+                os.chmod(path, 0o644)
             what = self.chance.randrange(6)
             if path == self.top or what == 0:
                 self.add()
