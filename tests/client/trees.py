@@ -112,6 +112,9 @@ class Tree:
             os.chown(path, self.chance.choice([0, 33, 1000, 3_000_000]), self.chance.choice([0, 33, 3_000_000]), follow_symlinks=False)
         if not stat.S_ISLNK(status.st_mode):
             if stat.S_ISREG(status.st_mode) or stat.S_ISDIR(status.st_mode):
+                if not os.access(path, os.W_OK):
+                    # (a second name of a file that may not be written any more)
+                    os.chmod(path, 0o700)
                 self.set_xattrs(path, stat.S_ISREG(status.st_mode))
             bits = self.chance.choice([0o644, 0o600, 0o755, 0o4755, 0o2750, 0o1777, 0o444, 0o700])
             if not IS_ROOT and not stat.S_ISDIR(status.st_mode):
